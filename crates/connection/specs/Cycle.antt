@@ -1,0 +1,91 @@
+-- The cycle of a connection, one rule for the end that sends and the end that receives. The table of document 01, 'The cycle',
+-- is `inState` (which state and record allow a kind of packet) and `after` (the connection then), a row a line.
+-- A record may hold anything in what does not count: nothing here looks at it, and nothing of it is left after a move.
+-- Assumes nothing.
+use mathlib.Core.Bool.{Bool, true, false, not}
+use Prim.Native.Nat.{ℕ, _-_, min}
+use lib.Dec.{ltb, eqb}
+use Rattle.wire.specs.Pick.{pick, both, between}
+use Rattle.wire.specs.Refusal.{notNow, sizeWrong}
+use Rattle.wire.specs.declared.Direction.{Direction}
+use Rattle.connection.specs.declared.State.{State}
+use Rattle.connection.specs.declared.Connection.{Connection}
+use Rattle.connection.specs.declared.Kind.{Kind}
+use Rattle.connection.specs.declared.Move.{Move}
+use Rattle.connection.specs.declared.Step.{Step}
+use Rattle.connection.specs.Connection.{maxBody, isIdle, isPinged, isBusy, bare, busy, bodyDue}
+
+-- the kind of packet that makes a move
+abbrev pub kindOf : Move → Kind
+kindOf Move.CPing = Kind.CPing
+kindOf Move.CPong = Kind.CPong
+kindOf (Move.Forward n) = Kind.Forward
+kindOf (Move.Body k) = Kind.Body
+kindOf (Move.GetBody r) = Kind.GetBody
+kindOf Move.SendHeaders = Kind.SendHeaders
+kindOf (Move.BodyChunk k) = Kind.BodyChunk
+kindOf (Move.End reuse) = Kind.End
+
+-- which way a kind of packet goes
+abbrev pub directionOf : Kind → Direction
+directionOf Kind.CPing = Direction.ToContainer
+directionOf Kind.CPong = Direction.ToServer
+directionOf Kind.Forward = Direction.ToContainer
+directionOf Kind.Body = Direction.ToContainer
+directionOf Kind.GetBody = Direction.ToServer
+directionOf Kind.SendHeaders = Direction.ToServer
+directionOf Kind.BodyChunk = Direction.ToServer
+directionOf Kind.End = Direction.ToServer
+
+-- whether a connection allows a kind of packet, else 13
+abbrev pub inState : Connection → Kind → Bool
+inState c Kind.CPing = isIdle (c .state)
+inState c Kind.CPong = isPinged (c .state)
+inState c Kind.Forward = isIdle (c .state)
+inState c Kind.Body = bodyDue c
+inState c Kind.GetBody = both (isBusy (c .state)) (not (c .due))
+inState c Kind.SendHeaders = both (isBusy (c .state)) (not (c .headers))
+inState c Kind.BodyChunk = both (isBusy (c .state)) (c .headers)
+inState c Kind.End = both (isBusy (c .state)) (both (c .headers) (not (c .due)))
+
+-- the most bytes that the next body packet may hold: the least of asked, 8186 and left; none where no body packet is due.
+-- This is document 01's c.
+unfoldable pub largestBody : Connection → ℕ
+largestBody c = pick (bodyDue c) (min (c .asked) (min maxBody (c .left .0))) 0
+
+-- a body packet of k bytes where at most `most` may come: empty where that is none, else 1 to that many
+abbrev pub sizeAllowed : ℕ → ℕ → Bool
+sizeAllowed most k = pick (eqb most 0) (eqb k 0) (between 1 most k)
+
+-- whether a connection allows a packet of this size, else 14
+abbrev pub inSize : Connection → Move → Bool
+inSize c Move.CPing = true
+inSize c Move.CPong = true
+inSize c (Move.Forward n) = true
+inSize c (Move.Body k) = sizeAllowed (largestBody c) k
+inSize c (Move.GetBody r) = true
+inSize c Move.SendHeaders = true
+inSize c (Move.BodyChunk k) = true
+inSize c (Move.End reuse) = true
+
+-- whether a connection allows a move
+abbrev pub allowed : Connection → Move → Bool
+allowed c m = both (inState c (kindOf m)) (inSize c m)
+
+-- the connection after a move that is allowed
+abbrev pub after : Connection → Move → Connection
+after c Move.CPing = bare State.Pinged
+after c Move.CPong = bare State.Idle
+after c (Move.Forward n) = busy (n .0) (ltb 0 (n .0)) maxBody false
+after c (Move.Body k) = busy (c .left .0 - k) false 0 (c .headers)
+after c (Move.GetBody r) = busy (c .left .0) true r (c .headers)
+after c Move.SendHeaders = busy (c .left .0) (c .due) (c .asked) true
+after c (Move.BodyChunk k) = busy (c .left .0) (c .due) (c .asked) (c .headers)
+after c (Move.End reuse) = bare (pick reuse State.Idle State.Closed)
+
+-- a move: refused with its number, or the connection after it
+unfoldable pub stepOf : Connection → Move → Step
+stepOf c m =
+    pick (inState c (kindOf m))
+    (pick (inSize c m) (Step.Next (after c m)) (Step.Refused sizeWrong))
+    (Step.Refused notNow)

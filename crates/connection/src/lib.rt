@@ -1,0 +1,354 @@
+// One end's connection, and the cycle that every packet steps it through. It does not know which end holds it.
+// This crate alone makes a connection record or takes one apart. No call has a condition: any record gets an answer.
+ghost use mathlib.Core.Path.{_≡_};
+ghost use Rattle.connection.specs.Connection.{fresh, fields, bare, busy, isIdle, isPinged, isBusy, bodyDue};
+ghost use Rattle.connection.specs.Cycle.{kindOf, directionOf, inState, largestBody, sizeAllowed, inSize, after, stepOf};
+ghost use Prim.Native.Nat.{_-_};
+ghost use Rattle.wire.specs.Pick.{pick};
+use wire::Direction;
+
+// Where a connection stands.
+pub enum State {
+    Idle,
+    Pinged,
+    Busy,
+    Closed,
+}
+
+// Bytes of a request's body that are still left. No place in a packet can be passed for it.
+pub struct BodyLeft(pub u32);
+
+// A place in a packet, counted from its first byte. No number of body bytes can be passed for it.
+pub struct Place(pub u16);
+
+// A connection. All but the state counts only in Busy, and asked only where a body packet is due.
+pub struct Connection {
+    state: State,
+    left: BodyLeft,
+    due: bool,
+    asked: u16,
+    headers: bool,
+}
+
+// The kinds of packet.
+pub enum Kind {
+    CPing,
+    CPong,
+    Forward,
+    Body,
+    GetBody,
+    SendHeaders,
+    BodyChunk,
+    End,
+}
+
+// A packet, as far as the cycle goes: what was declared, how many bytes, how many asked for, whether the connection is kept.
+pub enum Move {
+    CPing,
+    CPong,
+    Forward(BodyLeft),
+    Body(usize),
+    GetBody(u16),
+    SendHeaders,
+    BodyChunk(usize),
+    End(bool),
+}
+
+// What a move makes of a connection.
+pub enum Step {
+    Refused(u8),
+    Next(Connection),
+}
+
+impl Place {
+    // The place as an index.
+    pub fn index(self) -> usize
+        ensures { λ r. ⌜ r ≡ self .0 ⌝ }
+    {
+        self.0 as usize
+    }
+}
+
+impl State {
+    fn is_idle(self) -> bool
+        ensures { λ r. ⌜ r ≡ isIdle self ⌝ }
+    {
+        match self {
+            State::Idle => true,
+            State::Pinged => false,
+            State::Busy => false,
+            State::Closed => false,
+        }
+    }
+
+    fn is_pinged(self) -> bool
+        ensures { λ r. ⌜ r ≡ isPinged self ⌝ }
+    {
+        match self {
+            State::Idle => false,
+            State::Pinged => true,
+            State::Busy => false,
+            State::Closed => false,
+        }
+    }
+
+    fn is_busy(self) -> bool
+        ensures { λ r. ⌜ r ≡ isBusy self ⌝ }
+    {
+        match self {
+            State::Idle => false,
+            State::Pinged => false,
+            State::Busy => true,
+            State::Closed => false,
+        }
+    }
+}
+
+impl Kind {
+    // Which way a kind of packet goes.
+    pub fn direction(self) -> Direction
+        ensures { λ r. ⌜ r ≡ directionOf self ⌝ }
+    {
+        match self {
+            Kind::CPing => Direction::ToContainer,
+            Kind::CPong => Direction::ToServer,
+            Kind::Forward => Direction::ToContainer,
+            Kind::Body => Direction::ToContainer,
+            Kind::GetBody => Direction::ToServer,
+            Kind::SendHeaders => Direction::ToServer,
+            Kind::BodyChunk => Direction::ToServer,
+            Kind::End => Direction::ToServer,
+        }
+    }
+}
+
+impl Move {
+    // The kind of packet that makes a move.
+    pub fn kind(self) -> Kind
+        ensures { λ r. ⌜ r ≡ kindOf self ⌝ }
+    {
+        match self {
+            Move::CPing => Kind::CPing,
+            Move::CPong => Kind::CPong,
+            Move::Forward(_) => Kind::Forward,
+            Move::Body(_) => Kind::Body,
+            Move::GetBody(_) => Kind::GetBody,
+            Move::SendHeaders => Kind::SendHeaders,
+            Move::BodyChunk(_) => Kind::BodyChunk,
+            Move::End(_) => Kind::End,
+        }
+    }
+}
+
+impl Connection {
+    // The most bytes of a packet, of its payload, and of the body in a body packet.
+    pub const MAX_PACKET: usize = 8192;
+    pub const MAX_PAYLOAD: usize = 8188;
+    pub const MAX_BODY: u16 = 8186;
+
+    // A fresh connection is Idle, whichever end holds it.
+    pub fn fresh() -> Connection
+        ensures { λ r. ⌜ r ≡ fresh ⌝ }
+    {
+        Self::bare(State::Idle)
+    }
+
+    // A connection with these fields as they stand, whether they count or not.
+    pub fn with_fields(state: State, left: BodyLeft, due: bool, asked: u16, headers: bool) -> Connection
+        ensures { λ r. ⌜ r ≡ fields state (left .0) due asked headers ⌝ }
+    {
+        Connection {
+            state,
+            left,
+            due,
+            asked,
+            headers,
+        }
+    }
+
+    pub fn state(self) -> State
+        ensures { λ r. ⌜ r ≡ self .state ⌝ }
+    {
+        self.state
+    }
+
+    // Bytes of body still left.
+    pub fn left(self) -> BodyLeft
+        ensures { λ r. ⌜ r ≡ self .left ⌝ }
+    {
+        self.left
+    }
+
+    // Whether the record says that a body packet is due; in Busy alone it counts.
+    pub fn due(self) -> bool
+        ensures { λ r. ⌜ r ≡ self .due ⌝ }
+    {
+        self.due
+    }
+
+    // How many bytes of body were asked for.
+    pub fn asked(self) -> u16
+        ensures { λ r. ⌜ r ≡ self .asked ⌝ }
+    {
+        self.asked
+    }
+
+    // Whether the record says that the response's headers were sent; in Busy alone it counts.
+    pub fn headers(self) -> bool
+        ensures { λ r. ⌜ r ≡ self .headers ⌝ }
+    {
+        self.headers
+    }
+
+    // A connection of which only the state counts.
+    fn bare(state: State) -> Connection
+        ensures { λ r. ⌜ r ≡ bare state ⌝ }
+    {
+        Connection {
+            state,
+            left: BodyLeft(0),
+            due: false,
+            asked: 0,
+            headers: false,
+        }
+    }
+
+    // A connection in Busy; what was asked is kept only where a body packet is due.
+    fn busy(left: BodyLeft, due: bool, asked: u16, headers: bool) -> Connection
+        ensures { λ r. ⌜ r ≡ busy (left .0) due asked headers ⌝ }
+    {
+        if due {
+            return Self::with_fields(State::Busy, left, true, asked, headers);
+        }
+        Self::with_fields(State::Busy, left, false, 0, headers)
+    }
+
+    // Whether a body packet is due: the container's end reads the next packet as one exactly then.
+    pub fn is_body_due(self) -> bool
+        ensures { λ r. ⌜ r ≡ bodyDue self ⌝ }
+    {
+        let state = self.state;
+        if !state.is_busy() {
+            return false;
+        }
+        self.due
+    }
+
+    // Whether a kind of packet is allowed now, else it is refused with 13.
+    pub fn allows(self, kind: Kind) -> bool
+        ensures { λ r. ⌜ r ≡ inState self kind ⌝ }
+    {
+        let state = self.state;
+        match kind {
+            Kind::CPing => state.is_idle(),
+            Kind::CPong => state.is_pinged(),
+            Kind::Forward => state.is_idle(),
+            Kind::Body => self.is_body_due(),
+            Kind::GetBody => state.is_busy() && !self.due,
+            Kind::SendHeaders => state.is_busy() && !self.headers,
+            Kind::BodyChunk => state.is_busy() && self.headers,
+            Kind::End => state.is_busy() && (self.headers && !self.due),
+        }
+    }
+
+    // The most bytes that the next body packet may hold: the least of asked, 8186 and left, 0 where none is due.
+    pub fn largest_body(self) -> u16
+        ensures { λ r. ⌜ r ≡ largestBody self ⌝ }
+    {
+        if !self.is_body_due() {
+            return 0;
+        }
+        let left = self.left;
+        let mut most = self.asked;
+        if Self::MAX_BODY < most {
+            most = Self::MAX_BODY;
+        }
+        if left.0 < most as u32 {
+            most = left.0 as u16;
+        }
+        most
+    }
+
+    // Whether a move's size is allowed, else it is refused with 14.
+    fn allows_size(self, m: Move) -> bool
+        ensures { λ r. ⌜ r ≡ inSize self m ⌝ }
+    {
+        match m {
+            Move::CPing => true,
+            Move::CPong => true,
+            Move::Forward(_) => true,
+            Move::Body(k) => is_size_allowed(self.largest_body(), k),
+            Move::GetBody(_) => true,
+            Move::SendHeaders => true,
+            Move::BodyChunk(_) => true,
+            Move::End(_) => true,
+        }
+    }
+
+    // The connection after a move, by the rows of the cycle.
+    fn after(self, m: Move) -> Connection
+        ensures { λ r. ⌜ r ≡ after self m ⌝ }
+    {
+        let left = self.left;
+        match m {
+            Move::CPing => Self::bare(State::Pinged),
+            Move::CPong => Self::bare(State::Idle),
+            Move::Forward(n) => Self::busy(n, 0 < n.0, Self::MAX_BODY, false),
+            Move::Body(k) => Self::busy(left.less(k), false, 0, self.headers),
+            Move::GetBody(r) => Self::busy(left, true, r, self.headers),
+            Move::SendHeaders => Self::busy(left, self.due, self.asked, true),
+            Move::BodyChunk(_) => Self::busy(left, self.due, self.asked, self.headers),
+            Move::End(reuse) => Self::ended(reuse),
+        }
+    }
+
+    // The connection after a request's end: Idle where it is used again, else Closed.
+    fn ended(reuse: bool) -> Connection
+        ensures { λ r. ⌜ r ≡ bare (pick reuse State.Idle State.Closed) ⌝ }
+    {
+        if reuse {
+            return Self::bare(State::Idle);
+        }
+        Self::bare(State::Closed)
+    }
+
+    // A move: refused with 13 or 14, or the connection after it. Sending and accepting both step so.
+    pub fn step(self, m: Move) -> Step
+        ensures { λ r. ⌜ r ≡ stepOf self m ⌝ }
+    {
+        if !self.allows(m.kind()) {
+            return Step::Refused(wire::refusal::NOT_NOW);
+        }
+        if !self.allows_size(m) {
+            return Step::Refused(wire::refusal::SIZE_WRONG);
+        }
+        Step::Next(self.after(m))
+    }
+}
+
+impl BodyLeft {
+    // What is left when k bytes have come, 0 where that is more than there was.
+    fn less(self, k: usize) -> BodyLeft
+        ensures { λ r. ⌜ r .0 ≡ self .0 - k ⌝ }
+    {
+        let left = self.0 as usize;
+        if left < k {
+            return BodyLeft(0);
+        }
+        BodyLeft((left - k) as u32)
+    }
+}
+
+// Whether a body packet of k bytes is allowed where at most `most` may come: empty where that is none, else 1 to that many.
+fn is_size_allowed(most: u16, k: usize) -> bool
+    ensures { λ r. ⌜ r ≡ sizeAllowed most k ⌝ }
+{
+    let m = most as usize;
+    if m == 0 {
+        return k == 0;
+    }
+    if k < 1 {
+        return false;
+    }
+    k <= m
+}

@@ -1,0 +1,44 @@
+-- The declared length of a request's body: the value of content-length.
+-- Document 01, 'Server to container': at most once; 1 to 10 decimal digits, at most 4294967295; absent means 0; else 10.
+-- Assumes nothing.
+use mathlib.Core.Bool.{Bool}
+use mathlib.Core.List.{List, [], _∷_}
+use Prim.Native.Nat.{ℕ, _+_, _-_, _*_}
+use lib.Dec.{leb}
+use lib.ListN.{length}
+use Rattle.wire.specs.Pick.{pick, between}
+use Rattle.wire.specs.Refusal.{lengthWrong}
+use Rattle.names.specs.declared.length.Decimal.{Decimal}
+use Rattle.names.specs.declared.length.Declared.{Declared}
+use Rattle.names.specs.declared.length.Declaring.{Declaring}
+
+-- a number of at most 4294967295
+abbrev pub within : ℕ → Decimal
+within n = pick (leb n 4294967295) (Decimal.Value n) Decimal.Bad
+
+-- digits behind those that make n
+unfoldable pub digits : ℕ → List ℕ → Decimal
+digits n [] = within n
+digits n (b ∷ bs) = pick (between 48 57 b) (digits (n * 10 + (b - 48)) bs) Decimal.Bad
+
+-- 1 to 10 digits
+unfoldable pub decimalOf : List ℕ → Decimal
+decimalOf text = pick (between 1 10 (length text)) (digits 0 text) Decimal.Bad
+
+abbrev pub asDeclared : Decimal → Declaring
+asDeclared (Decimal.Value n) = Declaring.Now (Declared.Known n)
+asDeclared Decimal.Bad = Declaring.Refused lengthWrong
+
+-- the code of content-length in a request
+abbrev pub contentLength : ℕ
+contentLength = 0xA008
+
+-- a content-length's value, by what was declared before it; a second one and null are bad
+abbrev pub declare : Declared → Bool → List ℕ → Declaring
+declare Declared.Absent null text = pick null (Declaring.Refused lengthWrong) (asDeclared (decimalOf text))
+declare (Declared.Known n) null text = Declaring.Refused lengthWrong
+
+-- absent means 0
+abbrev pub declaredLength : Declared → ℕ
+declaredLength Declared.Absent = 0
+declaredLength (Declared.Known n) = n

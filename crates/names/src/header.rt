@@ -1,0 +1,69 @@
+// What a header's name may be.
+ghost use mathlib.Core.Path.{_≡_};
+ghost use Rattle.names.specs.Header.{headerNames, codeFault, isTransferEncoding, unlistedFault, spelledFault};
+use crate::CodeFound;
+use crate::Name;
+use crate::NameList;
+use wire::Direction;
+
+// The first byte of a name that is a code.
+pub const CODE_MARK: u8 = 0xA0;
+
+// The header names of a direction.
+pub fn names_of(direction: Direction) -> NameList
+    ensures { λ r. ⌜ r ≡ headerNames direction ⌝ }
+{
+    match direction {
+        Direction::ToContainer => NameList::RequestHeaders,
+        Direction::ToServer => NameList::ResponseHeaders,
+    }
+}
+
+// The refusal of a code as a header's name, 0 for none.
+pub fn code_fault(direction: Direction, code: u16) -> u8
+    ensures { λ r. ⌜ r ≡ codeFault direction code ⌝ }
+{
+    if crate::table::is_listed(names_of(direction), code) {
+        return wire::refusal::NONE;
+    }
+    wire::refusal::NAME_WRONG
+}
+
+// Whether a text spells transfer-encoding.
+pub fn is_transfer_encoding(text: &[u8]) -> bool
+    ensures { λ r. ⌜ r ≡ isTransferEncoding (now (text .entry)) ⌝ }
+{
+    let name = Name {
+        bytes: *b"transfer-encoding",
+        length: 17,
+    };
+    crate::table::spells(name, text, true)
+}
+
+// The refusal of a text as a header's spelled name, 0 for none. That it is not empty is the string's own rule.
+pub fn spelled_fault(direction: Direction, text: &[u8]) -> u8
+    ensures { λ r. ⌜ r ≡ spelledFault direction (now (text .entry)) ⌝ }
+{
+    if !crate::token::is_token(text) {
+        return wire::refusal::NAME_WRONG;
+    }
+    match crate::table::code_of(names_of(direction), text) {
+        CodeFound::Code(_) => wire::refusal::NAME_WRONG,
+        CodeFound::NotListed => unlisted_fault(direction, text),
+    }
+}
+
+// The refusal of a spelled name that is not listed, 0 for none.
+fn unlisted_fault(direction: Direction, text: &[u8]) -> u8
+    ensures { λ r. ⌜ r ≡ unlistedFault direction (now (text .entry)) ⌝ }
+{
+    match direction {
+        Direction::ToServer => wire::refusal::NONE,
+        Direction::ToContainer => {
+            if is_transfer_encoding(text) {
+                return wire::refusal::LENGTH_WRONG;
+            }
+            wire::refusal::NONE
+        }
+    }
+}

@@ -1,0 +1,103 @@
+-- The fields of a packet: byte, integer, boolean and string; what reading one at a place answers, and what bytes it is.
+-- The packet is a list that ends where the packet ends, so a field that runs past it is cut short (3).
+-- Document 01, 'Bytes and numbers', with the order of a string's faults from 'Refusal numbers': its length present (3), null or
+-- empty where barred (6), its bytes and last zero present (3), zeros (6).
+-- Assumes nothing.
+use mathlib.Core.Bool.{Bool, true, false, not}
+use mathlib.Core.List.{List, [], _∷_, _++_}
+use Prim.Native.Nat.{ℕ, _+_}
+use lib.Dec.{leb, eqb}
+use lib.ListN.{length, getD}
+use Rattle.wire.specs.Pick.{pick, both, either, any}
+use Rattle.wire.specs.Refusal.{cutShort, stringWrong, outOfRange}
+use Rattle.wire.specs.Bytes.{part, put, integerIn, integerBytes}
+use Rattle.wire.specs.declared.read.NumberRead.{NumberRead}
+use Rattle.wire.specs.declared.read.BooleanRead.{BooleanRead}
+use Rattle.wire.specs.declared.read.StringRead.{StringRead}
+use Rattle.wire.specs.declared.StringField.{StringField}
+
+-- a number that takes `width` bytes
+abbrev pub numberAt : ℕ → ℕ → List ℕ → ℕ → NumberRead
+numberAt width value s at = pick (leb (at + width) (length s)) (NumberRead.Number value (at + width)) (NumberRead.Refused cutShort)
+
+unfoldable pub byteAt : List ℕ → ℕ → NumberRead
+byteAt s at = numberAt 1 (getD s at 0) s at
+
+unfoldable pub integerAt : List ℕ → ℕ → NumberRead
+integerAt s at = numberAt 2 (integerIn s at) s at
+
+-- a byte read as a boolean: 0 or 1, anything else is 7
+abbrev pub booleanOf : NumberRead → BooleanRead
+booleanOf (NumberRead.Refused n) = BooleanRead.Refused n
+booleanOf (NumberRead.Number b next) =
+    pick (eqb b 0) (BooleanRead.Boolean false next) (pick (eqb b 1) (BooleanRead.Boolean true next) (BooleanRead.Refused outOfRange))
+
+unfoldable pub booleanAt : List ℕ → ℕ → BooleanRead
+booleanAt s at = booleanOf (byteAt s at)
+
+-- a boolean's byte
+abbrev pub booleanBytes : Bool → List ℕ
+booleanBytes true = 1 ∷ []
+booleanBytes false = 0 ∷ []
+
+-- the length that says null, with nothing after it
+abbrev pub nullLength : ℕ
+nullLength = 65535
+
+-- what a string may not hold
+abbrev pub barred : ℕ → Bool
+barred b = eqb b 0
+
+abbrev pub holdsBarred : List ℕ → Bool
+holdsBarred = any barred
+
+-- null or empty is refused for protocol, req_uri and every header or attribute name; all other strings may be either
+abbrev pub isOptional : StringField → Bool
+isOptional StringField.Protocol = false
+isOptional StringField.ReqUri = false
+isOptional StringField.RemoteAddr = true
+isOptional StringField.RemoteHost = true
+isOptional StringField.ServerName = true
+isOptional StringField.HeaderName = false
+isOptional StringField.HeaderValue = true
+isOptional StringField.AttributeName = false
+isOptional StringField.AttributeValue = true
+isOptional StringField.Message = true
+
+-- a string's bytes and its last zero, which start at a place: present (3), the last byte zero and no barred byte inside (6)
+unfoldable pub textAt : List ℕ → ℕ → ℕ → StringRead
+textAt s start len =
+    pick (leb (start + (len + 1)) (length s))
+    (pick (both (eqb (getD s (start + len) 0) 0) (not (holdsBarred (part s start len))))
+    (StringRead.Text start len (start + len + 1))
+    (StringRead.Refused stringWrong))
+    (StringRead.Refused cutShort)
+
+-- what follows a string's length: null, empty where barred, or its bytes
+unfoldable pub afterLength : List ℕ → Bool → ℕ → ℕ → StringRead
+afterLength s optional len start =
+    pick (eqb len nullLength)
+    (pick optional (StringRead.Null start) (StringRead.Refused stringWrong))
+    (pick (both (eqb len 0) (not optional)) (StringRead.Refused stringWrong) (textAt s start len))
+
+abbrev pub stringOf : List ℕ → Bool → NumberRead → StringRead
+stringOf s optional (NumberRead.Refused n) = StringRead.Refused n
+stringOf s optional (NumberRead.Number len start) = afterLength s optional len start
+
+-- the string at a place
+unfoldable pub stringAt : List ℕ → ℕ → Bool → StringRead
+stringAt s at optional = stringOf s optional (integerAt s at)
+
+-- a string's bytes: FF FF for null; else its length, its bytes and one zero
+unfoldable pub stringBytes : Bool → List ℕ → List ℕ
+stringBytes null text = pick null (integerBytes nullLength) (integerBytes (length text) ++ (text ++ (0 ∷ [])))
+
+-- a string that may stand in a field: not null or empty where that is barred, and no barred byte inside
+unfoldable pub stringAllowed : Bool → Bool → List ℕ → Bool
+stringAllowed optional null text =
+    pick null optional (both (either optional (not (eqb (length text) 0))) (not (holdsBarred text)))
+
+-- the buffer with a string written into it; a text that is too long for a length of two bytes, beside null's, is not written
+unfoldable pub putString : List ℕ → ℕ → Bool → List ℕ → List ℕ
+putString buffer at null text =
+    pick (either null (leb (length text) 65534)) (put buffer at (stringBytes null text)) buffer

@@ -1,0 +1,20 @@
+-- A packet: two leading bytes, which tell its direction, then the payload's length, then the payload.
+-- Document 01, 'Bytes and numbers'.
+-- Assumes nothing.
+use mathlib.Core.List.{List, [], _∷_, _++_}
+use Prim.Native.Nat.{ℕ}
+use lib.ListN.{length}
+use Rattle.wire.specs.Bytes.{integerBytes}
+use Rattle.wire.specs.declared.Direction.{Direction}
+
+-- 12 34 from server to container, 41 42 from container to server
+abbrev pub leading : Direction → List ℕ
+leading Direction.ToContainer = 0x12 ∷ 0x34 ∷ []
+leading Direction.ToServer = 0x41 ∷ 0x42 ∷ []
+
+-- a packet's first four bytes
+abbrev pub head : Direction → ℕ → List ℕ
+head direction payloadLength = leading direction ++ integerBytes payloadLength
+
+abbrev pub packet : Direction → List ℕ → List ℕ
+packet direction payload = head direction (length payload) ++ payload

@@ -1,0 +1,122 @@
+// The fields of a packet, over lent bytes: `read` and `write`. An inner crate: the layers above call it, a user of the library does not.
+// A packet is a slice that ends where the packet ends; a place is an index into it. Every call answers for any place.
+ghost use mathlib.Core.Path.{_≡_};
+ghost use Prim.Native.Nat.{_+_};
+ghost use lib.Dec.{leb};
+ghost use lib.ListN.{length};
+ghost use Rattle.wire.specs.Bytes.{part};
+ghost use Rattle.wire.specs.Field.{isOptional, barred, holdsBarred, stringAllowed};
+ghost use Rattle.wire.specs.Packet.{leading};
+
+pub mod read;
+pub mod refusal;
+pub mod write;
+
+// Which way a packet goes.
+pub enum Direction {
+    ToContainer,
+    ToServer,
+}
+
+// The fields that are strings.
+pub enum StringField {
+    Protocol,
+    ReqUri,
+    RemoteAddr,
+    RemoteHost,
+    ServerName,
+    HeaderName,
+    HeaderValue,
+    AttributeName,
+    AttributeValue,
+    Message,
+}
+
+// The length that says null.
+const NULL_LENGTH: u16 = 65535;
+
+// The leading bytes of a packet of a direction.
+pub fn leading_bytes(direction: Direction) -> [u8; 2]
+    ensures { λ r. ⌜ r ≡ leading direction ⌝ }
+{
+    match direction {
+        Direction::ToContainer => [0x12, 0x34],
+        Direction::ToServer => [0x41, 0x42],
+    }
+}
+
+// Whether a field's string may be null or empty.
+pub fn is_optional(field: StringField) -> bool
+    ensures { λ r. ⌜ r ≡ isOptional field ⌝ }
+{
+    match field {
+        StringField::Protocol => false,
+        StringField::ReqUri => false,
+        StringField::RemoteAddr => true,
+        StringField::RemoteHost => true,
+        StringField::ServerName => true,
+        StringField::HeaderName => false,
+        StringField::HeaderValue => true,
+        StringField::AttributeName => false,
+        StringField::AttributeValue => true,
+        StringField::Message => true,
+    }
+}
+
+// Whether `count` bytes from a place on lie within `length` bytes.
+pub fn has_room(length: usize, at: usize, count: usize) -> bool
+    ensures { λ r. ⌜ r ≡ leb (at + count) length ⌝ }
+{
+    if length < count {
+        return false;
+    }
+    at <= length - count
+}
+
+// The bytes from a place on, `len` of them, or as many as there are.
+pub fn part_of(s: &[u8], start: usize, len: usize) -> &[u8]
+    ensures { λ r. ⌜ now r ≡ part (now (s .entry)) start len ⌝ }
+{
+    let n = s.len();
+    if n < start {
+        return &s[n..];
+    }
+    if n - start < len {
+        return &s[start..];
+    }
+    let end = start + len;
+    &s[start..end]
+}
+
+// Whether no string may hold a byte.
+fn is_barred(b: u8) -> bool
+    ensures { λ r. ⌜ r ≡ barred b ⌝ }
+{
+    b == 0
+}
+
+// Whether a text holds a byte that no string may hold. The loop has no early way out, so that it becomes vector instructions.
+pub fn holds_barred(text: &[u8]) -> bool
+    ensures { λ r. ⌜ r ≡ holdsBarred (now (text .entry)) ⌝ }
+{
+    let mut found = false;
+    let mut i = 0;
+    while i < text.len() {
+        found = found | is_barred(text[i]);
+        i += 1;
+    }
+    found
+}
+
+// Whether a string may stand in a field, judged for building as reading judges it.
+pub fn allows_string(text: &[u8], null: bool, optional: bool) -> bool
+    ensures { λ r. ⌜ r ≡ stringAllowed optional null (now (text .entry)) ⌝ }
+{
+    if null {
+        return optional;
+    }
+    if text.len() == 0 {
+        return optional;
+    }
+    !holds_barred(text)
+}

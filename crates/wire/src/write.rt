@@ -1,0 +1,92 @@
+// Writes a field at a place of a buffer. Where a field does not fit, the buffer stays as it is.
+ghost use mathlib.Core.Path.{_≡_};
+ghost use mathlib.Core.List.{[], _∷_};
+ghost use lib.ListN.{length};
+ghost use Rattle.wire.specs.Bytes.{put, integerBytes};
+ghost use Rattle.wire.specs.Field.{booleanBytes, stringBytes, putString};
+ghost use Rattle.wire.specs.Packet.{head};
+use crate::Direction;
+
+// The longest text whose length two bytes can tell, beside null's.
+const MAX_TEXT: usize = 65534;
+
+// Copies bytes into the buffer from a place on.
+pub fn bytes(buffer: &mut [u8], at: usize, from: &[u8])
+    ensures { λ _. ⌜ now (buffer .exit) ≡ put (now (buffer .entry)) at (now (from .entry)) ⌝ }
+{
+    if crate::has_room(buffer.len(), at, from.len()) {
+        let mut i = 0;
+        while i < from.len() {
+            buffer[at + i] = from[i];
+            i += 1;
+        }
+    }
+}
+
+pub fn byte(buffer: &mut [u8], at: usize, value: u8)
+    ensures { λ _. ⌜ now (buffer .exit) ≡ put (now (buffer .entry)) at (value ∷ []) ⌝ }
+{
+    if crate::has_room(buffer.len(), at, 1) {
+        buffer[at] = value;
+    }
+}
+
+// Writes an integer, high byte first.
+pub fn integer(buffer: &mut [u8], at: usize, value: u16)
+    ensures { λ _. ⌜ now (buffer .exit) ≡ put (now (buffer .entry)) at (integerBytes value) ⌝ }
+{
+    if crate::has_room(buffer.len(), at, 2) {
+        buffer[at] = (value / 256 % 256) as u8;
+        buffer[at + 1] = (value % 256) as u8;
+    }
+}
+
+pub fn boolean(buffer: &mut [u8], at: usize, value: bool)
+    ensures { λ _. ⌜ now (buffer .exit) ≡ put (now (buffer .entry)) at (booleanBytes value) ⌝ }
+{
+    if value {
+        byte(buffer, at, 1);
+    } else {
+        byte(buffer, at, 0);
+    }
+}
+
+// How many bytes a string's field takes.
+pub fn string_size(text: &[u8], null: bool) -> usize
+    ensures { λ r. ⌜ r ≡ length (stringBytes null (now (text .entry))) ⌝ }
+{
+    if null {
+        return 2;
+    }
+    text.len() + 3
+}
+
+// Writes a string: its length, its bytes and a zero, or null.
+pub fn string(buffer: &mut [u8], at: usize, text: &[u8], null: bool)
+    ensures { λ _. ⌜ now (buffer .exit) ≡ putString (now (buffer .entry)) at null (now (text .entry)) ⌝ }
+{
+    if null {
+        integer(buffer, at, crate::NULL_LENGTH);
+        return;
+    }
+    let n = text.len();
+    if MAX_TEXT < n {
+        return;
+    }
+    if crate::has_room(buffer.len(), at, n + 3) {
+        integer(buffer, at, n as u16);
+        bytes(buffer, at + 2, text);
+        byte(buffer, at + 2 + n, 0);
+    }
+}
+
+// Writes a packet's first four bytes: its leading bytes and its payload's length.
+pub fn packet_head(buffer: &mut [u8], direction: Direction, length: u16)
+    ensures { λ _. ⌜ now (buffer .exit) ≡ put (now (buffer .entry)) 0 (head direction length) ⌝ }
+{
+    if crate::has_room(buffer.len(), 0, 4) {
+        let first = crate::leading_bytes(direction);
+        bytes(buffer, 0, &first);
+        integer(buffer, 2, length);
+    }
+}
