@@ -143,7 +143,9 @@ impl Move {
 impl Connection {
     // The most bytes of a packet, of its payload, and of the body in a body packet.
     pub const MAX_PACKET: usize = 8192;
+
     pub const MAX_PAYLOAD: usize = 8188;
+
     pub const MAX_BODY: u16 = 8186;
 
     // A fresh connection is Idle, whichever end holds it.
@@ -154,7 +156,13 @@ impl Connection {
     }
 
     // A connection with these fields as they stand, whether they count or not.
-    pub fn with_fields(state: State, left: BodyLeft, due: bool, asked: u16, headers: bool) -> Connection
+    pub fn with_fields(
+        state: State,
+        left: BodyLeft,
+        due: bool,
+        asked: u16,
+        headers: bool,
+    ) -> Connection
         ensures { λ r. ⌜ r ≡ fields state (left .0) due asked headers ⌝ }
     {
         Connection {

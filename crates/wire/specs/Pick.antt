@@ -1,7 +1,7 @@
 -- Choices by a test, and tests of numbers and of lists. Every definition of the library that goes by cases on a number is
 -- made of these, so that a proof puts a test's value in its place and the definition goes on.
 -- Assumes nothing.
-use mathlib.Core.Bool.{Bool, true, false}
+use mathlib.Core.Bool.{Bool, true, false, _&&_, _||_}
 use mathlib.Core.List.{List, [], _∷_}
 use Prim.Native.Nat.{ℕ}
 use lib.Dec.{leb, eqb}
@@ -13,13 +13,11 @@ pick false a b = b
 
 -- both tests hold
 abbrev pub both : Bool → Bool → Bool
-both true b = b
-both false b = false
+both a b = a && b
 
 -- one of two tests holds
 abbrev pub either : Bool → Bool → Bool
-either true b = true
-either false b = b
+either a b = a || b
 
 -- a number from lo to hi, both ends included
 abbrev pub between : ℕ → ℕ → ℕ → Bool

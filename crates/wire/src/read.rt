@@ -17,8 +17,14 @@ pub enum BooleanRead {
 // A string: refused, null, or where its bytes start and how many they are. next is the place after the field.
 pub enum StringRead {
     Refused(u8),
-    Null { next: usize },
-    Text { start: usize, len: usize, next: usize },
+    Null {
+        next: usize,
+    },
+    Text {
+        start: usize,
+        len: usize,
+        next: usize,
+    },
 }
 
 // The byte at a place.
@@ -28,8 +34,9 @@ pub fn byte(packet: &[u8], at: usize) -> NumberRead
     if !crate::has_room(packet.len(), at, 1) {
         return NumberRead::Refused(crate::refusal::CUT_SHORT);
     }
+    let value = packet[at] as u16;
     NumberRead::Number {
-        value: packet[at] as u16,
+        value,
         next: at + 1,
     }
 }
@@ -41,8 +48,11 @@ pub fn integer(packet: &[u8], at: usize) -> NumberRead
     if !crate::has_room(packet.len(), at, 2) {
         return NumberRead::Refused(crate::refusal::CUT_SHORT);
     }
+    let high = packet[at] as u16;
+    let low = packet[at + 1] as u16;
+    let value = high * 256 + low;
     NumberRead::Number {
-        value: (packet[at] as u16) * 256 + (packet[at + 1] as u16),
+        value,
         next: at + 2,
     }
 }

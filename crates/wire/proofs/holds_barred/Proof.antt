@@ -1,43 +1,47 @@
+-- `wire::holds_barred` meets its contract. The invariant: what was found, or what is left, decides as the whole text does.
+-- Assumes nothing.
+use mathlib.Core.Path.{_≡_, refl}
 use borrow.Author.Needs.{needs}
+use Prim.Native.Nat.{_-_, _≤_}
+use lib.ListN.{length, drop}
+use Rattle.wire.specs.Pick.{either}
+use Rattle.wire.specs.Field.{barred, holdsBarred}
+use Rattle.wire.proofs.Scan.{any-step, any-end}
 use Rattle.wire.proofs.holds_barred.Statement.{statement}
 use Rattle.wire.proofs.holds_barred.Tie as tie
-use Rattle.wire.proofs.holds_barred.Reads as reads
-use Rattle.wire.proofs.holds_barred.Lts as lts
-use Rattle.wire.proofs.is_barred.Reads as is-barred-reads
 
 abbrev Inv-loop : tie.InvT-loop
-Inv-loop text found₀ i₀ found i = ?
+Inv-loop text found₀ i₀ found i = (i ≤ length text) × (either found (holdsBarred (drop i text)) ≡ holdsBarred text)
 
 abbrev μ-loop : tie.MeasureT-loop
-μ-loop text found₀ i₀ found i = ?
+μ-loop text found₀ i₀ found i = length text - i
 
--- src/lib.rt:104:5
 loop-holds : tie.Need-loop-holds Inv-loop μ-loop
-loop-holds c = search needs
+loop-holds c = (search needs, refl)
 
--- src/lib.rt:105:35
 shared-slice-read-is-barred : tie.Need-shared-slice-read-is-barred Inv-loop μ-loop
 shared-slice-read-is-barred c = search needs
 
--- src/lib.rt:105:25
 is-barred-requires : tie.Need-is-barred-requires Inv-loop μ-loop
 is-barred-requires c κs = search needs
 
--- src/lib.rt:106:9
 add-i : tie.Need-add-i Inv-loop μ-loop
 add-i c = search needs
 
--- src/lib.rt:104:5
 loop-less : tie.Need-loop-less Inv-loop μ-loop
 loop-less c = search needs
 
--- src/lib.rt:104:5
 loop-again : tie.Need-loop-again Inv-loop μ-loop
-loop-again c = search needs
+loop-again c =
+    let at-loop = c .before .before .before in
+    let text = at-loop .before .before .args .text .now in
+    (search needs, any-step barred text (at-loop .loop .found) (at-loop .loop .i) _ (search needs) (c .is-barred .ensures) (at-loop .loop .inv .1))
 
--- src/lib.rt:99:1
 returns : tie.Need-returns Inv-loop μ-loop
-returns c = search needs
+returns c =
+    let at-loop = c .before in
+    let text = at-loop .before .before .args .text .now in
+    any-end barred text (at-loop .loop .found) (at-loop .loop .i) (search needs) (search needs) (at-loop .loop .inv .1)
 
 pub holds-barred-spec : {M : Type 1} → statement M
 holds-barred-spec =

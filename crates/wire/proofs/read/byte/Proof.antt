@@ -1,34 +1,43 @@
+-- `wire::read::byte` meets its contract: where there is room for one byte, it is the byte there.
+-- Assumes nothing.
+use native.Mathlib.Omega.{arith}
+use Prim.Native.Nat.{_+_, _≤_}
 use borrow.Author.Needs.{needs}
+use lib.ListN.{length, getD}
+use Rattle.wire.specs.Field.{byteAt}
+use Rattle.wire.proofs.Bytes.{room-in, room-out}
+use Rattle.wire.proofs.Field.{number-read, number-short}
 use Rattle.wire.proofs.read.byte.Statement.{statement}
 use Rattle.wire.proofs.read.byte.Tie as tie
-use Rattle.wire.proofs.read.byte.Reads as reads
-use Rattle.wire.proofs.read.byte.Lts as lts
-use Rattle.wire.proofs.has_room.Reads as has-room-reads
 
--- src/read.rt:28:9
 has-room-requires : tie.Need-has-room-requires
 has-room-requires c κs = search needs
 
--- src/read.rt:29:9
 returns : tie.Need-returns
-returns c = ?
+unfolding byteAt
+returns c =
+    let a = c .before .before .before .args in
+    number-short 1 (getD (a .packet .now) (a .at) 0) (a .packet .now) (a .at) (room-out _ _ _ (c .before .has-room .ensures) (c .if1 .taken))
 
--- src/read.rt:32:16
-shared-slice-read-t7 : tie.Need-shared-slice-read-t7
-shared-slice-read-t7 c = ?
+-- there is room for it
+fits : (c : tie.Else1) → let a = c .before .before .before .args in a .at + 1 ≤ length (a .packet .now)
+fits c = room-in _ _ _ (c .before .has-room .ensures) (c .if1 .left)
 
--- src/read.rt:32:16
-cast-t8 : tie.Need-cast-t8
-cast-t8 c = ?
+shared-slice-read-value : tie.Need-shared-slice-read-value
+shared-slice-read-value c = omega (arith, fits (c .before))
 
--- src/read.rt:33:15
-add-t4 : tie.Need-add-t4
-add-t4 c = ?
+cast-value : tie.Need-cast-value
+cast-value c = omega (arith, c .shared-slice-known2 .given (c .before .before .before .before .args .at))
 
--- src/read.rt:25:1
+add-t5 : tie.Need-add-t5
+add-t5 c = omega (arith, fits (c .before))
+
 returns-2 : tie.Need-returns-2
-returns-2 c = ?
+unfolding byteAt
+returns-2 c =
+    let a = c .before .before .before .before .args in
+    number-read 1 (getD (a .packet .now) (a .at) 0) (a .packet .now) (a .at) (fits (c .before))
 
 pub byte-spec : {M : Type 1} → statement M
 byte-spec =
-    tie.close (tie.spec has-room-requires returns shared-slice-read-t7 cast-t8 add-t4 returns-2)
+    tie.close (tie.spec has-room-requires returns shared-slice-read-value cast-value add-t5 returns-2)

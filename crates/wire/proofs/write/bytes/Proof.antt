@@ -1,59 +1,75 @@
+-- `wire::write::bytes` meets its contract. The invariant: the first i bytes are written, and the others are the buffer's own.
+-- Assumes nothing.
+use native.Mathlib.Omega.{arith}
+use mathlib.Core.Path.{_≡_, refl, sym, ap, _∙_}
+use Prim.Native.Nat.{_+_, _-_, _≤_}
 use borrow.Author.Needs.{needs}
+use lib.ListN.{length, take, length-set}
+use lib.Seq.{take-length}
+use Rattle.wire.specs.Bytes.{over}
+use Rattle.wire.proofs.Bytes.{room-yes, room-no, over-none, over-more, put-fits, put-short}
 use Rattle.wire.proofs.write.bytes.Statement.{statement}
 use Rattle.wire.proofs.write.bytes.Tie as tie
-use Rattle.wire.proofs.write.bytes.Reads as reads
-use Rattle.wire.proofs.write.bytes.Lts as lts
-use Rattle.wire.proofs.has_room.Reads as has-room-reads
 
 abbrev Inv-loop : tie.InvT-loop
-Inv-loop buffer₀ at from i₀ buffer i = ?
+Inv-loop buffer₀ at from i₀ buffer i =
+    (i ≤ length from) × ((buffer ≡ over buffer₀ at (take i from)) × (length buffer ≡ length buffer₀))
 
 abbrev μ-loop : tie.MeasureT-loop
-μ-loop buffer₀ at from i₀ buffer i = ?
+μ-loop buffer₀ at from i₀ buffer i = length from - i
 
--- src/write.rt:17:8
 has-room-requires : tie.Need-has-room-requires Inv-loop μ-loop
 has-room-requires c κs = search needs
 
--- src/write.rt:19:9
-loop-holds : tie.Need-loop-holds Inv-loop μ-loop
-loop-holds c = search needs
+-- there is room for all of it
+fits : (c : tie.Then1 Inv-loop μ-loop) → let a = c .before .before .before .before .args in a .at + length (a .from .now) ≤ length (a .buffer .now)
+fits c = room-yes _ _ _ (c .before .has-room .ensures) (c .if1 .taken)
 
--- src/write.rt:20:30
+loop-holds : tie.Need-loop-holds Inv-loop μ-loop
+loop-holds c = (search needs, (sym (over-none _ _), refl))
+
 shared-slice-read-buffer : tie.Need-shared-slice-read-buffer Inv-loop μ-loop
 shared-slice-read-buffer c = search needs
 
--- src/write.rt:20:20
 add-buffer : tie.Need-add-buffer Inv-loop μ-loop
-add-buffer c = search needs
+add-buffer c = omega (arith, fits (c .before .before .before))
 
--- src/write.rt:20:13
 slice-write-buffer : tie.Need-slice-write-buffer Inv-loop μ-loop
-slice-write-buffer c = search needs
+slice-write-buffer c = omega (arith, fits (c .before .before .before))
 
--- src/write.rt:21:13
 add-i : tie.Need-add-i Inv-loop μ-loop
 add-i c = search needs
 
--- src/write.rt:19:9
 loop-less : tie.Need-loop-less Inv-loop μ-loop
 loop-less c = search needs
 
--- src/write.rt:19:9
 loop-again : tie.Need-loop-again Inv-loop μ-loop
-loop-again c = search needs
+loop-again c =
+    let at-loop = c .before .before in
+    let a = at-loop .before .before .before .before .before .args in (
+      search needs,
+      (
+        rw (at-loop .loop .inv .1 .0) (over-more (a .buffer .now) (a .at) (a .from .now) (at-loop .loop .i) (search needs) (fits (at-loop .before))),
+        simp length-set (at-loop .loop .inv .1 .1),
+      ),
+    )
 
--- src/write.rt:14:1
 same-length : tie.Need-same-length Inv-loop μ-loop
 same-length c = search needs
 
--- src/write.rt:14:1
 returns : tie.Need-returns Inv-loop μ-loop
-returns c = search needs
+returns c =
+    let at-loop = c .before in
+    let a = at-loop .before .before .before .before .before .args in
+    let e : at-loop .loop .i ≡ length (a .from .now) = omega arith in
+    at-loop .loop .inv .1 .0
+    ∙ ap (over (a .buffer .now) (a .at)) (rw (e, take-length))
+    ∙ sym (put-fits (a .buffer .now) (a .at) (a .from .now) (fits (at-loop .before)))
 
--- src/write.rt:14:1
 returns-2 : tie.Need-returns-2 Inv-loop μ-loop
-returns-2 c = search needs
+returns-2 c =
+    let a = c .before .before .before .before .args in
+    sym (put-short (a .buffer .now) (a .at) (a .from .now) (room-no _ _ _ (c .before .has-room .ensures) (c .if1 .left)))
 
 pub bytes-spec : {M : Type 1} → statement M
 bytes-spec =

@@ -1,0 +1,161 @@
+-- Laws of `part`, `over` and `put`: lengths, parts side by side, writes side by side, what a write leaves alone.
+-- Assumes nothing.
+use mathlib.Core.Path.{_≡_, refl, sym, ap, _∙_}
+use mathlib.Core.Bool.{Bool, true, false, not}
+use mathlib.Core.List.{List, [], _∷_, _++_, append-assoc}
+use Prim.Native.Nat.{ℕ, zero, suc, _+_, _-_, _≤_, _<_}
+use native.Mathlib.Omega.{arith}
+use native.Mathlib.Nat.{add-zero, add-assoc}
+use native.Mathlib.Numerals.{add-one}
+use borrow.Author.Tests.{le-leb, lt-leb, leb-true, leb-false, not-true, not-false}
+use lib.Dec.{leb}
+use lib.ListN.{length, take, drop, set, getD, length-set, length-append, length-take, length-drop, take-append-drop, drop-of-length-le}
+use lib.Seq.{set-split, take-at, take-all, drop-at, drop-drop, drop-append-add, length-take-le, take-suc, take-add, getD-take, getD-drop, take-length, take-nil}
+use Rattle.wire.specs.Pick.{pick}
+use Rattle.wire.specs.Bytes.{part, over, put, integerBytes}
+
+-- a part that lies within the list has its length
+pub length-part : (s : List ℕ) (start len : ℕ) → start + len ≤ length s → length (part s start len) ≡ len
+unfolding part
+length-part s start len h = simp (length-take-le len (drop start s) (simp length-drop (omega arith)))
+
+-- what a slice from a place to another holds
+pub part-to : (s : List ℕ) (start end len : ℕ) → end ≡ start + len → take (end - start) (drop start s) ≡ part s start len
+unfolding part
+part-to s start end len e = let k : end - start ≡ len = omega arith in rw k
+
+-- what a slice from a place to the end holds, where the part asks for as much or more
+pub part-rest : (s : List ℕ) (start len : ℕ) → length s - start ≤ len → take (length s - start) (drop start s) ≡ part s start len
+unfolding part
+part-rest s start len h =
+    take-all (length s - start) (drop start s) (simp length-drop (omega arith))
+    ∙ sym (take-all len (drop start s) (simp length-drop (omega arith)))
+
+-- a slice from a place to the same place is empty
+pub part-none : (s : List ℕ) (n : ℕ) → take (n - n) (drop n s) ≡ []
+part-none s n = let e : n - n ≡ 0 = omega arith in rw e
+
+-- a part that starts past the end is empty
+pub part-past : (s : List ℕ) (start len : ℕ) → length s ≤ start → [] ≡ part s start len
+unfolding part
+part-past s start len h = simp (drop-of-length-le s h, take-nil)
+
+-- what the test of room says
+pub room-yes : (r : Bool) (a n : ℕ) → r ≡ leb a n → r ≡ true → a ≤ n
+room-yes r a n e t = leb-true a n (sym e ∙ t)
+
+pub room-no : (r : Bool) (a n : ℕ) → r ≡ leb a n → r ≡ false → n < a
+room-no r a n e t = leb-false a n (sym e ∙ t)
+
+pub room-in : (r : Bool) (a n : ℕ) → r ≡ leb a n → not r ≡ false → a ≤ n
+room-in r a n e t = room-yes r a n e (not-false r t)
+
+pub room-out : (r : Bool) (a n : ℕ) → r ≡ leb a n → not r ≡ true → n < a
+room-out r a n e t = room-no r a n e (not-true r t)
+
+-- the test of room, without a sum
+pub room-shift : (at count length : ℕ) → count ≤ length → leb at (length - count) ≡ leb (at + count) length
+room-shift at count length h = go (leb at (length - count)) refl
+  where
+    go : (t : Bool) → leb at (length - count) ≡ t → t ≡ leb (at + count) length
+    go true e = sym (le-leb (at + count) length (omega (arith, leb-true at (length - count) e)))
+    go false e = sym (lt-leb (at + count) length (omega (arith, leb-false at (length - count) e)))
+
+-- no bytes laid over a list leave it
+pub over-none : (l : List ℕ) (at : ℕ) → over l at [] ≡ l
+unfolding over
+over-none l at = rw (add-zero, take-append-drop)
+
+-- a store is one byte laid over
+pub over-set : (l : List ℕ) (at v : ℕ) → at < length l → set l at v ≡ over l at (v ∷ [])
+unfolding over
+over-set l at v h = rw (add-one, set-split l at v h)
+
+head-length : (l : List ℕ) (at : ℕ) (a : List ℕ) → at + length a ≤ length l → length (take at l ++ a) ≡ at + length a
+head-length l at a h = let k : at ≤ length l = omega arith in rw (length-append, length-take-le at l k)
+
+pub length-over : (l : List ℕ) (at : ℕ) (a : List ℕ) → at + length a ≤ length l → length (over l at a) ≡ length l
+unfolding over
+length-over l at a h =
+    let k : at ≤ length l = omega arith in
+    simp (length-append, length-take-le at l k, length-drop) (omega arith)
+
+drop-beyond : (p r : List ℕ) (n k : ℕ) → length p ≡ n → drop (n + k) (p ++ r) ≡ drop k r
+drop-beyond p r n k e = rw (← e) (drop-append-add p r k)
+
+-- bytes, and bytes right behind them
+pub over-over : (l : List ℕ) (i j : ℕ) (a b : List ℕ) → j ≡ i + length a → i + length a ≤ length l
+    → over (over l i a) j b ≡ over l i (a ++ b)
+unfolding over
+over-over l i j a b e h =
+    let r : List ℕ = drop (i + length a) l in
+    let q : take i l ++ (a ++ r) ≡ take i l ++ a ++ r = sym (append-assoc (take i l) a r) in
+    let n : length (take i l ++ a) ≡ i + length a = head-length l i a h in
+    let front : take j (take i l ++ (a ++ r)) ≡ take i l ++ a = rw (q, e) (take-at (take i l ++ a) r (i + length a) n) in
+    let back : drop (j + length b) (take i l ++ (a ++ r)) ≡ drop (i + length (a ++ b)) l =
+    rw (q, e, drop-beyond (take i l ++ a) r (i + length a) (length b) n, drop-drop (length b) (i + length a) l, length-append, add-assoc) in
+    rw (front, back) (simp append-assoc)
+
+-- a copy of j elements, and the store that makes it one more
+pub over-more : (l : List ℕ) (at : ℕ) (s : List ℕ) (j : ℕ) → j < length s → at + length s ≤ length l
+    → set (over l at (take j s)) (at + j) (getD s j 0) ≡ over l at (take (j + 1) s)
+over-more l at s j h k =
+    let n : length (take j s) ≡ j = length-take-le j s (omega arith) in
+    let f : at + length (take j s) ≤ length l = omega arith in
+    let m : at + j < length (over l at (take j s)) = rw (length-over l at (take j s) f) (omega arith) in
+    over-set (over l at (take j s)) (at + j) (getD s j 0) m
+    ∙ over-over l at (at + j) (take j s) (getD s j 0 ∷ []) (omega arith) f
+    ∙ ap (over l at) (rw (add-one, take-suc s j 0 h))
+
+-- two stores side by side
+pub over-two : (l : List ℕ) (i a b : ℕ) → i + 2 ≤ length l → set (set l i a) (i + 1) b ≡ over l i (a ∷ b ∷ [])
+over-two l i a b h =
+    let k : i < length l = omega arith in
+    let m : i + 1 < length (set l i a) = simp length-set (omega arith) in
+    over-set (set l i a) (i + 1) b m
+    ∙ ap (λ (x : List ℕ). over x (i + 1) (b ∷ [])) (over-set l i a k)
+    ∙ over-over l i (i + 1) (a ∷ []) (b ∷ []) refl (omega arith)
+
+-- the two outcomes of a write
+module _ (l : List ℕ) (at : ℕ) (a : List ℕ) where
+  pub put-fits : at + length a ≤ length l → put l at a ≡ over l at a
+  unfolding put
+  put-fits h = simp le-leb
+
+  pub put-short : length l < at + length a → put l at a ≡ l
+  unfolding put
+  put-short h = simp lt-leb
+
+-- a write keeps the length
+pub length-put : (l : List ℕ) (at : ℕ) (a : List ℕ) → length (put l at a) ≡ length l
+unfolding put
+length-put l at a = go (leb (at + length a) (length l)) refl
+  where
+    go : (t : Bool) → leb (at + length a) (length l) ≡ t → length (pick t (over l at a) l) ≡ length l
+    go true e = length-over l at a (leb-true (at + length a) (length l) e)
+    go false e = refl
+
+-- two writes side by side are one
+pub put-put : (l : List ℕ) (i j : ℕ) (a b : List ℕ) → j ≡ i + length a → i + length (a ++ b) ≤ length l
+    → put (put l i a) j b ≡ put l i (a ++ b)
+put-put l i j a b e h =
+    let n : length (a ++ b) ≡ length a + length b = length-append a b in
+    let f : i + length a ≤ length l = omega arith in
+    let g : j + length b ≤ length (over l i a) = rw (length-over l i a f) (omega arith) in
+    ap (λ (x : List ℕ). put x j b) (put-fits l i a f)
+    ∙ put-fits (over l i a) j b g
+    ∙ over-over l i j a b e f
+    ∙ sym (put-fits l i (a ++ b) h)
+
+-- and so are three
+pub put-three : (l x y z : List ℕ) (i j k : ℕ) (a b d : List ℕ) → y ≡ put l i a → z ≡ put y j b → x ≡ put z k d
+    → j ≡ i + length a → k ≡ j + length b → i + length (a ++ (b ++ d)) ≤ length l → x ≡ put l i (a ++ (b ++ d))
+put-three l x y z i j k a b d p q r e f h =
+    let n : length (a ++ b) ≡ length a + length b = length-append a b in
+    let m : length (a ++ b ++ d) ≡ length (a ++ b) + length d = length-append (a ++ b) d in
+    let s : a ++ b ++ d ≡ a ++ (b ++ d) = append-assoc a b d in
+    let g : i + length (a ++ b ++ d) ≤ length l = rw s h in
+    r
+    ∙ ap (λ (w : List ℕ). put w k d) (q ∙ ap (λ (w : List ℕ). put w j b) p ∙ put-put l i j a b e (omega arith))
+    ∙ put-put l i k (a ++ b) d (omega arith) g
+    ∙ ap (put l i) s

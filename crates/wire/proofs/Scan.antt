@@ -1,0 +1,55 @@
+-- Laws for a loop that passes over a whole list and keeps the answer so far in a flag: the flag, joined with the test over what
+-- is left, is the test over the whole. One pair of laws for `any` and one for `all`, over any test.
+-- Assumes nothing.
+use mathlib.Core.Path.{_≡_, refl, sym, ap, _∙_}
+use mathlib.Core.Bool.{Bool, true, false}
+use mathlib.Core.List.{List, [], _∷_}
+use Prim.Native.Nat.{ℕ, suc, _+_, _≤_, _<_}
+use native.Mathlib.Numerals.{add-one}
+use native.Mathlib.Omega.{arith}
+use lib.ListN.{length, getD, drop}
+use lib.Seq.{drop-cons, drop-length}
+use Rattle.wire.specs.Pick.{both, either, all, any}
+
+either-assoc : (a b c : Bool) → either (either a b) c ≡ either a (either b c)
+either-assoc true b c = refl
+either-assoc false b c = refl
+
+pub both-assoc : (a b c : Bool) → both (both a b) c ≡ both a (both b c)
+both-assoc true b c = refl
+both-assoc false b c = refl
+
+either-false : (a : Bool) → either a false ≡ a
+either-false true = refl
+either-false false = refl
+
+pub both-true : (a : Bool) → both a true ≡ a
+both-true true = refl
+both-true false = refl
+
+module _ (p : ℕ → Bool) (s : List ℕ) (flag : Bool) (i : ℕ) where
+  -- one element more is passed: t is its test
+  pub any-step : (t : Bool) → i < length s → t ≡ p (getD s i 0) → either flag (any p (drop i s)) ≡ any p s
+      → either (either flag t) (any p (drop (i + 1) s)) ≡ any p s
+  unfolding any
+  any-step t h e so-far =
+      rw (either-assoc flag t (any p (drop (i + 1) s)), e, add-one i) (rw (drop-cons s i 0 h) at so-far)
+
+  pub all-step : (t : Bool) → i < length s → t ≡ p (getD s i 0) → both flag (all p (drop i s)) ≡ all p s
+      → both (both flag t) (all p (drop (i + 1) s)) ≡ all p s
+  unfolding all
+  all-step t h e so-far =
+      rw (both-assoc flag t (all p (drop (i + 1) s)), e, add-one i) (rw (drop-cons s i 0 h) at so-far)
+
+  -- all are passed
+  pub any-end : i ≤ length s → length s ≤ i → either flag (any p (drop i s)) ≡ any p s → flag ≡ any p s
+  unfolding any
+  any-end h k so-far =
+      let e : i ≡ length s = omega arith in
+      sym (either-false flag) ∙ (rw (e, drop-length s) at so-far)
+
+  pub all-end : i ≤ length s → length s ≤ i → both flag (all p (drop i s)) ≡ all p s → flag ≡ all p s
+  unfolding all
+  all-end h k so-far =
+      let e : i ≡ length s = omega arith in
+      sym (both-true flag) ∙ (rw (e, drop-length s) at so-far)
