@@ -47,6 +47,10 @@ bare state = fields state 0 false 0 false
 abbrev pub busy : ℕ → Bool → ℕ → Bool → Connection
 busy left due asked headers = fields State.Busy left due (pick due asked 0) headers
 
+-- what counts of a record
+abbrev pub counted : Connection → Connection
+counted c = pick (isBusy (c .state)) (busy (c .left .0) (c .due) (c .asked) (c .headers)) (bare (c .state))
+
 -- a connection made new is Idle, whichever end holds it
 abbrev pub fresh : Connection
 fresh = bare State.Idle

@@ -10,7 +10,7 @@ use native.Mathlib.Numerals.{add-one}
 use borrow.Author.Tests.{le-leb, lt-leb, leb-true, leb-false, not-true, not-false}
 use lib.Dec.{leb}
 use lib.ListN.{length, take, drop, set, getD, length-set, length-append, length-take, length-drop, take-append-drop, drop-of-length-le}
-use lib.Seq.{set-split, take-at, take-all, drop-at, drop-drop, drop-append-add, length-take-le, take-suc, take-add, getD-take, getD-drop, take-length, take-nil}
+use lib.Seq.{set-split, take-at, take-all, drop-at, drop-cons, drop-drop, drop-append-add, length-take-le, take-suc, take-add, getD-take, getD-drop, take-length, take-nil}
 use Rattle.wire.specs.Pick.{pick}
 use Rattle.wire.specs.Bytes.{part, over, put, integerBytes}
 
@@ -39,6 +39,21 @@ part-none s n = let e : n - n ≡ 0 = omega arith in rw e
 pub part-past : (s : List ℕ) (start len : ℕ) → length s ≤ start → [] ≡ part s start len
 unfolding part
 part-past s start len h = simp (drop-of-length-le s h, take-nil)
+
+-- the middle of three
+pub part-middle : (p t r : List ℕ) → part (p ++ (t ++ r)) (length p) (length t) ≡ t
+unfolding part
+part-middle p t r = rw (drop-at p (t ++ r) (length p) refl) (take-at t r (length t) refl)
+
+-- two parts side by side are one
+pub part-add : (s : List ℕ) (at n m : ℕ) → part s at (n + m) ≡ part s at n ++ part s (at + n) m
+unfolding part
+part-add s at n m = take-add n m (drop at s) ∙ ap (λ (r : List ℕ). take n (drop at s) ++ take m r) (drop-drop n at s)
+
+-- a part of one element
+pub part-one : (s : List ℕ) (at : ℕ) → at < length s → part s at 1 ≡ getD s at 0 ∷ []
+unfolding part
+part-one s at h = rw (drop-cons s at 0 h)
 
 -- what the test of room says
 pub room-yes : (r : Bool) (a n : ℕ) → r ≡ leb a n → r ≡ true → a ≤ n
@@ -159,3 +174,46 @@ put-three l x y z i j k a b d p q r e f h =
     ∙ ap (λ (w : List ℕ). put w k d) (q ∙ ap (λ (w : List ℕ). put w j b) p ∙ put-put l i j a b e (omega arith))
     ∙ put-put l i k (a ++ b) d (omega arith) g
     ∙ ap (put l i) s
+
+-- bytes laid over two lists that are alike around them
+over-alike : (m l : List ℕ) (at : ℕ) (b : List ℕ) → take at m ≡ take at l → drop (at + length b) m ≡ drop (at + length b) l → over m at b ≡ over l at b
+unfolding over
+over-alike m l at b p q = rw (p, q)
+
+-- what bytes laid over a list leave, and what they put there
+module _ (l : List ℕ) (at : ℕ) (a : List ℕ) (fits : at + length a ≤ length l) where
+  seam : over l at a ≡ take at l ++ a ++ drop (at + length a) l
+  unfolding over
+  seam = sym (append-assoc (take at l) a (drop (at + length a) l))
+
+  -- all up to their end
+  pub over-upto : take (at + length a) (over l at a) ≡ take at l ++ a
+  over-upto = rw seam (take-at (take at l ++ a) (drop (at + length a) l) (at + length a) (head-length l at a fits))
+
+  -- all behind them
+  pub over-behind : drop (at + length a) (over l at a) ≡ drop (at + length a) l
+  over-behind = rw seam (drop-at (take at l ++ a) (drop (at + length a) l) (at + length a) (head-length l at a fits))
+
+  -- all before them
+  pub over-before : take at (over l at a) ≡ take at l
+  unfolding over
+  over-before = take-at (take at l) (a ++ drop (at + length a) l) at (length-take-le at l (omega arith))
+
+  -- they themselves
+  pub over-there : part (over l at a) at (length a) ≡ a
+  unfolding part over
+  over-there =
+      rw (drop-at (take at l) (a ++ drop (at + length a) l) at (length-take-le at l (omega arith)))
+      (take-at a (drop (at + length a) l) (length a) refl)
+
+  -- as many other bytes laid over them
+  pub over-again : (b : List ℕ) → length b ≡ length a → over (over l at a) at b ≡ over l at b
+  over-again b e = over-alike (over l at a) l at b over-before (rw e over-behind)
+
+-- a part laid over its own place changes nothing
+pub over-same : (l : List ℕ) (at len : ℕ) → at + len ≤ length l → over l at (part l at len) ≡ l
+unfolding over part
+over-same l at len h = go (part l at len) refl (length-part l at len h)
+  where
+    go : (p : List ℕ) → p ≡ take len (drop at l) → length p ≡ len → over l at p ≡ l
+    go p q e = rw (e, ← drop-drop len at l, q, take-append-drop len (drop at l), take-append-drop at l)

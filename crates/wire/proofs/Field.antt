@@ -1,6 +1,6 @@
 -- Laws of the fields' definitions: each outcome stated once, and that what is answered lies inside the packet.
 -- Assumes nothing.
-use mathlib.Core.Path.{_≡_, refl, sym, ap, _∙_}
+use mathlib.Core.Path.{_≡_, refl, sym, ap, subst, _∙_}
 use mathlib.Core.Bool.{Bool, true, false, not}
 use mathlib.Core.List.{List, [], _∷_, _++_}
 use Prim.Native.Nat.{ℕ, _+_, _≤_, _<_}
@@ -9,7 +9,7 @@ use borrow.Author.Tests.{le-leb, lt-leb, eq-eqb, ne-eqb, leb-true}
 use lib.Dec.{leb, eqb}
 use lib.ListN.{length, getD, length-append}
 use Rattle.wire.specs.Pick.{pick, both, either, any}
-use Rattle.wire.specs.Bytes.{part, put, integerBytes}
+use Rattle.wire.specs.Bytes.{part, put, integerIn, integerBytes}
 use Rattle.wire.specs.Field.{numberAt, byteAt, integerAt, booleanOf, booleanAt, holdsBarred, textAt, afterLength, stringOf, stringAt, stringBytes, stringAllowed, putString}
 use Rattle.wire.specs.Packet.{leading, head}
 use Rattle.wire.specs.declared.Direction.{Direction}
@@ -124,3 +124,75 @@ length-leading Direction.ToServer = refl
 pub head-four : (d : Direction) (n : ℕ) → length (head d n) ≡ 4
 head-four Direction.ToContainer n = refl
 head-four Direction.ToServer n = refl
+
+-- what is answered lies inside a packet of n bytes: a number of a width at a place
+abbrev pub NumberInside : ℕ → ℕ → ℕ → NumberRead → Type 0
+NumberInside n at width (NumberRead.Refused k) = Unit
+NumberInside n at width (NumberRead.Number value next) = (next ≡ at + width) × (next ≤ n)
+
+pub number-inside : (width value : ℕ) (s : List ℕ) (at : ℕ) → NumberInside (length s) at width (numberAt width value s at)
+number-inside width value s at = go (leb (at + width) (length s)) refl
+  where
+    go : (t : Bool) → leb (at + width) (length s) ≡ t
+        → NumberInside (length s) at width (pick t (NumberRead.Number value (at + width)) (NumberRead.Refused 3))
+    go true h = (refl, leb-true (at + width) (length s) h)
+    go false h = tt
+
+pub byte-inside : (s : List ℕ) (at : ℕ) (r : NumberRead) → byteAt s at ≡ r → NumberInside (length s) at 1 r
+unfolding byteAt
+byte-inside s at r e = subst (NumberInside (length s) at 1) e (number-inside 1 (getD s at 0) s at)
+
+pub integer-inside : (s : List ℕ) (at : ℕ) (r : NumberRead) → integerAt s at ≡ r → NumberInside (length s) at 2 r
+unfolding integerAt
+integer-inside s at r e = subst (NumberInside (length s) at 2) e (number-inside 2 (integerIn s at) s at)
+
+-- a boolean
+abbrev pub BooleanInside : ℕ → ℕ → BooleanRead → Type 0
+BooleanInside n at (BooleanRead.Refused k) = Unit
+BooleanInside n at (BooleanRead.Boolean value next) = (next ≡ at + 1) × (next ≤ n)
+
+boolean-of-inside : (n at : ℕ) (r : NumberRead) → NumberInside n at 1 r → BooleanInside n at (booleanOf r)
+boolean-of-inside n at (NumberRead.Refused k) h = tt
+boolean-of-inside n at (NumberRead.Number value next) h = go (eqb value 0) (eqb value 1)
+  where
+    go : (t u : Bool) → BooleanInside n at (pick t (BooleanRead.Boolean false next) (pick u (BooleanRead.Boolean true next) (BooleanRead.Refused 7)))
+    go true u = h
+    go false true = h
+    go false false = tt
+
+pub boolean-inside : (s : List ℕ) (at : ℕ) (r : BooleanRead) → booleanAt s at ≡ r → BooleanInside (length s) at r
+unfolding booleanAt
+boolean-inside s at r e = subst (BooleanInside (length s) at) e (boolean-of-inside (length s) at (byteAt s at) (byte-inside s at (byteAt s at) refl))
+
+-- a string whose length is at a place: null ends behind it; a text starts behind it, and ends behind its zero
+abbrev pub StringInside : ℕ → ℕ → StringRead → Type 0
+StringInside n at (StringRead.Refused k) = Unit
+StringInside n at (StringRead.Null next) = (next ≡ at + 2) × (next ≤ n)
+StringInside n at (StringRead.Text start len next) = (start ≡ at + 2) × ((next ≡ start + len + 1) × (next ≤ n))
+
+text-inside : (s : List ℕ) (at start len : ℕ) → start ≡ at + 2 → StringInside (length s) at (textAt s start len)
+unfolding textAt
+text-inside s at start len k = go (leb (start + (len + 1)) (length s)) (both (eqb (getD s (start + len) 0) 0) (not (holdsBarred (part s start len)))) refl
+  where
+    go : (t u : Bool) → leb (start + (len + 1)) (length s) ≡ t
+        → StringInside (length s) at (pick t (pick u (StringRead.Text start len (start + len + 1)) (StringRead.Refused 6)) (StringRead.Refused 3))
+    go true true h = (k, (refl, omega (arith, leb-true (start + (len + 1)) (length s) h)))
+    go true false h = tt
+    go false u h = tt
+
+string-of-inside : (s : List ℕ) (at : ℕ) (optional : Bool) (r : NumberRead) → NumberInside (length s) at 2 r → StringInside (length s) at (stringOf s optional r)
+unfolding afterLength
+string-of-inside s at optional (NumberRead.Refused k) h = tt
+string-of-inside s at optional (NumberRead.Number len start) h = go (eqb len 65535) optional (both (eqb len 0) (not optional))
+  where
+    go : (t o u : Bool)
+        → StringInside (length s) at (pick t (pick o (StringRead.Null start) (StringRead.Refused 6)) (pick u (StringRead.Refused 6) (textAt s start len)))
+    go true true u = h
+    go true false u = tt
+    go false o true = tt
+    go false o false = text-inside s at start len (h .0)
+
+pub string-inside : (s : List ℕ) (at : ℕ) (optional : Bool) (r : StringRead) → stringAt s at optional ≡ r → StringInside (length s) at r
+unfolding stringAt
+string-inside s at optional r e =
+    subst (StringInside (length s) at) e (string-of-inside s at optional (integerAt s at) (integer-inside s at (integerAt s at) refl))

@@ -1,0 +1,276 @@
+-- The facts about the cycle that the theorem on two ends rests on, by the rows of its table. A server's move and a container's move
+-- that a connection allows both may be made in either order and come to the same connection; what does not count of a record is
+-- not looked at; and a step goes on exactly where the move is allowed.
+-- Assumes nothing.
+use mathlib.Core.Path.{_≡_, refl, sym, ap, _∙_}
+use mathlib.Core.Bool.{Bool, true, false, not, false≢true}
+use Prim.Native.Nat.{ℕ, _≤_}
+use native.Mathlib.Omega.{arith}
+use borrow.Author.Tests.{eqb-true, leb-true}
+use lib.Dec.{eqb, leb}
+use Rattle.wire.specs.Pick.{pick, both}
+use Rattle.wire.specs.Refusal.{notNow, sizeWrong}
+use Rattle.wire.specs.declared.Direction.{Direction}
+use Rattle.connection.specs.declared.State.{State}
+use Rattle.connection.specs.declared.Connection.{Connection}
+use Rattle.connection.specs.declared.Kind.{Kind}
+use Rattle.connection.specs.declared.Move.{Move}
+use Rattle.connection.specs.declared.Step.{Step}
+use Rattle.connection.specs.Connection.{maxBody, isIdle, isPinged, isBusy, fields, bare, busy, counted, bodyDue}
+use Rattle.connection.specs.Cycle.{kindOf, directionOf, inState, largestBody, sizeAllowed, inSize, allowed, after, stepOf}
+use Rattle.connection.proofs.Laws.{largest-by, step-by}
+
+-- two constructors are never equal
+never : {A : Type 0} → false ≡ true → A
+never e = absurd (false≢true e)
+
+wrong-way : {A : Type 0} → Direction.ToServer ≡ Direction.ToContainer → A
+wrong-way e = absurd (let z : _≡_ {A = ℕ} 0 1 = cc in omega arith)
+
+-- what two tests that hold together say of each
+both-first : (a b : Bool) → both a b ≡ true → a ≡ true
+both-first true b e = refl
+both-first false b e = e
+
+both-second : (a b : Bool) → both a b ≡ true → b ≡ true
+both-second true b e = e
+both-second false b e = never e
+
+-- where a connection is Idle no move of the container's is allowed
+pub idle-mute : (c : Connection) (n : Move) → directionOf (kindOf n) ≡ Direction.ToServer → c .state ≡ State.Idle
+    → allowed c n ≡ false
+idle-mute c Move.CPing q e = wrong-way (sym q)
+idle-mute c Move.CPong q e = rw e
+idle-mute c (Move.Forward n) q e = wrong-way (sym q)
+idle-mute c (Move.Body k) q e = wrong-way (sym q)
+idle-mute c (Move.GetBody r) q e = rw e
+idle-mute c Move.SendHeaders q e = rw e
+idle-mute c (Move.BodyChunk k) q e = rw e
+idle-mute c (Move.End reuse) q e = rw e
+
+-- no move of the server's leads to Idle
+pub server-not-idle : (c : Connection) (m : Move) → directionOf (kindOf m) ≡ Direction.ToContainer → after c m .state ≡ State.Idle → ⊥
+server-not-idle c Move.CPing p e = never (ap isIdle e)
+server-not-idle c Move.CPong p e = wrong-way p
+server-not-idle c (Move.Forward n) p e = never (ap isIdle e)
+server-not-idle c (Move.Body k) p e = never (ap isIdle e)
+server-not-idle c (Move.GetBody r) p e = wrong-way p
+server-not-idle c Move.SendHeaders p e = wrong-way p
+server-not-idle c (Move.BodyChunk k) p e = wrong-way p
+server-not-idle c (Move.End reuse) p e = wrong-way p
+
+-- two moves that a connection allows both may be made in either order, and come to the same
+pub record Commuting (c : Connection) (m n : Move) : Type 0 where
+  pub first-then : allowed (after c m) n ≡ true
+  pub second-then : allowed (after c n) m ≡ true
+  pub meets : after (after c m) n ≡ after (after c n) m
+
+is-idle : (s : State) → isIdle s ≡ true → s ≡ State.Idle
+is-idle State.Idle e = refl
+is-idle State.Pinged e = never e
+is-idle State.Busy e = never e
+is-idle State.Closed e = never e
+
+-- the server's moves of Idle: there the container has none
+from-idle : (c : Connection) (m n : Move) → directionOf (kindOf n) ≡ Direction.ToServer → both (isIdle (c .state)) true ≡ true
+    → allowed c n ≡ true → Commuting c m n
+from-idle c m n q f g =
+    never (sym (idle-mute c n q (is-idle (c .state) (both-first (isIdle (c .state)) true f))) ∙ g)
+
+-- the server's move of Busy, a body packet, by the fields of the connection, so that each row of the table computes
+from-busy : (s : State) (l : ℕ) (d : Bool) (a : ℕ) (h : Bool) (k : ℕ) (n : Move) → directionOf (kindOf n) ≡ Direction.ToServer
+    → allowed (fields s l d a h) (Move.Body k) ≡ true → allowed (fields s l d a h) n ≡ true → Commuting (fields s l d a h) (Move.Body k) n
+unfolding largestBody
+from-busy State.Busy l true a false k Move.SendHeaders q f g = record { first-then = refl; second-then = f; meets = refl }
+from-busy State.Busy l true a true k (Move.BodyChunk j) q f g = record { first-then = refl; second-then = f; meets = refl }
+from-busy State.Busy l true a true k Move.SendHeaders q f g = never g
+from-busy State.Busy l true a false k (Move.BodyChunk j) q f g = never g
+from-busy State.Busy l true a h k (Move.GetBody r) q f g = never g
+from-busy State.Busy l true a true k (Move.End reuse) q f g = never g
+from-busy State.Busy l true a false k (Move.End reuse) q f g = never g
+from-busy State.Busy l true a h k Move.CPong q f g = never g
+from-busy State.Busy l true a h k Move.CPing q f g = wrong-way (sym q)
+from-busy State.Busy l true a h k (Move.Forward j) q f g = wrong-way (sym q)
+from-busy State.Busy l true a h k (Move.Body j) q f g = wrong-way (sym q)
+from-busy State.Busy l false a h k n q f g = never f
+from-busy State.Idle l d a h k n q f g = never f
+from-busy State.Pinged l d a h k n q f g = never f
+from-busy State.Closed l d a h k n q f g = never f
+
+-- a server's move and a container's move that are both allowed may be made in either order
+pub commute : (c : Connection) (m n : Move) → directionOf (kindOf m) ≡ Direction.ToContainer → directionOf (kindOf n) ≡ Direction.ToServer
+    → allowed c m ≡ true → allowed c n ≡ true → Commuting c m n
+commute c Move.CPing n p q f g = from-idle c Move.CPing n q f g
+commute c (Move.Forward k) n p q f g = from-idle c (Move.Forward k) n q f g
+commute c (Move.Body k) n p q f g = from-busy (c .state) (c .left .0) (c .due) (c .asked) (c .headers) k n q f g
+commute c Move.CPong n p q f g = wrong-way p
+commute c (Move.GetBody r) n p q f g = wrong-way p
+commute c Move.SendHeaders n p q f g = wrong-way p
+commute c (Move.BodyChunk k) n p q f g = wrong-way p
+commute c (Move.End reuse) n p q f g = wrong-way p
+
+-- a size that is allowed is at most what may come
+size-within : (most k : ℕ) → sizeAllowed most k ≡ true → k ≤ most
+size-within most k e = go (eqb most 0) e
+  where
+    go : (t : Bool) → pick t (eqb k 0) (both (leb 1 k) (leb k most)) ≡ true → k ≤ most
+    go true u = omega (arith, eqb-true k 0 u)
+    go false u = leb-true k most (both-second (leb 1 k) (leb k most) u)
+
+-- a body packet that is allowed holds no more than is left, than a packet can hold, and than may come
+pub record Within (c : Connection) (k : ℕ) : Type 0 where
+  pub of-left : k ≤ c .left .0
+  pub of-packet : k ≤ maxBody
+  pub of-largest : k ≤ largestBody c
+
+pub body-within : (c : Connection) (k : ℕ) → allowed c (Move.Body k) ≡ true → Within c k
+body-within c k f =
+    let most : largestBody c ≡ _ = largest-by c true (both-first (bodyDue c) (sizeAllowed (largestBody c) k) f) in
+    let fits : k ≤ largestBody c = size-within (largestBody c) k (both-second (bodyDue c) (sizeAllowed (largestBody c) k) f) in
+    record {
+      of-left = omega arith;
+      of-packet = omega arith;
+      of-largest = fits;
+    }
+
+-- what was asked, kept where a body packet is due, is kept so a second time
+busy-twice : (l : ℕ) (d : Bool) (a : ℕ) (h : Bool) → busy l d (pick d a 0) h ≡ busy l d a h
+busy-twice l true a h = refl
+busy-twice l false a h = refl
+
+-- after a move nothing is left in what does not count
+pub settled : (c : Connection) (m : Move) → after c m ≡ counted (after c m)
+settled c Move.CPing = refl
+settled c Move.CPong = refl
+settled c (Move.Forward n) = sym (busy-twice _ _ _ _)
+settled c (Move.Body k) = refl
+settled c (Move.GetBody r) = refl
+settled c Move.SendHeaders = sym (busy-twice _ _ _ _)
+settled c (Move.BodyChunk k) = sym (busy-twice _ _ _ _)
+settled c (Move.End true) = refl
+settled c (Move.End false) = refl
+
+-- what does not count is not looked at. Where a move is not allowed, `after` may tell the two records apart; a step does not.
+pub record Ignored (c : Connection) (m : Move) : Type 0 where
+  pub allows : allowed (counted c) m ≡ allowed c m
+  pub goes : allowed c m ≡ true → after (counted c) m ≡ after c m
+  pub steps : stepOf (counted c) m ≡ stepOf c m
+
+-- a record and what counts of it have the same state, and in Busy the same answer to any test of due and headers
+same-state : (s : State) (l : ℕ) (d : Bool) (a : ℕ) (h : Bool) → counted (fields s l d a h) .state ≡ s
+same-state State.Idle l d a h = refl
+same-state State.Pinged l d a h = refl
+same-state State.Busy l d a h = refl
+same-state State.Closed l d a h = refl
+
+same-test : (test : Bool → Bool → Bool) (s : State) (l : ℕ) (d : Bool) (a : ℕ) (h : Bool)
+    → both (isBusy (counted (fields s l d a h) .state)) (test (counted (fields s l d a h) .due) (counted (fields s l d a h) .headers))
+    ≡ both (isBusy s) (test d h)
+same-test test State.Idle l d a h = refl
+same-test test State.Pinged l d a h = refl
+same-test test State.Busy l d a h = refl
+same-test test State.Closed l d a h = refl
+
+-- and the same most that may come
+same-largest : (s : State) (l : ℕ) (d : Bool) (a : ℕ) (h : Bool) → largestBody (counted (fields s l d a h)) ≡ largestBody (fields s l d a h)
+unfolding largestBody
+same-largest State.Idle l d a h = refl
+same-largest State.Pinged l d a h = refl
+same-largest State.Busy l true a h = refl
+same-largest State.Busy l false a h = refl
+same-largest State.Closed l d a h = refl
+
+module _ (c : Connection) where
+  state-kept : counted c .state ≡ c .state
+  state-kept = same-state (c .state) (c .left .0) (c .due) (c .asked) (c .headers)
+
+  test-kept : (test : Bool → Bool → Bool)
+      → both (isBusy (counted c .state)) (test (counted c .due) (counted c .headers)) ≡ both (isBusy (c .state)) (test (c .due) (c .headers))
+  test-kept test = same-test test (c .state) (c .left .0) (c .due) (c .asked) (c .headers)
+
+  largest-kept : largestBody (counted c) ≡ largestBody c
+  largest-kept = same-largest (c .state) (c .left .0) (c .due) (c .asked) (c .headers)
+
+  ignored-state : (k : Kind) → inState (counted c) k ≡ inState c k
+  ignored-state Kind.CPing = ap isIdle state-kept
+  ignored-state Kind.CPong = ap isPinged state-kept
+  ignored-state Kind.Forward = ap isIdle state-kept
+  ignored-state Kind.Body = test-kept (λ d h. d)
+  ignored-state Kind.GetBody = test-kept (λ d h. not d)
+  ignored-state Kind.SendHeaders = test-kept (λ d h. not h)
+  ignored-state Kind.BodyChunk = test-kept (λ d h. h)
+  ignored-state Kind.End = test-kept (λ d h. both h (not d))
+
+  ignored-size : (m : Move) → inSize (counted c) m ≡ inSize c m
+  ignored-size Move.CPing = refl
+  ignored-size Move.CPong = refl
+  ignored-size (Move.Forward n) = refl
+  ignored-size (Move.Body k) = ap (λ (n : ℕ). sizeAllowed n k) largest-kept
+  ignored-size (Move.GetBody r) = refl
+  ignored-size Move.SendHeaders = refl
+  ignored-size (Move.BodyChunk k) = refl
+  ignored-size (Move.End reuse) = refl
+
+  -- what counts of a record in Busy
+  abbrev tidy : Connection
+  tidy = busy (c .left .0) (c .due) (c .asked) (c .headers)
+
+  -- a move that is allowed in Busy alone
+  in-busy : (m : Move) (test size : Bool) → both (both (isBusy (c .state)) test) size ≡ true → after tidy m ≡ after c m
+      → after (counted c) m ≡ after c m
+  in-busy m test size f e =
+      let b : isBusy (c .state) ≡ true = both-first (isBusy (c .state)) test (both-first (both (isBusy (c .state)) test) size f) in
+      ap (λ (t : Bool). after (pick t tidy (bare (c .state))) m) b ∙ e
+
+  ignored-after : (m : Move) → allowed c m ≡ true → after (counted c) m ≡ after c m
+  ignored-after Move.CPing f = refl
+  ignored-after Move.CPong f = refl
+  ignored-after (Move.Forward n) f = refl
+  ignored-after (Move.Body k) f = in-busy (Move.Body k) (c .due) (inSize c (Move.Body k)) f refl
+  ignored-after (Move.GetBody r) f = in-busy (Move.GetBody r) (not (c .due)) true f refl
+  ignored-after Move.SendHeaders f = in-busy Move.SendHeaders (not (c .headers)) true f (busy-twice _ _ _ _)
+  ignored-after (Move.BodyChunk k) f = in-busy (Move.BodyChunk k) (c .headers) true f (busy-twice _ _ _ _)
+  ignored-after (Move.End reuse) f = refl
+
+-- a step by what the state and the size say, whose connection matters only where both allow the move
+next-same : (a b : Bool) (x y : Connection) → (both a b ≡ true → x ≡ y)
+    → pick a (pick b (Step.Next x) (Step.Refused sizeWrong)) (Step.Refused notNow)
+    ≡ pick a (pick b (Step.Next y) (Step.Refused sizeWrong)) (Step.Refused notNow)
+next-same true true x y e = ap Step.Next (e refl)
+next-same true false x y e = refl
+next-same false b x y e = refl
+
+pub ignored : (c : Connection) (m : Move) → Ignored c m
+ignored c m =
+    let state : inState (counted c) (kindOf m) ≡ inState c (kindOf m) = ignored-state c (kindOf m) in
+    let size : inSize (counted c) m ≡ inSize c m = ignored-size c m in
+    record {
+      allows = rw (state, size);
+      goes = ignored-after c m;
+      steps = step-by (counted c) m (inState c (kindOf m)) (inSize c m) state size
+          ∙ next-same (inState c (kindOf m)) (inSize c m) (after (counted c) m) (after c m) (ignored-after c m)
+          ∙ sym (step-by c m (inState c (kindOf m)) (inSize c m) refl refl);
+    }
+
+-- a step goes on where the move is allowed, and to the connection after it
+pub step-next : (c : Connection) (m : Move) → allowed c m ≡ true → stepOf c m ≡ Step.Next (after c m)
+step-next c m f =
+    step-by c m true true (both-first (inState c (kindOf m)) (inSize c m) f) (both-second (inState c (kindOf m)) (inSize c m) f)
+
+-- and nowhere else
+only-next : (a b : Bool) (x d : Connection)
+    → pick a (pick b (Step.Next x) (Step.Refused sizeWrong)) (Step.Refused notNow) ≡ Step.Next d → (both a b ≡ true) × (x ≡ d)
+only-next true true x d e = (refl, cc)
+only-next true false x d e = absurd (let z : _≡_ {A = ℕ} 0 1 = cc in omega arith)
+only-next false b x d e = absurd (let z : _≡_ {A = ℕ} 0 1 = cc in omega arith)
+
+pub step-next-only : (c : Connection) (m : Move) (d : Connection) → stepOf c m ≡ Step.Next d → (allowed c m ≡ true) × (after c m ≡ d)
+step-next-only c m d e =
+    only-next (inState c (kindOf m)) (inSize c m) (after c m) d (sym (step-by c m (inState c (kindOf m)) (inSize c m) refl refl) ∙ e)
+
+-- a step is refused with 13 where the state does not allow the kind, and with 14 where it does and the size is wrong
+pub step-refused-state : (c : Connection) (m : Move) → inState c (kindOf m) ≡ false → stepOf c m ≡ Step.Refused notNow
+step-refused-state c m e = step-by c m false (inSize c m) e refl
+
+pub step-refused-size : (c : Connection) (m : Move) → inState c (kindOf m) ≡ true → inSize c m ≡ false → stepOf c m ≡ Step.Refused sizeWrong
+step-refused-size c m e f = step-by c m true false e f

@@ -1,0 +1,255 @@
+-- Fields there and back: reading a field that was written gives it, and writing a field that was read gives its bytes.
+-- Assumes nothing.
+use mathlib.Core.Path.{_≡_, refl, sym, ap, subst, _∙_}
+use mathlib.Core.Bool.{Bool, true, false, not, false≢true}
+use mathlib.Core.List.{List, [], _∷_, _++_, append-assoc}
+use Prim.Native.Nat.{ℕ, suc, _+_, _-_, _*_, _/_, _%_, _≤_, _<_}
+use native.Mathlib.Omega.{arith}
+use native.Mathlib.Numerals.{add-one}
+use borrow.Author.Tests.{le-leb, lt-leb, eq-eqb, ne-eqb, leb-true, eqb-true, eqb-false, not-true}
+use lib.Dec.{leb, eqb}
+use lib.ListN.{length, getD, take, drop, length-append}
+use lib.Seq.{drop-at, take-at, drop-cons, drop-drop, take-add, getD-append-seam, getD-append-add}
+use Rattle.wire.specs.Pick.{pick, both, either}
+use Rattle.wire.specs.Bytes.{part, integerIn, integerBytes}
+use Rattle.wire.specs.Field.{byteAt, integerAt, booleanOf, booleanAt, booleanBytes, holdsBarred, textAt, afterLength, stringOf, stringAt, stringBytes, stringAllowed}
+use Rattle.wire.specs.declared.read.NumberRead.{NumberRead}
+use Rattle.wire.specs.declared.read.BooleanRead.{BooleanRead}
+use Rattle.wire.specs.declared.read.StringRead.{StringRead}
+use Rattle.wire.proofs.Bytes.{length-part, part-middle, part-add, part-one}
+use Rattle.wire.proofs.Field.{number-read, boolean-is, string-is, after-is, text-closed}
+
+-- every element is a byte's value
+abbrev pub Bytes : List ℕ → Type 0
+Bytes s = (i : ℕ) → getD s i 0 < 256
+
+-- an integer that was written reads back
+pub integer-back : (a b : List ℕ) (n : ℕ) → n < 65536 → integerIn (a ++ (integerBytes n ++ b)) (length a) ≡ n
+unfolding integerIn
+integer-back a b n h =
+    rw (getD-append-seam a (n / 256 % 256) (n % 256 ∷ b) 0, getD-append-add a (integerBytes n ++ b) 1 0) (omega arith)
+
+pub integer-written : (a b : List ℕ) (n : ℕ) → n < 65536
+    → integerAt (a ++ (integerBytes n ++ b)) (length a) ≡ NumberRead.Number n (length a + 2)
+unfolding integerAt
+integer-written a b n h =
+    sym (number-read 2 (integerIn (a ++ (integerBytes n ++ b)) (length a)) (a ++ (integerBytes n ++ b)) (length a) (omega (arith, length-append a (integerBytes n ++ b))))
+    ∙ ap (λ (m : ℕ). NumberRead.Number m (length a + 2)) (integer-back a b n h)
+
+-- so do a byte and a boolean
+pub byte-written : (a b : List ℕ) (n : ℕ) → byteAt (a ++ (n ∷ b)) (length a) ≡ NumberRead.Number n (length a + 1)
+unfolding byteAt
+byte-written a b n =
+    sym (number-read 1 (getD (a ++ (n ∷ b)) (length a) 0) (a ++ (n ∷ b)) (length a) (omega (arith, length-append a (n ∷ b))))
+    ∙ ap (λ (m : ℕ). NumberRead.Number m (length a + 1)) (getD-append-seam a n b 0)
+
+pub boolean-written : (a b : List ℕ) (v : Bool) → booleanAt (a ++ (booleanBytes v ++ b)) (length a) ≡ BooleanRead.Boolean v (length a + 1)
+boolean-written a b true = boolean-is (a ++ (1 ∷ b)) (length a) (NumberRead.Number 1 (length a + 1)) (byte-written a b 1)
+boolean-written a b false = boolean-is (a ++ (0 ∷ b)) (length a) (NumberRead.Number 0 (length a + 1)) (byte-written a b 0)
+
+-- a text and its zero that were written read back
+pub text-written : (p t b : List ℕ) → holdsBarred t ≡ false
+    → textAt (p ++ (t ++ (0 ∷ b))) (length p) (length t) ≡ StringRead.Text (length p) (length t) (length p + length t + 1)
+text-written p t b clean =
+    let s : List ℕ = p ++ (t ++ (0 ∷ b)) in
+    let n : length s ≡ length p + (length t + suc (length b)) = length-append p (t ++ (0 ∷ b)) ∙ ap (λ (m : ℕ). length p + m) (length-append t (0 ∷ b)) in
+    let last : getD s (length p + length t) 0 ≡ 0 = getD-append-add p (t ++ (0 ∷ b)) (length t) 0 ∙ getD-append-seam t 0 b 0 in
+    sym (text-closed s (length p) (length t) false (omega arith) last (sym (ap holdsBarred (part-middle p t (0 ∷ b)) ∙ clean)))
+
+-- what reading a string that was written answers
+abbrev pub written : ℕ → Bool → List ℕ → StringRead
+written at null text = pick null (StringRead.Null (at + 2)) (StringRead.Text (at + 2) (length text) (at + 2 + length text + 1))
+
+-- what two tests that hold together say of each
+both-first : (a b : Bool) → both a b ≡ true → a ≡ true
+both-first true b e = refl
+both-first false b e = e
+
+both-second : (a b : Bool) → both a b ≡ true → b ≡ true
+both-second true b e = e
+both-second false b e = absurd (false≢true e)
+
+-- empty is not barred, in the two ways that reading and writing say it
+not-barred : (optional empty : Bool) → either optional (not empty) ≡ true → both empty (not optional) ≡ false
+not-barred true true e = refl
+not-barred true false e = refl
+not-barred false true e = absurd (false≢true e)
+not-barred false false e = refl
+
+-- a text, where it may stand in the field
+text-back : (a b : List ℕ) (optional : Bool) (text : List ℕ) → length text ≤ 65534 → stringAllowed optional false text ≡ true
+    → stringAt (a ++ (integerBytes (length text) ++ (text ++ (0 ∷ [])) ++ b)) (length a) optional ≡ written (length a) false text
+unfolding stringAllowed
+text-back a b optional text h ok =
+    let n : ℕ = length text in
+    let p : List ℕ = a ++ integerBytes n in
+    let s : List ℕ = a ++ (integerBytes n ++ (text ++ (0 ∷ []) ++ b)) in
+    let two : length p ≡ length a + 2 = length-append a (integerBytes n) in
+    let parted : s ≡ p ++ (text ++ (0 ∷ b)) =
+    ap (λ (r : List ℕ). a ++ (integerBytes n ++ r)) (append-assoc text (0 ∷ []) b) ∙ sym (append-assoc a (integerBytes n) (text ++ (0 ∷ b))) in
+    let present : either optional (not (eqb n 0)) ≡ true = both-first (either optional (not (eqb n 0))) (not (holdsBarred text)) ok in
+    let clean : holdsBarred text ≡ false = not-true (holdsBarred text) (both-second (either optional (not (eqb n 0))) (not (holdsBarred text)) ok) in
+    string-is s (length a) optional (NumberRead.Number n (length a + 2)) (integer-written a (text ++ (0 ∷ []) ++ b) n (omega arith))
+    ∙ after-is s optional n (length a + 2) false false (ne-eqb n 65535 (λ e. omega arith)) (not-barred optional (eqb n 0) present)
+    ∙ ap (λ (l : List ℕ). textAt l (length a + 2) n) parted
+    ∙ ap (λ (i : ℕ). textAt (p ++ (text ++ (0 ∷ b))) i n) (sym two)
+    ∙ text-written p text b clean
+    ∙ ap (λ (i : ℕ). StringRead.Text i n (i + n + 1)) two
+
+-- a string that was written reads back, where it may stand in the field
+pub string-written : (a b : List ℕ) (optional null : Bool) (text : List ℕ) → length text ≤ 65534 → stringAllowed optional null text ≡ true
+    → stringAt (a ++ (stringBytes null text ++ b)) (length a) optional ≡ written (length a) null text
+unfolding stringAt stringBytes stringAllowed afterLength
+string-written a b true true text h ok = rw (integer-written a b 65535 (omega arith))
+string-written a b false true text h ok = absurd (false≢true ok)
+string-written a b optional false text h ok = text-back a b optional text h ok
+
+-- the two bytes of an integer that was read are its bytes
+pub integer-kept : (s : List ℕ) (at : ℕ) → Bytes s → at + 2 ≤ length s → part s at 2 ≡ integerBytes (integerIn s at)
+unfolding integerIn
+integer-kept s at bytes h =
+    let high : getD s at 0 < 256 = bytes at in
+    let low : getD s (at + 1) 0 < 256 = bytes (at + 1) in
+    let p : (getD s at 0 * 256 + getD s (at + 1) 0) / 256 % 256 ≡ getD s at 0 = omega arith in
+    let q : (getD s at 0 * 256 + getD s (at + 1) 0) % 256 ≡ getD s (at + 1) 0 = omega arith in
+    part-add s at 1 1 ∙ rw (part-one s at (omega arith), part-one s (at + 1) (omega arith), p, q)
+
+-- a byte that is neither 0 nor 1 reads as no boolean
+untold : (b n : ℕ) (v : Bool) (next : ℕ) → eqb b 0 ≡ false → eqb b 1 ≡ false → booleanOf (NumberRead.Number b n) ≡ BooleanRead.Boolean v next → ⊥
+untold b n v next p q r =
+    let e : BooleanRead.Refused 7 ≡ BooleanRead.Boolean v next = rw (p, q) at r in
+    let z : _≡_ {A = ℕ} 0 1 = cc in
+    omega arith
+
+-- what the two tests on a byte say of the boolean that it reads as
+told : (b : ℕ) (u w : Bool) (n : ℕ) (v : Bool) (next : ℕ) → eqb b 0 ≡ u → eqb b 1 ≡ w → booleanOf (NumberRead.Number b n) ≡ BooleanRead.Boolean v next
+    → v ≡ pick u false w
+told b true w n v next p q r = let e : BooleanRead.Boolean false n ≡ BooleanRead.Boolean v next = rw p at r in cc
+told b false true n v next p q r = let e : BooleanRead.Boolean true n ≡ BooleanRead.Boolean v next = rw (p, q) at r in cc
+told b false false n v next p q r = absurd (untold b n v next p q r)
+
+-- and so is the byte of a boolean that was read
+pub boolean-kept : (s : List ℕ) (at : ℕ) (v : Bool) (next : ℕ) → booleanAt s at ≡ BooleanRead.Boolean v next → part s at 1 ≡ booleanBytes v
+unfolding booleanAt byteAt
+boolean-kept s at v next e = go (leb (at + 1) (length s)) (eqb (getD s at 0) 0) (eqb (getD s at 0) 1) refl refl refl e
+  where
+    go : (t u w : Bool) → leb (at + 1) (length s) ≡ t → eqb (getD s at 0) 0 ≡ u → eqb (getD s at 0) 1 ≡ w
+        → booleanOf (pick t (NumberRead.Number (getD s at 0) (at + 1)) (NumberRead.Refused 3)) ≡ BooleanRead.Boolean v next → part s at 1 ≡ booleanBytes v
+    go true true w h p q r =
+        let z : getD s at 0 ≡ 0 = eqb-true (getD s at 0) 0 p in
+        let x : v ≡ false = told (getD s at 0) true w (at + 1) v next p q r in
+        part-one s at (omega (arith, leb-true (at + 1) (length s) h)) ∙ rw (z, x)
+    go true false true h p q r =
+        let z : getD s at 0 ≡ 1 = eqb-true (getD s at 0) 1 q in
+        let x : v ≡ true = told (getD s at 0) false true (at + 1) v next p q r in
+        part-one s at (omega (arith, leb-true (at + 1) (length s) h)) ∙ rw (z, x)
+    go true false false h p q r = absurd (untold (getD s at 0) (at + 1) v next p q r)
+    go false u w h p q r = absurd (let z : _≡_ {A = ℕ} 0 1 = cc in omega arith)
+
+-- what a string that reads as a text is
+pub record TextRead (s : List ℕ) (at : ℕ) (optional : Bool) (start len next : ℕ) : Type 0 where
+  pub starts : start ≡ at + 2
+  pub ends : next ≡ start + len + 1
+  pub fits : next ≤ length s
+  pub length-is : len ≡ integerIn s at
+  pub not-null : len ≡ 65535 → ⊥
+  pub zero-last : getD s (start + len) 0 ≡ 0
+  pub may-stand : stringAllowed optional false (part s start len) ≡ true
+
+-- what a string that reads as null is
+pub record NullRead (s : List ℕ) (at : ℕ) (optional : Bool) (next : ℕ) : Type 0 where
+  pub ends : next ≡ at + 2
+  pub fits : next ≤ length s
+  pub length-is : integerIn s at ≡ 65535
+  pub may-stand : optional ≡ true
+
+abbrev Found : List ℕ → ℕ → Bool → StringRead → Type 0
+Found s at optional (StringRead.Refused k) = Unit
+Found s at optional (StringRead.Null next) = NullRead s at optional next
+Found s at optional (StringRead.Text start len next) = TextRead s at optional start len next
+
+-- empty is not barred and no byte is, in the two ways that reading and writing say it
+stands : (optional empty barred : Bool) → both empty (not optional) ≡ false → barred ≡ false → both (either optional (not empty)) (not barred) ≡ true
+stands true true false p q = refl
+stands true false false p q = refl
+stands false false false p q = refl
+stands false true false p q = absurd (false≢true (sym p))
+stands optional empty true p q = absurd (false≢true (sym q))
+
+standing : (s : List ℕ) (start len : ℕ) (optional : Bool) → both (eqb len 0) (not optional) ≡ false → holdsBarred (part s start len) ≡ false
+    → start + (len + 1) ≤ length s → stringAllowed optional false (part s start len) ≡ true
+unfolding stringAllowed
+standing s start len optional p q h =
+    rw (length-part s start len (omega arith)) (stands optional (eqb len 0) (holdsBarred (part s start len)) p q)
+
+-- a text's bytes
+found-text : (s : List ℕ) (at : ℕ) (optional : Bool) (len : ℕ) → len ≡ integerIn s at → (len ≡ 65535 → ⊥) → both (eqb len 0) (not optional) ≡ false
+    → Found s at optional (textAt s (at + 2) len)
+unfolding textAt
+found-text s at optional len e k present =
+    go (leb (at + 2 + (len + 1)) (length s)) (eqb (getD s (at + 2 + len) 0) 0) (holdsBarred (part s (at + 2) len)) refl refl refl
+  where
+    go : (t u v : Bool) → leb (at + 2 + (len + 1)) (length s) ≡ t → eqb (getD s (at + 2 + len) 0) 0 ≡ u → holdsBarred (part s (at + 2) len) ≡ v
+        → Found s at optional (pick t (pick (both u (not v)) (StringRead.Text (at + 2) len (at + 2 + len + 1)) (StringRead.Refused 6)) (StringRead.Refused 3))
+    go true true false h z c =
+        let f : at + 2 + (len + 1) ≤ length s = leb-true (at + 2 + (len + 1)) (length s) h in
+        record {
+          starts = refl;
+          ends = refl;
+          fits = omega arith;
+          length-is = e;
+          not-null = k;
+          zero-last = eqb-true (getD s (at + 2 + len) 0) 0 z;
+          may-stand = standing s (at + 2) len optional present c f;
+        }
+    go true true true h z c = tt
+    go true false v h z c = tt
+    go false u v h z c = tt
+
+found-length : (s : List ℕ) (at : ℕ) (optional : Bool) → at + 2 ≤ length s → Found s at optional (afterLength s optional (integerIn s at) (at + 2))
+unfolding afterLength
+found-length s at optional h = go (eqb (integerIn s at) 65535) optional (both (eqb (integerIn s at) 0) (not optional)) refl refl refl
+  where
+    go : (t o u : Bool) → eqb (integerIn s at) 65535 ≡ t → optional ≡ o → both (eqb (integerIn s at) 0) (not optional) ≡ u
+        → Found s at optional
+        (pick t (pick o (StringRead.Null (at + 2)) (StringRead.Refused 6)) (pick u (StringRead.Refused 6) (textAt s (at + 2) (integerIn s at))))
+    go true true u p q r = record { ends = refl; fits = h; length-is = eqb-true (integerIn s at) 65535 p; may-stand = q }
+    go true false u p q r = tt
+    go false o true p q r = tt
+    go false o false p q r = found-text s at optional (integerIn s at) refl (eqb-false (integerIn s at) 65535 p) r
+
+found : (s : List ℕ) (at : ℕ) (optional : Bool) (r : StringRead) → stringAt s at optional ≡ r → Found s at optional r
+unfolding stringAt integerAt
+found s at optional r e = subst (Found s at optional) e (go (leb (at + 2) (length s)) refl)
+  where
+    go : (t : Bool) → leb (at + 2) (length s) ≡ t
+        → Found s at optional (stringOf s optional (pick t (NumberRead.Number (integerIn s at) (at + 2)) (NumberRead.Refused 3)))
+    go true h = found-length s at optional (leb-true (at + 2) (length s) h)
+    go false h = tt
+
+pub text-read : (s : List ℕ) (at : ℕ) (optional : Bool) (start len next : ℕ) → stringAt s at optional ≡ StringRead.Text start len next
+    → TextRead s at optional start len next
+text-read s at optional start len next e = found s at optional (StringRead.Text start len next) e
+
+pub null-read : (s : List ℕ) (at : ℕ) (optional : Bool) (next : ℕ) → stringAt s at optional ≡ StringRead.Null next → NullRead s at optional next
+null-read s at optional next e = found s at optional (StringRead.Null next) e
+
+-- the bytes of a string that was read are those that writing it gives
+pub text-kept : (s : List ℕ) (at : ℕ) (optional : Bool) (start len next : ℕ) → Bytes s → stringAt s at optional ≡ StringRead.Text start len next
+    → part s at (next - at) ≡ stringBytes false (part s start len)
+unfolding stringBytes
+text-kept s at optional start len next bytes e =
+    let r : TextRead s at optional start len next = text-read s at optional start len next e in
+    let width : next - at ≡ 2 + (len + 1) = omega (arith, r .starts, r .ends) in
+    let two : at + 2 ≡ start = omega (arith, r .starts) in
+    let inside : start + len < length s = omega (arith, r .ends, r .fits) in
+    let size : length (part s start len) ≡ integerIn s at = length-part s start len (omega arith) ∙ r .length-is in
+    rw (width, part-add s at 2 (len + 1), part-add s (at + 2) len 1, two, integer-kept s at bytes (omega arith), part-one s (start + len) inside, r .zero-last, size)
+
+pub null-kept : (s : List ℕ) (at : ℕ) (optional : Bool) (next : ℕ) (text : List ℕ) → Bytes s → stringAt s at optional ≡ StringRead.Null next
+    → part s at (next - at) ≡ stringBytes true text
+unfolding stringBytes
+null-kept s at optional next text bytes e =
+    let r : NullRead s at optional next = null-read s at optional next e in
+    let width : next - at ≡ 2 = omega (arith, r .ends) in
+    rw (width, integer-kept s at bytes (omega (arith, r .ends, r .fits)), r .length-is)
