@@ -1,0 +1,95 @@
+-- What holds of the tables as a whole: how many bytes a name may hold, how long a name is, and that codes and names go both ways.
+-- Assumes nothing.
+use borrow.Author.Tests.{leb-true, ltb-true, le-leb, lt-ltb}
+use mathlib.Core.Path.{_≡_, refl, ap, _∙_}
+use mathlib.Core.Bool.{Bool, true, false}
+use mathlib.Core.List.{List, [], _∷_}
+use Prim.Native.Nat.{ℕ, suc, _+_, _-_, _≤_, _<_}
+use native.Mathlib.Omega.{arith}
+use lib.Dec.{leb, lit≤}
+use lib.ListN.{length, getD}
+use Rattle.wire.specs.Pick.{pick}
+use Rattle.names.specs.declared.NameList.{NameList}
+use Rattle.names.specs.declared.CodeFound.{CodeFound}
+use Rattle.names.specs.Token.{tokenByte}
+use Rattle.names.specs.Names.{methodNames, requestNames, responseNames, attributeNames, namesIn, firstCode, isListed, nameFor, nameRoom, padded, bytesOf, letter, sameName, codeFrom, codeIn}
+use Rattle.names.proofs.Rule.{values, agree}
+use Rattle.names.proofs.Rows.{name-room}
+use Rattle.names.proofs.Laws.{both-split, bytes-padded, name-from}
+
+-- how many tests hold
+abbrev pub howMany : List Bool → ℕ
+howMany [] = 0
+howMany (t ∷ ts) = pick t (suc (howMany ts)) (howMany ts)
+
+-- exactly 77 of the 256 byte values are token bytes
+pub token-count : howMany (values tokenByte 0 256) ≡ 77
+unfolding tokenByte
+token-count = refl
+
+-- no name for a code is longer than its room, and what is handed out has the name's bytes and no other
+pub name-length : (list : NameList) (n : ℕ)
+    → (length (nameFor list n) ≤ nameRoom) × (bytesOf (padded (nameFor list n)) ≡ nameFor list n)
+unfolding nameFor
+name-length list n = (go (leb (firstCode list) n), bytes-padded (nameFor list n))
+  where
+    go : (t : Bool) → length (pick t (getD (namesIn list) (n - firstCode list) []) []) ≤ nameRoom
+    go true = name-room list (n - firstCode list)
+    go false = lit≤ tt
+
+-- where a listed code lies
+listed-within : (list : NameList) (n : ℕ)
+    → isListed list n ≡ true → (firstCode list ≤ n) × (n < firstCode list + length (namesIn list))
+unfolding isListed
+listed-within list n h =
+    let t = both-split _ _ h in
+    (leb-true _ _ (t .0), ltb-true _ _ (t .1))
+
+-- the code that a list's name at a place is found to have, and the one that it has
+abbrev found : NameList → ℕ → CodeFound
+found list k = codeIn list (getD (namesIn list) k [])
+
+abbrev due : NameList → ℕ → CodeFound
+due list k = CodeFound.Code (firstCode list + k)
+
+-- a list's names are found at their own places: antt looks each of them up
+at-place : (list : NameList) (k : ℕ) → k < length (namesIn list) → found list k ≡ due list k
+unfolding methodNames requestNames responseNames attributeNames letter sameName codeFrom codeIn
+at-place list k h = agree (found list) (due list) CodeFound.NotListed (length (namesIn list)) (looked-up list) k h
+  where
+    looked-up : (list : NameList) → values (found list) 0 (length (namesIn list)) ≡ values (due list) 0 (length (namesIn list))
+    looked-up NameList.Methods = refl
+    looked-up NameList.RequestHeaders = refl
+    looked-up NameList.ResponseHeaders = refl
+    looked-up NameList.Attributes = refl
+
+-- the name for a listed code has that code
+pub round-trip : (list : NameList) (n : ℕ) → isListed list n ≡ true → codeIn list (nameFor list n) ≡ CodeFound.Code n
+round-trip list n h =
+    let w = listed-within list n h in
+    let e : firstCode list + (n - firstCode list) ≡ n = omega arith in
+    ap (codeIn list) (name-from list n (firstCode list) refl (w .0))
+    ∙ at-place list (n - firstCode list) (omega arith)
+    ∙ ap CodeFound.Code e
+
+-- a code that is found is at a place of the names
+found-within : (ignoring : Bool) (first : ℕ) (names : List (List ℕ)) (text : List ℕ) (n : ℕ)
+    → codeFrom ignoring first names text ≡ CodeFound.Code n
+    → (first ≤ n) × (n < first + length names)
+unfolding codeFrom
+found-within ignoring first [] text n e = let z : _≡_ {A = ℕ} 0 1 = cc in absurd (omega arith)
+found-within ignoring first (name ∷ names) text n e =
+    go (sameName ignoring name text) e (found-within ignoring (first + 1) names text n)
+  where
+    go : (t : Bool) → pick t (CodeFound.Code first) (codeFrom ignoring (first + 1) names text) ≡ CodeFound.Code n
+        → (codeFrom ignoring (first + 1) names text ≡ CodeFound.Code n → (first + 1 ≤ n) × (n < first + 1 + length names))
+        → (first ≤ n) × (n < first + suc (length names))
+    go true e ih = let q : first ≡ n = cc in omega arith
+    go false e ih = omega (arith, ih e)
+
+-- a code that is found is listed
+pub found-listed : (list : NameList) (text : List ℕ) (n : ℕ) → codeIn list text ≡ CodeFound.Code n → isListed list n ≡ true
+unfolding isListed codeIn
+found-listed list text n e =
+    let w = found-within _ _ _ text n e in
+    rw (le-leb (firstCode list) n (w .0), lt-ltb n (firstCode list + length (namesIn list)) (w .1))

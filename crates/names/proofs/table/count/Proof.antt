@@ -1,0 +1,39 @@
+-- `table::count` meets its contract: antt counts each list.
+-- Assumes nothing.
+use borrow.Author.Needs.{needs}
+use Rattle.names.specs.Names.{methodNames, requestNames, responseNames, attributeNames}
+use Rattle.names.proofs.table.count.Statement.{statement}
+use Rattle.names.proofs.table.count.Tie as tie
+
+enum-told : tie.Need-enum-told
+enum-told c = search needs
+
+enum-told-2 : tie.Need-enum-told-2
+enum-told-2 c = search needs
+
+enum-told-3 : tie.Need-enum-told-3
+enum-told-3 c = search needs
+
+enum-told-4 : tie.Need-enum-told-4
+enum-told-4 c = search needs
+
+returns : tie.Need-returns
+unfolding methodNames
+returns c = search needs
+
+returns-2 : tie.Need-returns-2
+unfolding requestNames
+returns-2 c = search needs
+
+returns-3 : tie.Need-returns-3
+unfolding responseNames
+returns-3 c = search needs
+
+returns-4 : tie.Need-returns-4
+unfolding attributeNames
+returns-4 c = search needs
+
+pub count-spec : {M : Type 1} → statement M
+count-spec =
+    tie.close
+    (tie.spec enum-told enum-told-2 enum-told-3 enum-told-4 returns returns-2 returns-3 returns-4)
