@@ -16,7 +16,7 @@ use Rattle.wire.proofs.Scan.{both-assoc, both-true}
 use Rattle.names.specs.declared.Name.{Name}
 use Rattle.names.specs.declared.NameList.{NameList}
 use Rattle.names.specs.declared.CodeFound.{CodeFound}
-use Rattle.names.specs.Names.{methodNames, requestNames, responseNames, attributeNames, namesIn, firstCode, ignoresCase, nameRoom, padded, bytesOf, isListed, nameFor, letter, sameName, codeFrom, codeIn}
+use Rattle.names.specs.Names.{methodNames, requestNames, responseNames, attributeNames, namesIn, firstCode, ignoresCase, nameRoom, rowOf, padded, bytesOf, isListed, nameFor, letter, sameName, codeFrom, codeIn}
 
 -- two tests that both hold
 pub both-split : (a b : Bool) → both a b ≡ true → (a ≡ true) × (b ≡ true)
@@ -26,6 +26,10 @@ both-split false b h = let z : _≡_ {A = ℕ} 0 1 = cc in absurd (omega arith)
 -- the bytes of a name that is handed out are the name's
 pub bytes-padded : (name : List ℕ) → bytesOf (padded name) ≡ name
 bytes-padded name = take-append-seam name (replicate (nameRoom - length name) 0)
+
+-- a name that is handed out, from its row and its length
+pub as-padded : (name bytes : List ℕ) (n : ℕ) → bytes ≡ rowOf name → n ≡ length name → record { bytes = bytes; length = n } ≡ padded name
+as-padded name bytes n p q = rw (p, q)
 
 -- a loop that compares a name and a text keeps the answer so far in a flag
 module _ (ignoring : Bool) (name text : List ℕ) (flag : Bool) (j : ℕ) where

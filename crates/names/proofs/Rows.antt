@@ -1,33 +1,55 @@
--- The tables of names: the rows of a list of names are the names with zeros behind them, and beside them their lengths.
+-- The tables of names: the rows of a list of names are the names with zeros behind them, and its lengths are theirs.
 -- antt computes both from the list and compares them with the constants.
 -- Assumes nothing.
 use borrow.Author.Tests.{leb-true}
 use mathlib.Core.Bool.{true}
-use mathlib.Core.Path.{_≡_, refl, sym, ap}
-use mathlib.Core.List.{List, [], _∷_, map}
-use Prim.Native.Nat.{ℕ, zero, suc, _≤_, _<_}
+use mathlib.Core.Path.{_≡_, refl, sym, ap, _∙_}
+use mathlib.Core.List.{List, [], _∷_, _++_, map}
+use Prim.Native.Nat.{ℕ, zero, suc, _-_, _≤_, _<_}
+use native.Mathlib.Omega.{arith}
 use native.Mathlib.Nat.{le-of-suc-le-suc, not-suc-le-zero}
-use lib.ListN.{length, getD, List·getD-eq-default}
+use lib.ListN.{length, getD, replicate, List·getD-eq-default}
 use lib.Dec.{leb, lit≤}
 use Rattle.wire.specs.Pick.{all}
 use Rattle.names.specs.declared.NameList.{NameList}
-use Rattle.names.specs.Names.{methodNames, requestNames, responseNames, attributeNames, namesIn, nameRoom, padded}
+use Rattle.names.specs.Names.{methodNames, requestNames, responseNames, attributeNames, namesIn, lengthsIn, nameRoom, rowOf}
 use Rattle.names.proofs.Laws.{both-split}
 
--- the bytes of a row
-abbrev pub rowBytes : List ℕ → List ℕ
-rowBytes name = padded name .bytes
-
--- a row of the two tables of a list of names
-pub row-in : (names : List (List ℕ)) (k : ℕ) (d : List ℕ) (e : ℕ) → k < length names
-    → record { bytes = getD (map rowBytes names) k d; length = getD (map length names) k e } ≡ padded (getD names k [])
-row-in [] k d e h = absurd (not-suc-le-zero h)
-row-in (name ∷ names) zero d e h = refl
-row-in (name ∷ names) (suc k) d e h = row-in names k d e (le-of-suc-le-suc h)
+-- a row of the table of a list of names
+pub row-in : (names : List (List ℕ)) (k : ℕ) (d : List ℕ) → k < length names → getD (map rowOf names) k d ≡ rowOf (getD names k [])
+row-in [] k d h = absurd (not-suc-le-zero h)
+row-in (name ∷ names) zero d h = refl
+row-in (name ∷ names) (suc k) d h = row-in names k d (le-of-suc-le-suc h)
 
 -- past a list's end there is no name
-pub row-out : (names : List (List ℕ)) (k : ℕ) → length names ≤ k → padded [] ≡ padded (getD names k [])
-row-out names k h = ap padded (sym (List·getD-eq-default names [] h))
+pub row-out : (names : List (List ℕ)) (k : ℕ) → length names ≤ k → rowOf [] ≡ rowOf (getD names k [])
+row-out names k h = ap rowOf (sym (List·getD-eq-default names [] h))
+
+-- zeros are 0 at every place
+zeros : (n k : ℕ) → _≡_ {A = ℕ} (getD (replicate n 0) k 0) 0
+zeros zero k = refl
+zeros (suc n) zero = refl
+zeros (suc n) (suc k) = zeros n k
+
+-- the length at a place of the table of lengths
+length-of : (names : List (List ℕ)) (n k : ℕ) → getD (map length names ++ replicate n 0) k 0 ≡ length (getD names k [])
+length-of [] n k = zeros n k
+length-of (name ∷ names) n zero = refl
+length-of (name ∷ names) n (suc k) = length-of names n k
+
+pub length-in : (list : NameList) (k : ℕ) → getD (lengthsIn list) k 0 ≡ length (getD (namesIn list) k [])
+length-in list k = length-of (namesIn list) (27 - length (namesIn list)) k
+
+-- no list is longer than 27
+most-names : (list : NameList) → length (namesIn list) ≤ 27
+unfolding methodNames requestNames responseNames attributeNames
+most-names NameList.Methods = lit≤ tt
+most-names NameList.RequestHeaders = lit≤ tt
+most-names NameList.ResponseHeaders = lit≤ tt
+most-names NameList.Attributes = lit≤ tt
+
+pub length-past : (list : NameList) (k : ℕ) → 27 ≤ k → length (getD (namesIn list) k []) ≡ 0
+length-past list k h = ap length (List·getD-eq-default (namesIn list) [] (omega (arith, most-names list)))
 
 -- where the lengths of a list of names are all within the room, so is the length of the name at any place
 within-room : (names : List (List ℕ)) (k : ℕ) → all (λ n. leb n nameRoom) (map length names) ≡ true
@@ -44,3 +66,6 @@ name-room NameList.Methods k = within-room methodNames k refl
 name-room NameList.RequestHeaders k = within-room requestNames k refl
 name-room NameList.ResponseHeaders k = within-room responseNames k refl
 name-room NameList.Attributes k = within-room attributeNames k refl
+
+pub length-fits : (list : NameList) (k : ℕ) → length (getD (namesIn list) k []) < 256
+length-fits list k = omega (arith, name-room list k)

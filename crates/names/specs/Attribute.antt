@@ -1,10 +1,11 @@
 -- The attribute codes: what value each has, and which may repeat. Their names are in `Names`.
--- Document 01, 'Server to container', Attribute codes.
+-- Document 01, 'Server to container', Attribute codes, and row 9 of its refusals.
 -- Assumes nothing.
-use mathlib.Core.Bool.{Bool}
+use mathlib.Core.Bool.{Bool, true, false, not}
 use Prim.Native.Nat.{ℕ}
 use lib.Dec.{eqb}
-use Rattle.wire.specs.Pick.{pick, between}
+use Rattle.wire.specs.Pick.{pick, both, between}
+use Rattle.wire.specs.Refusal.{none, attributeWrong}
 use Rattle.names.specs.declared.AttributeKind.{AttributeKind}
 
 -- 03 to 09, 0C and 0D have a string; 0A a name string and a value string; 0B an integer; 01, 02 and the rest are not served
@@ -17,3 +18,14 @@ attributeKind code =
 -- only 0A may repeat
 unfoldable pub mayRepeat : ℕ → Bool
 mayRepeat code = eqb code 10
+
+abbrev pub isServed : AttributeKind → Bool
+isServed AttributeKind.NotServed = false
+isServed AttributeKind.Text = true
+isServed AttributeKind.Integer = true
+isServed AttributeKind.Pair = true
+
+-- a code that is not served is 9, and so is one that was seen before and may not repeat
+unfoldable pub attributeFault : ℕ → Bool → ℕ
+attributeFault code seen =
+    pick (isServed (attributeKind code)) (pick (both seen (not (mayRepeat code))) attributeWrong none) attributeWrong

@@ -3,7 +3,7 @@
 -- its value; `req_attribute` is what the public AJP13 text calls that code.
 -- Assumes nothing.
 use mathlib.Core.Bool.{Bool, true, false}
-use mathlib.Core.List.{List, [], _∷_, _++_}
+use mathlib.Core.List.{List, [], _∷_, _++_, map}
 use Prim.Native.Nat.{ℕ, _+_, _-_}
 use Prim.Native.Char.{code}
 use Prim.Native.String.{String, [] as empty, _∷_ as _then_}
@@ -108,6 +108,10 @@ namesIn NameList.RequestHeaders = requestNames
 namesIn NameList.ResponseHeaders = responseNames
 namesIn NameList.Attributes = attributeNames
 
+-- the lengths of a list's names with zeros behind them, as many as the longest list has names
+abbrev pub lengthsIn : NameList → List ℕ
+lengthsIn list = map length (namesIn list) ++ replicate (27 - length (namesIn list)) 0
+
 -- the code of a list's first name; the others follow in order
 abbrev pub firstCode : NameList → ℕ
 firstCode NameList.Methods = 1
@@ -134,9 +138,13 @@ nameFor list n = pick (leb (firstCode list) n) (getD (namesIn list) (n - firstCo
 abbrev pub nameRoom : ℕ
 nameRoom = 17
 
+-- a name's bytes with zeros behind them
+abbrev pub rowOf : List ℕ → List ℕ
+rowOf name = name ++ replicate (nameRoom - length name) 0
+
 -- a name as it is handed out: its bytes with zeros behind them, and how many it has
 abbrev pub padded : List ℕ → Name
-padded name = record { bytes = name ++ replicate (nameRoom - length name) 0; length = length name }
+padded name = record { bytes = rowOf name; length = length name }
 
 -- the bytes of a name that was handed out
 abbrev pub bytesOf : Name → List ℕ

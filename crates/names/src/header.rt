@@ -35,7 +35,7 @@ pub fn is_transfer_encoding(text: &[u8]) -> bool
 {
     let name = Name {
         bytes: *b"transfer-encoding",
-        length: 17,
+        length: crate::NAME_ROOM,
     };
     crate::table::spells(name, text, true)
 }

@@ -15,9 +15,12 @@ pub enum NameList {
     Attributes,
 }
 
+// Room for the longest name, transfer-encoding.
+pub const NAME_ROOM: usize = 17;
+
 // A name that is handed out: its bytes, zeros behind them, and how many bytes it has. None where there is no such name.
 pub struct Name {
-    pub bytes: [u8; 17],
+    pub bytes: [u8; NAME_ROOM],
     pub length: usize,
 }
 

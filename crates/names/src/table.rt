@@ -1,18 +1,28 @@
 // The listed names: tables of their bytes, and look-ups both ways.
-// A row of a table has zeros behind the name, up to the room of the longest.
+// A constant table is laid out anew wherever it is named, so each is named in one place and outside every loop over bytes.
 ghost use mathlib.Core.Path.{_≡_};
 ghost use mathlib.Core.List.{[]};
 ghost use lib.ListN.{getD, length};
-ghost use Rattle.names.specs.Names.{methodNames, requestNames, responseNames, attributeNames, namesIn, firstCode, ignoresCase, isListed, nameFor, padded, bytesOf, letter, sameName, codeIn};
+ghost use Rattle.names.specs.Names.{methodNames, requestNames, responseNames, attributeNames, namesIn, lengthsIn, firstCode, ignoresCase, isListed, nameFor, rowOf, padded, bytesOf, letter, sameName, codeIn};
 use crate::CodeFound;
+use crate::NAME_ROOM;
 use crate::Name;
 use crate::NameList;
 
-// Room for the longest name.
-const ROOM: usize = 17;
+// How many names each list has.
+const METHODS: usize = 27;
+
+const REQUEST_HEADERS: usize = 14;
+
+const RESPONSE_HEADERS: usize = 11;
+
+const ATTRIBUTES: usize = 11;
+
+// As many as the longest list has.
+const MOST: usize = METHODS;
 
 // Codes 1 to 27.
-const METHOD_NAMES: [[u8; 17]; 27] = [
+const METHOD_NAMES: [[u8; NAME_ROOM]; METHODS] = [
     *b"OPTIONS\0\0\0\0\0\0\0\0\0\0",
     *b"GET\0\0\0\0\0\0\0\0\0\0\0\0\0\0",
     *b"HEAD\0\0\0\0\0\0\0\0\0\0\0\0\0",
@@ -42,38 +52,8 @@ const METHOD_NAMES: [[u8; 17]; 27] = [
     *b"MKACTIVITY\0\0\0\0\0\0\0",
 ];
 
-const METHOD_LENGTHS: [usize; 27] = [
-    7,
-    3,
-    4,
-    4,
-    3,
-    6,
-    5,
-    8,
-    9,
-    5,
-    4,
-    4,
-    4,
-    6,
-    3,
-    6,
-    15,
-    7,
-    8,
-    10,
-    6,
-    11,
-    6,
-    5,
-    5,
-    16,
-    10,
-];
-
 // Codes A001 to A00E.
-const REQUEST_NAMES: [[u8; 17]; 14] = [
+const REQUEST_NAMES: [[u8; NAME_ROOM]; REQUEST_HEADERS] = [
     *b"accept\0\0\0\0\0\0\0\0\0\0\0",
     *b"accept-charset\0\0\0",
     *b"accept-encoding\0\0",
@@ -90,10 +70,8 @@ const REQUEST_NAMES: [[u8; 17]; 14] = [
     *b"user-agent\0\0\0\0\0\0\0",
 ];
 
-const REQUEST_LENGTHS: [usize; 14] = [6, 14, 15, 15, 13, 10, 12, 14, 6, 7, 4, 6, 7, 10];
-
 // Codes A001 to A00B.
-const RESPONSE_NAMES: [[u8; 17]; 11] = [
+const RESPONSE_NAMES: [[u8; NAME_ROOM]; RESPONSE_HEADERS] = [
     *b"Content-Type\0\0\0\0\0",
     *b"Content-Language\0",
     *b"Content-Length\0\0\0",
@@ -107,10 +85,8 @@ const RESPONSE_NAMES: [[u8; 17]; 11] = [
     *b"WWW-Authenticate\0",
 ];
 
-const RESPONSE_LENGTHS: [usize; 11] = [12, 16, 14, 4, 13, 8, 10, 11, 14, 6, 16];
-
 // Codes 03 to 0D.
-const ATTRIBUTE_NAMES: [[u8; 17]; 11] = [
+const ATTRIBUTE_NAMES: [[u8; NAME_ROOM]; ATTRIBUTES] = [
     *b"remote_user\0\0\0\0\0\0",
     *b"auth_type\0\0\0\0\0\0\0\0",
     *b"query_string\0\0\0\0\0",
@@ -124,73 +100,23 @@ const ATTRIBUTE_NAMES: [[u8; 17]; 11] = [
     *b"stored_method\0\0\0\0",
 ];
 
-const ATTRIBUTE_LENGTHS: [usize; 11] = [11, 9, 12, 5, 8, 10, 11, 13, 12, 6, 13];
+// How long the names of each list are, in its order, zeros behind them: one byte a name, so that a length that no name has costs no
+// look at the names.
+const METHOD_LENGTHS: [u8; MOST] =
+    *b"\x07\x03\x04\x04\x03\x06\x05\x08\x09\x05\x04\x04\x04\x06\x03\x06\x0f\x07\x08\x0a\x06\x0b\x06\x05\x05\x10\x0a";
 
-// No bytes.
-fn no_name() -> Name
-    ensures { λ r. ⌜ r ≡ padded [] ⌝ }
-{
-    Name {
-        bytes: [0; 17],
-        length: 0,
-    }
-}
+const REQUEST_LENGTHS: [u8; MOST] =
+    *b"\x06\x0e\x0f\x0f\x0d\x0a\x0c\x0e\x06\x07\x04\x06\x07\x0a\x00\x00\x00\x00\x00\x00\x00\x00\x00\x00\x00\x00\x00";
 
-fn method_row(k: usize) -> Name
-    ensures { λ r. ⌜ r ≡ padded (getD methodNames k []) ⌝ }
-{
-    if k < 27 {
-        let bytes = METHOD_NAMES[k];
-        return Name {
-            bytes,
-            length: METHOD_LENGTHS[k],
-        };
-    }
-    no_name()
-}
+const RESPONSE_LENGTHS: [u8; MOST] =
+    *b"\x0c\x10\x0e\x04\x0d\x08\x0a\x0b\x0e\x06\x10\x00\x00\x00\x00\x00\x00\x00\x00\x00\x00\x00\x00\x00\x00\x00\x00";
 
-fn request_row(k: usize) -> Name
-    ensures { λ r. ⌜ r ≡ padded (getD requestNames k []) ⌝ }
-{
-    if k < 14 {
-        let bytes = REQUEST_NAMES[k];
-        return Name {
-            bytes,
-            length: REQUEST_LENGTHS[k],
-        };
-    }
-    no_name()
-}
+const ATTRIBUTE_LENGTHS: [u8; MOST] =
+    *b"\x0b\x09\x0c\x05\x08\x0a\x0b\x0d\x0c\x06\x0d\x00\x00\x00\x00\x00\x00\x00\x00\x00\x00\x00\x00\x00\x00\x00\x00";
 
-fn response_row(k: usize) -> Name
-    ensures { λ r. ⌜ r ≡ padded (getD responseNames k []) ⌝ }
-{
-    if k < 11 {
-        let bytes = RESPONSE_NAMES[k];
-        return Name {
-            bytes,
-            length: RESPONSE_LENGTHS[k],
-        };
-    }
-    no_name()
-}
-
-fn attribute_row(k: usize) -> Name
-    ensures { λ r. ⌜ r ≡ padded (getD attributeNames k []) ⌝ }
-{
-    if k < 11 {
-        let bytes = ATTRIBUTE_NAMES[k];
-        return Name {
-            bytes,
-            length: ATTRIBUTE_LENGTHS[k],
-        };
-    }
-    no_name()
-}
-
-// The name at a place of a list, from 0; no bytes past its end.
-fn row(list: NameList, k: usize) -> Name
-    ensures { λ r. ⌜ r ≡ padded (getD (namesIn list) k []) ⌝ }
+// The bytes of the name at a place of a list, from 0, zeros behind them; no bytes past its end.
+fn row(list: NameList, k: usize) -> [u8; NAME_ROOM]
+    ensures { λ r. ⌜ r ≡ rowOf (getD (namesIn list) k []) ⌝ }
 {
     match list {
         NameList::Methods => method_row(k),
@@ -200,15 +126,74 @@ fn row(list: NameList, k: usize) -> Name
     }
 }
 
+fn method_row(k: usize) -> [u8; NAME_ROOM]
+    ensures { λ r. ⌜ r ≡ rowOf (getD methodNames k []) ⌝ }
+{
+    if k < METHODS {
+        return METHOD_NAMES[k];
+    }
+    [0; NAME_ROOM]
+}
+
+fn request_row(k: usize) -> [u8; NAME_ROOM]
+    ensures { λ r. ⌜ r ≡ rowOf (getD requestNames k []) ⌝ }
+{
+    if k < REQUEST_HEADERS {
+        return REQUEST_NAMES[k];
+    }
+    [0; NAME_ROOM]
+}
+
+fn response_row(k: usize) -> [u8; NAME_ROOM]
+    ensures { λ r. ⌜ r ≡ rowOf (getD responseNames k []) ⌝ }
+{
+    if k < RESPONSE_HEADERS {
+        return RESPONSE_NAMES[k];
+    }
+    [0; NAME_ROOM]
+}
+
+fn attribute_row(k: usize) -> [u8; NAME_ROOM]
+    ensures { λ r. ⌜ r ≡ rowOf (getD attributeNames k []) ⌝ }
+{
+    if k < ATTRIBUTES {
+        return ATTRIBUTE_NAMES[k];
+    }
+    [0; NAME_ROOM]
+}
+
+// The lengths of a list's names.
+fn lengths(list: NameList) -> [u8; MOST]
+    ensures { λ r. ⌜ r ≡ lengthsIn list ⌝ }
+{
+    match list {
+        NameList::Methods => METHOD_LENGTHS,
+        NameList::RequestHeaders => REQUEST_LENGTHS,
+        NameList::ResponseHeaders => RESPONSE_LENGTHS,
+        NameList::Attributes => ATTRIBUTE_LENGTHS,
+    }
+}
+
+// The length of the name at a place of a list, 0 past its end.
+fn length_at(list: NameList, k: usize) -> usize
+    ensures { λ r. ⌜ r ≡ length (getD (namesIn list) k []) ⌝ }
+{
+    if k < MOST {
+        let all = lengths(list);
+        return all[k] as usize;
+    }
+    0
+}
+
 // How many names a list has.
-fn count(list: NameList) -> u16
+fn count(list: NameList) -> usize
     ensures { λ r. ⌜ r ≡ length (namesIn list) ⌝ }
 {
     match list {
-        NameList::Methods => 27,
-        NameList::RequestHeaders => 14,
-        NameList::ResponseHeaders => 11,
-        NameList::Attributes => 11,
+        NameList::Methods => METHODS,
+        NameList::RequestHeaders => REQUEST_HEADERS,
+        NameList::ResponseHeaders => RESPONSE_HEADERS,
+        NameList::Attributes => ATTRIBUTES,
     }
 }
 
@@ -244,7 +229,7 @@ pub fn is_listed(list: NameList, code: u16) -> bool
     if code < first {
         return false;
     }
-    code - first < count(list)
+    ((code - first) as usize) < count(list)
 }
 
 // The name for a code; no bytes where it is not listed.
@@ -255,7 +240,19 @@ pub fn name_of(list: NameList, code: u16) -> Name
     if code < first {
         return no_name();
     }
-    row(list, (code - first) as usize)
+    let k = (code - first) as usize;
+    let bytes = row(list, k);
+    let length = length_at(list, k);
+    Name { bytes, length }
+}
+
+fn no_name() -> Name
+    ensures { λ r. ⌜ r ≡ padded [] ⌝ }
+{
+    Name {
+        bytes: [0; NAME_ROOM],
+        length: 0,
+    }
 }
 
 // A letter as it is compared.
@@ -280,8 +277,8 @@ pub fn spells(name: Name, text: &[u8], ignoring: bool) -> bool
 {
     let bytes = name.bytes;
     let mut n = name.length;
-    if ROOM < n {
-        n = ROOM;
+    if NAME_ROOM < n {
+        n = NAME_ROOM;
     }
     if text.len() != n {
         return false;
@@ -295,17 +292,28 @@ pub fn spells(name: Name, text: &[u8], ignoring: bool) -> bool
     same
 }
 
+// Whether a text spells the name at a place of a list.
+fn spells_at(list: NameList, k: usize, text: &[u8]) -> bool
+    ensures { λ r. ⌜ r ≡ sameName (ignoresCase list) (getD (namesIn list) k []) (now (text .entry)) ⌝ }
+{
+    let length = length_at(list, k);
+    if length != text.len() {
+        return false;
+    }
+    let bytes = row(list, k);
+    spells(Name { bytes, length }, text, ignores_case(list))
+}
+
 // The code of the name that a text spells.
 pub fn code_of(list: NameList, text: &[u8]) -> CodeFound
     ensures { λ r. ⌜ r ≡ codeIn list (now (text .entry)) ⌝ }
 {
     let first = first_code(list);
     let n = count(list);
-    let ignoring = ignores_case(list);
     let mut k = 0;
     while k < n {
-        if spells(row(list, k as usize), text, ignoring) {
-            return CodeFound::Code(first + k);
+        if spells_at(list, k, text) {
+            return CodeFound::Code(first + (k as u16));
         }
         k += 1;
     }

@@ -1,8 +1,22 @@
 // RFC 9110 tokens.
 ghost use mathlib.Core.Path.{_≡_};
-ghost use Rattle.names.specs.Token.{tokenByte, isToken};
+ghost use Rattle.names.specs.Token.{isToken};
 
-// For each of the 256 byte values, whether a name may hold it; under a row, the characters that it may.
+// Whether a text is made of token bytes alone. The table is named outside the loop, which has no early way out.
+pub fn is_token(text: &[u8]) -> bool
+    ensures { λ r. ⌜ r ≡ isToken (now (text .entry)) ⌝ }
+{
+    let table = TOKEN;
+    let mut good = true;
+    let mut i = 0;
+    while i < text.len() {
+        good = good & table[text[i] as usize];
+        i += 1;
+    }
+    good
+}
+
+// For each of the 256 byte values, whether a name may hold it; beside it, the character.
 const TOKEN: [bool; 256] = [
     false,
     false,
@@ -37,107 +51,101 @@ const TOKEN: [bool; 256] = [
     false,
     false,
     false,
-    true,
+    true, // !
     false,
-    true,
-    true,
-    true,
-    true,
-    true,
+    true, // #
+    true, // $
+    true, // %
+    true, // &
+    true, // '
     false,
     false,
-    true,
-    true,
+    true, // *
+    true, // +
     false,
-    true,
-    true,
+    true, // -
+    true, // .
     false,
-    // . ! . # $ % & ' . . * + . - . .
-    true,
-    true,
-    true,
-    true,
-    true,
-    true,
-    true,
-    true,
-    true,
-    true,
-    false,
+    true, // 0
+    true, // 1
+    true, // 2
+    true, // 3
+    true, // 4
+    true, // 5
+    true, // 6
+    true, // 7
+    true, // 8
+    true, // 9
     false,
     false,
     false,
     false,
     false,
-    // 0 1 2 3 4 5 6 7 8 9 . . . . . .
-    false,
-    true,
-    true,
-    true,
-    true,
-    true,
-    true,
-    true,
-    true,
-    true,
-    true,
-    true,
-    true,
-    true,
-    true,
-    true,
-    // . A B C D E F G H I J K L M N O
-    true,
-    true,
-    true,
-    true,
-    true,
-    true,
-    true,
-    true,
-    true,
-    true,
-    true,
     false,
     false,
+    true, // A
+    true, // B
+    true, // C
+    true, // D
+    true, // E
+    true, // F
+    true, // G
+    true, // H
+    true, // I
+    true, // J
+    true, // K
+    true, // L
+    true, // M
+    true, // N
+    true, // O
+    true, // P
+    true, // Q
+    true, // R
+    true, // S
+    true, // T
+    true, // U
+    true, // V
+    true, // W
+    true, // X
+    true, // Y
+    true, // Z
     false,
-    true,
-    true,
-    // P Q R S T U V W X Y Z . . . ^ _
-    true,
-    true,
-    true,
-    true,
-    true,
-    true,
-    true,
-    true,
-    true,
-    true,
-    true,
-    true,
-    true,
-    true,
-    true,
-    true,
-    // ` a b c d e f g h i j k l m n o
-    true,
-    true,
-    true,
-    true,
-    true,
-    true,
-    true,
-    true,
-    true,
-    true,
-    true,
     false,
-    true,
     false,
-    true,
+    true, // ^
+    true, // _
+    true, // `
+    true, // a
+    true, // b
+    true, // c
+    true, // d
+    true, // e
+    true, // f
+    true, // g
+    true, // h
+    true, // i
+    true, // j
+    true, // k
+    true, // l
+    true, // m
+    true, // n
+    true, // o
+    true, // p
+    true, // q
+    true, // r
+    true, // s
+    true, // t
+    true, // u
+    true, // v
+    true, // w
+    true, // x
+    true, // y
+    true, // z
     false,
-    // p q r s t u v w x y z . | . ~ .
+    true, // |
+    false,
+    true, // ~
+    false,
     false,
     false,
     false,
@@ -267,23 +275,3 @@ const TOKEN: [bool; 256] = [
     false,
     false,
 ];
-
-// Whether a name may hold a byte.
-pub fn is_token_byte(b: u8) -> bool
-    ensures { λ r. ⌜ r ≡ tokenByte b ⌝ }
-{
-    TOKEN[b as usize]
-}
-
-// Whether a text is made of such bytes alone. The loop has no early way out.
-pub fn is_token(text: &[u8]) -> bool
-    ensures { λ r. ⌜ r ≡ isToken (now (text .entry)) ⌝ }
-{
-    let mut good = true;
-    let mut i = 0;
-    while i < text.len() {
-        good = good & is_token_byte(text[i]);
-        i += 1;
-    }
-    good
-}

@@ -13,6 +13,9 @@ first-code-requires c κs = search needs
 returns : tie.Need-returns
 returns c = sym (listed-below _ _ (omega (arith, c .before .first-code .ensures)))
 
+cast-result : tie.Need-cast-result
+cast-result c = search needs
+
 count-requires : tie.Need-count-requires
 count-requires c κs = search needs
 
@@ -24,4 +27,4 @@ returns-2 c =
     (sym (listed-from (a .list) (a .code) (c .before .before .first-code .result) e (c .before .if1 .left)))
 
 pub is-listed-spec : {M : Type 1} → statement M
-is-listed-spec = tie.close (tie.spec first-code-requires returns count-requires returns-2)
+is-listed-spec = tie.close (tie.spec first-code-requires returns cast-result count-requires returns-2)

@@ -1,29 +1,36 @@
 -- `token::is_token` meets its contract. The invariant: the flag, joined with the test over what is left, is the test over the whole.
+-- That the table follows the rule at every one of its 256 entries is a test that antt computes, once over the whole table.
 -- Assumes nothing.
 use borrow.Author.Needs.{needs}
+use native.Mathlib.Omega.{arith}
 use mathlib.Core.Path.{_≡_, refl}
-use Prim.Native.Nat.{_-_, _≤_}
-use lib.ListN.{length, drop}
+use mathlib.Core.Bool.{Bool, true, false}
+use Prim.Native.Nat.{ℕ, _-_, _≤_, _<_}
+use lib.ListN.{length, drop, getD}
 use Rattle.wire.specs.Pick.{both}
 use Rattle.wire.proofs.Scan.{all-step, all-end}
 use Rattle.names.specs.Token.{isToken, tokenByte}
+use Rattle.names.proofs.Rule.{at}
 use Rattle.names.proofs.token.is_token.Statement.{statement}
 use Rattle.names.proofs.token.is_token.Tie as tie
 
 abbrev Inv-loop : tie.InvT-loop
-Inv-loop text good₀ i₀ good i = (i ≤ length text) × (both good (isToken (drop i text)) ≡ isToken text)
+Inv-loop text table good₀ i₀ good i = (i ≤ length text) × (both good (isToken (drop i text)) ≡ isToken text)
 
 abbrev μ-loop : tie.MeasureT-loop
-μ-loop text good₀ i₀ good i = length text - i
+μ-loop text table good₀ i₀ good i = length text - i
 
 loop-holds : tie.Need-loop-holds Inv-loop μ-loop
 loop-holds c = (search needs, refl)
 
-shared-slice-read-is-token-byte : tie.Need-shared-slice-read-is-token-byte Inv-loop μ-loop
-shared-slice-read-is-token-byte c = search needs
+shared-slice-read-good : tie.Need-shared-slice-read-good Inv-loop μ-loop
+shared-slice-read-good c = search needs
 
-is-token-byte-requires : tie.Need-is-token-byte-requires Inv-loop μ-loop
-is-token-byte-requires c κs = search needs
+cast-good : tie.Need-cast-good Inv-loop μ-loop
+cast-good c = omega (arith, c .shared-slice-known .given (c .before .before .loop .i))
+
+array-read-good : tie.Need-array-read-good Inv-loop μ-loop
+array-read-good c = omega (arith, c .shared-slice-known .given (c .before .before .loop .i))
 
 add-i : tie.Need-add-i Inv-loop μ-loop
 add-i c = search needs
@@ -32,18 +39,20 @@ loop-less : tie.Need-loop-less Inv-loop μ-loop
 loop-less c = search needs
 
 loop-again : tie.Need-loop-again Inv-loop μ-loop
+unfolding tokenByte
 loop-again c =
-    let at-loop = c .before .before .before in
+    let at-loop = c .before .before in
     let l = at-loop .loop in
-    let byte = c .is-token-byte in (
+    let text = at-loop .before .args .text .now in (
       search needs,
-      all-step tokenByte (at-loop .before .before .args .text .now) (l .good) (l .i) (byte .result) (search needs) (byte .ensures) (l .inv .1),
+      all-step tokenByte text (l .good) (l .i) _ (search needs)
+          (at tokenByte 256 (getD text (l .i) 0) false (omega (arith, c .shared-slice-known .given (l .i)))) (l .inv .1),
     )
 
 returns : tie.Need-returns Inv-loop μ-loop
 returns c =
     let l = c .before .loop in
-    all-end tokenByte (c .before .before .before .args .text .now) (l .good) (l .i) (search needs) (search needs) (l .inv .1)
+    all-end tokenByte (c .before .before .args .text .now) (l .good) (l .i) (search needs) (search needs) (l .inv .1)
 
 pub is-token-spec : {M : Type 1} → statement M
 is-token-spec =
@@ -52,8 +61,9 @@ is-token-spec =
     Inv-loop
     μ-loop
     loop-holds
-    shared-slice-read-is-token-byte
-    is-token-byte-requires
+    shared-slice-read-good
+    cast-good
+    array-read-good
     add-i
     loop-less
     loop-again
