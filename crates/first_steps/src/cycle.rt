@@ -9,42 +9,49 @@ use connection::Step;
 pub fn show() {
     print::text(b"Cycle\n");
     let c = Connection::fresh();
-    let c = made(c, Move::CPing, b"CPing");
-    let c = made(c, Move::Forward(BodyLeft(9000)), b"Forward of 9000 bytes");
-    let c = made(c, Move::CPong, b"CPong");
-    let c = made(c, Move::Forward(BodyLeft(9000)), b"Forward of 9000 bytes");
-    let c = made(c, Move::Body(9000), b"body packet of 9000");
-    let c = made(c, Move::Body(8186), b"body packet of 8186");
-    let c = made(c, Move::SendHeaders, b"Send Headers");
-    let c = made(c, Move::GetBody(500), b"Get Body of 500");
-    let c = made(c, Move::BodyChunk(20), b"Send Body Chunk of 20");
-    let c = made(c, Move::End(true), b"End, reuse");
-    let c = made(c, Move::Body(500), b"body packet of 500");
-    let c = made(c, Move::End(true), b"End, reuse");
+    print::text(b"  fresh                   ");
     shown(c);
+    let c = made(c, Move::CPing, b"CPing                   ");
+    let c = made(
+        c,
+        Move::Forward(BodyLeft(9000)),
+        b"Forward of 9000 bytes   ",
+    );
+    let c = made(c, Move::CPong, b"CPong                   ");
+    let c = made(
+        c,
+        Move::Forward(BodyLeft(9000)),
+        b"Forward of 9000 bytes   ",
+    );
+    let c = made(c, Move::Body(9000), b"body packet of 9000     ");
+    let c = made(c, Move::Body(8186), b"body packet of 8186     ");
+    let c = made(c, Move::SendHeaders, b"Send Headers            ");
+    let c = made(c, Move::GetBody(500), b"Get Body of 500         ");
+    let c = made(c, Move::BodyChunk(20), b"Send Body Chunk of 20   ");
+    let c = made(c, Move::End(true), b"End, reuse              ");
+    let c = made(c, Move::Body(500), b"body packet of 500      ");
+    made(c, Move::End(true), b"End, reuse              ");
 }
 
-// The connection after a move, or the same one where it is refused.
+// The connection after a move, or the same one where it is refused; a line of what happened.
 fn made(c: Connection, m: Move, name: &[u8]) -> Connection {
-    shown(c);
     print::text(b"  ");
     print::text(name);
     match c.step(m) {
         Step::Refused(number) => {
-            print::text(b": refused ");
+            print::text(b"refused ");
             print::decimal(number as u64);
             print::text(b"\n");
             c
         }
         Step::Next(after) => {
-            print::text(b": allowed\n");
+            shown(after);
             after
         }
     }
 }
 
 fn shown(c: Connection) {
-    print::text(b"    ");
     state(c.state());
     let left = c.left();
     print::text(b", ");

@@ -6,22 +6,22 @@ pub fn text(s: &[u8]) {
 }
 
 pub fn decimal(n: u64) {
-    io::number::print_decimal(STDOUT_FILENO, n);
+    io::print_decimal(STDOUT_FILENO, n);
 }
 
 // The bytes of a slice in hexadecimal, a space before each.
 pub fn bytes(s: &[u8]) {
     for i in 0..s.len() {
-        text(b" ");
         byte(s[i]);
     }
 }
 
 fn byte(b: u8) {
+    text(b" ");
     hex(b as u64, 2);
 }
 
 // A number in hexadecimal, with at least so many digits.
 pub fn hex(n: u64, digits: usize) {
-    io::number::print_hex(STDOUT_FILENO, n, digits);
+    io::print_hex(STDOUT_FILENO, n, digits);
 }
