@@ -236,10 +236,11 @@ impl Connection {
         ensures { λ r. ⌜ r ≡ bodyDue self ⌝ }
     {
         let state = self.state;
+        let due = self.due;
         if !state.is_busy() {
             return false;
         }
-        self.due
+        due
     }
 
     // Whether a kind of packet is allowed now, else it is refused with 13.

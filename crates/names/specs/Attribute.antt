@@ -1,4 +1,5 @@
--- The attribute codes: what value each has, and which may repeat. Their names are in `Names`.
+-- The attribute codes: what value each has, and which may repeat. Their names are in `Names`. They come in any order, and the name
+-- that 0A brings with it need not be a token.
 -- Document 01, 'Server to container', Attribute codes, and row 9 of its refusals.
 -- Assumes nothing.
 use mathlib.Core.Bool.{Bool, true, false, not}

@@ -5,7 +5,7 @@ use mathlib.Core.Bool.{Bool, true, false, not}
 use mathlib.Core.List.{List, [], _∷_, _++_}
 use Prim.Native.Nat.{ℕ, _+_, _≤_, _<_}
 use native.Mathlib.Omega.{arith}
-use borrow.Author.Tests.{le-leb, lt-leb, eq-eqb, ne-eqb, leb-true}
+use borrow.Author.Tests.{le-leb, lt-leb, lt-ltb, le-ltb, eq-eqb, ne-eqb, leb-true}
 use lib.Dec.{leb, eqb}
 use lib.ListN.{length, getD, length-append}
 use Rattle.wire.specs.Pick.{pick, both, either, any}
@@ -107,14 +107,14 @@ module _ (l : List ℕ) (at : ℕ) (null : Bool) (text : List ℕ) where
   unfolding putString stringBytes
   string-null e = rw e
 
-  pub string-long : null ≡ false → 65534 < length text → l ≡ putString l at null text
+  pub string-long : null ≡ false → 65535 ≤ length text → l ≡ putString l at null text
   unfolding putString
-  string-long e h = rw (e, lt-leb (length text) 65534 h)
+  string-long e h = rw (e, le-ltb (length text) 65535 h)
 
-  pub string-text : null ≡ false → length text ≤ 65534
+  pub string-text : null ≡ false → length text < 65535
       → put l at (integerBytes (length text) ++ (text ++ (0 ∷ []))) ≡ putString l at null text
   unfolding putString stringBytes
-  string-text e h = rw (e, le-leb (length text) 65534 h)
+  string-text e h = rw (e, lt-ltb (length text) 65535 h)
 
 -- a packet's leading bytes are two, and its head four
 pub length-leading : (d : Direction) → length (leading d) ≡ 2

@@ -77,7 +77,7 @@ not-barred false true e = absurd (false≢true e)
 not-barred false false e = refl
 
 -- a text, where it may stand in the field
-text-back : (a b : List ℕ) (optional : Bool) (text : List ℕ) → length text ≤ 65534 → stringAllowed optional false text ≡ true
+text-back : (a b : List ℕ) (optional : Bool) (text : List ℕ) → length text < 65535 → stringAllowed optional false text ≡ true
     → stringAt (a ++ (integerBytes (length text) ++ (text ++ (0 ∷ [])) ++ b)) (length a) optional ≡ written (length a) false text
 unfolding stringAllowed
 text-back a b optional text h ok =
@@ -97,7 +97,7 @@ text-back a b optional text h ok =
     ∙ ap (λ (i : ℕ). StringRead.Text i n (i + n + 1)) two
 
 -- a string that was written reads back, where it may stand in the field
-pub string-written : (a b : List ℕ) (optional null : Bool) (text : List ℕ) → length text ≤ 65534 → stringAllowed optional null text ≡ true
+pub string-written : (a b : List ℕ) (optional null : Bool) (text : List ℕ) → length text < 65535 → stringAllowed optional null text ≡ true
     → stringAt (a ++ (stringBytes null text ++ b)) (length a) optional ≡ written (length a) null text
 unfolding stringAt stringBytes stringAllowed afterLength
 string-written a b true true text h ok = rw (integer-written a b 65535 (omega arith))

@@ -6,7 +6,7 @@
 use mathlib.Core.Bool.{Bool, true, false, not}
 use mathlib.Core.List.{List, [], _∷_, _++_}
 use Prim.Native.Nat.{ℕ, _+_}
-use lib.Dec.{leb, eqb}
+use lib.Dec.{leb, ltb, eqb}
 use lib.ListN.{length, getD}
 use Rattle.wire.specs.Pick.{pick, both, either, any}
 use Rattle.wire.specs.Refusal.{cutShort, stringWrong, outOfRange}
@@ -97,7 +97,7 @@ unfoldable pub stringAllowed : Bool → Bool → List ℕ → Bool
 stringAllowed optional null text =
     pick null optional (both (either optional (not (eqb (length text) 0))) (not (holdsBarred text)))
 
--- the buffer with a string written into it; a text that is too long for a length of two bytes, beside null's, is not written
+-- the buffer with a string written into it; a text of 65535 bytes or more, whose length two bytes cannot tell, is not written
 unfoldable pub putString : List ℕ → ℕ → Bool → List ℕ → List ℕ
 putString buffer at null text =
-    pick (either null (leb (length text) 65534)) (put buffer at (stringBytes null text)) buffer
+    pick (either null (ltb (length text) nullLength)) (put buffer at (stringBytes null text)) buffer

@@ -7,9 +7,6 @@ ghost use Rattle.wire.specs.Field.{booleanBytes, stringBytes, putString}
 ghost use Rattle.wire.specs.Packet.{head};
 use crate::Direction;
 
-// The longest text whose length two bytes can tell, beside null's.
-const MAX_TEXT: usize = 65534;
-
 // Copies bytes into the buffer from a place on.
 pub fn bytes(buffer: &mut [u8], at: usize, from: &[u8])
     ensures { λ _. ⌜ now (buffer .exit) ≡ put (now (buffer .entry)) at (now (from .entry)) ⌝ }
@@ -61,7 +58,7 @@ pub fn string_size(text: &[u8], null: bool) -> usize
     text.len() + 3
 }
 
-// Writes a string: its length, its bytes and a zero, or null.
+// Writes a string: its length, its bytes and a zero, or null. A text whose length two bytes cannot tell is not written.
 pub fn string(buffer: &mut [u8], at: usize, text: &[u8], null: bool)
     ensures { λ _. ⌜ now (buffer .exit) ≡ putString (now (buffer .entry)) at null (now (text .entry)) ⌝ }
 {
@@ -70,7 +67,7 @@ pub fn string(buffer: &mut [u8], at: usize, text: &[u8], null: bool)
         return;
     }
     let n = text.len();
-    if MAX_TEXT < n {
+    if crate::NULL_LENGTH as usize <= n {
         return;
     }
     if crate::has_room(buffer.len(), at, n + 3) {

@@ -23,6 +23,9 @@ returns c =
     let a = c .before .before .before .before .before .before .before .args in
     c .before .before .integer .ensures ∙ string-null (a .buffer .now) (a .at) (a .null) (a .text .now) (c .before .before .before .before .if1 .taken)
 
+cast-if2 : tie.Need-cast-if2
+cast-if2 c = search needs
+
 returns-2 : tie.Need-returns-2
 returns-2 c =
     let a = c .before .before .before .before .args in
@@ -91,6 +94,7 @@ string-spec =
     integer-requires
     same-length
     returns
+    cast-if2
     returns-2
     add-has-room
     has-room-requires
