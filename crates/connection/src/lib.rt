@@ -6,6 +6,7 @@ ghost use Rattle.connection.specs.Cycle.{kindOf, directionOf, inState, l
 ghost use Prim.Native.Nat.{_-_};
 ghost use Rattle.wire.specs.Pick.{pick};
 use wire::Direction;
+use wire::refusal;
 
 // Where a connection stands.
 pub enum State {
@@ -326,10 +327,10 @@ impl Connection {
         ensures { λ r. ⌜ r ≡ stepOf self m ⌝ }
     {
         if !self.allows(m.kind()) {
-            return Step::Refused(wire::refusal::NOT_NOW);
+            return Step::Refused(refusal::NOT_NOW);
         }
         if !self.allows_size(m) {
-            return Step::Refused(wire::refusal::SIZE_WRONG);
+            return Step::Refused(refusal::SIZE_WRONG);
         }
         Step::Next(self.after(m))
     }

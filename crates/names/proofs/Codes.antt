@@ -12,7 +12,8 @@ use Rattle.wire.specs.Pick.{pick}
 use Rattle.names.specs.declared.NameList.{NameList}
 use Rattle.names.specs.declared.CodeFound.{CodeFound}
 use Rattle.names.specs.Token.{tokenByte}
-use Rattle.names.specs.Names.{methodNames, requestNames, responseNames, attributeNames, namesIn, firstCode, isListed, nameFor, nameRoom, padded, bytesOf, letter, sameName, codeFrom, codeIn}
+use Rattle.names.specs.Names.{methodNames, requestNames, responseNames, attributeNames, namesIn, firstCode, isListed, nameFor, letter, sameName, codeFrom, codeIn}
+use Rattle.names.specs.Row.{nameRoom, padded, bytesOf}
 use Rattle.names.proofs.Rule.{values, agree}
 use Rattle.names.proofs.Rows.{name-room}
 use Rattle.names.proofs.Laws.{both-split, bytes-padded, name-from}

@@ -16,7 +16,8 @@ use Rattle.wire.proofs.Scan.{both-assoc, both-true}
 use Rattle.names.specs.declared.Name.{Name}
 use Rattle.names.specs.declared.NameList.{NameList}
 use Rattle.names.specs.declared.CodeFound.{CodeFound}
-use Rattle.names.specs.Names.{methodNames, requestNames, responseNames, attributeNames, namesIn, firstCode, ignoresCase, nameRoom, rowOf, padded, bytesOf, isListed, nameFor, letter, sameName, codeFrom, codeIn}
+use Rattle.names.specs.Names.{methodNames, requestNames, responseNames, attributeNames, namesIn, firstCode, ignoresCase, isListed, nameFor, letter, sameName, codeFrom, codeIn}
+use Rattle.names.specs.Row.{nameRoom, rowOf, padded, bytesOf}
 
 -- two tests that both hold
 pub both-split : (a b : Bool) → both a b ≡ true → (a ≡ true) × (b ≡ true)

@@ -12,7 +12,8 @@ use lib.ListN.{length, getD, replicate, List·getD-eq-default}
 use lib.Dec.{leb, lit≤}
 use Rattle.wire.specs.Pick.{all}
 use Rattle.names.specs.declared.NameList.{NameList}
-use Rattle.names.specs.Names.{methodNames, requestNames, responseNames, attributeNames, namesIn, lengthsIn, nameRoom, rowOf}
+use Rattle.names.specs.Names.{methodNames, requestNames, responseNames, attributeNames, namesIn}
+use Rattle.names.specs.Row.{lengthsIn, nameRoom, rowOf}
 use Rattle.names.proofs.Laws.{both-split}
 
 -- a row of the table of a list of names

@@ -3,15 +3,14 @@
 -- its value; `req_attribute` is what the public AJP13 text calls that code.
 -- Assumes nothing.
 use mathlib.Core.Bool.{Bool, true, false}
-use mathlib.Core.List.{List, [], _∷_, _++_, map}
+use mathlib.Core.List.{List, [], _∷_}
 use Prim.Native.Nat.{ℕ, _+_, _-_}
 use Prim.Native.Char.{code}
 use Prim.Native.String.{String, [] as empty, _∷_ as _then_}
 use lib.Dec.{leb, ltb, eqb}
-use lib.ListN.{length, getD, take, replicate}
+use lib.ListN.{length, getD}
 use Rattle.wire.specs.Pick.{pick, both, between}
 use Rattle.names.specs.declared.NameList.{NameList}
-use Rattle.names.specs.declared.Name.{Name}
 use Rattle.names.specs.declared.CodeFound.{CodeFound}
 
 -- the bytes of a text
@@ -108,10 +107,6 @@ namesIn NameList.RequestHeaders = requestNames
 namesIn NameList.ResponseHeaders = responseNames
 namesIn NameList.Attributes = attributeNames
 
--- the lengths of a list's names with zeros behind them, as many as the longest list has names
-abbrev pub lengthsIn : NameList → List ℕ
-lengthsIn list = map length (namesIn list) ++ replicate (27 - length (namesIn list)) 0
-
 -- the code of a list's first name; the others follow in order
 abbrev pub firstCode : NameList → ℕ
 firstCode NameList.Methods = 1
@@ -133,22 +128,6 @@ isListed list n = both (leb (firstCode list) n) (ltb n (firstCode list + length 
 -- the name for a code; no bytes where it is not listed
 unfoldable pub nameFor : NameList → ℕ → List ℕ
 nameFor list n = pick (leb (firstCode list) n) (getD (namesIn list) (n - firstCode list) []) []
-
--- room for the longest name, transfer-encoding
-abbrev pub nameRoom : ℕ
-nameRoom = 17
-
--- a name's bytes with zeros behind them
-abbrev pub rowOf : List ℕ → List ℕ
-rowOf name = name ++ replicate (nameRoom - length name) 0
-
--- a name as it is handed out: its bytes with zeros behind them, and how many it has
-abbrev pub padded : List ℕ → Name
-padded name = record { bytes = rowOf name; length = length name }
-
--- the bytes of a name that was handed out
-abbrev pub bytesOf : Name → List ℕ
-bytesOf name = take (name .length) (name .bytes)
 
 -- a letter as it is compared: a capital one as a small one where case is ignored
 unfoldable pub letter : Bool → ℕ → ℕ

@@ -2,6 +2,7 @@
 ghost use mathlib.Core.Path.{_≡_};
 ghost use Rattle.names.specs.Attribute.{attributeKind, mayRepeat, isServed, attributeFault};
 use crate::AttributeKind;
+use wire::refusal;
 
 // What value the attribute with a code has.
 pub fn kind_of(code: u8) -> AttributeKind
@@ -40,12 +41,12 @@ pub fn code_fault(code: u8, seen: bool) -> u8
     ensures { λ r. ⌜ r ≡ attributeFault code seen ⌝ }
 {
     if !is_served(kind_of(code)) {
-        return wire::refusal::ATTRIBUTE_WRONG;
+        return refusal::ATTRIBUTE_WRONG;
     }
     if seen {
         if !may_repeat(code) {
-            return wire::refusal::ATTRIBUTE_WRONG;
+            return refusal::ATTRIBUTE_WRONG;
         }
     }
-    wire::refusal::NONE
+    refusal::NONE
 }

@@ -2,9 +2,13 @@
 ghost use mathlib.Core.Path.{_≡_};
 ghost use Rattle.names.specs.Header.{headerNames, codeFault, isTransferEncoding, unlistedFault, spelledFault};
 use crate::CodeFound;
+use crate::NAME_ROOM;
 use crate::Name;
 use crate::NameList;
+use crate::table;
+use crate::token;
 use wire::Direction;
+use wire::refusal;
 
 // The first byte of a name that is a code.
 pub const CODE_MARK: u8 = 0xA0;
@@ -23,10 +27,10 @@ pub fn names_of(direction: Direction) -> NameList
 pub fn code_fault(direction: Direction, code: u16) -> u8
     ensures { λ r. ⌜ r ≡ codeFault direction code ⌝ }
 {
-    if crate::table::is_listed(names_of(direction), code) {
-        return wire::refusal::NONE;
+    if table::is_listed(names_of(direction), code) {
+        return refusal::NONE;
     }
-    wire::refusal::NAME_WRONG
+    refusal::NAME_WRONG
 }
 
 // Whether a text spells transfer-encoding.
@@ -35,20 +39,20 @@ pub fn is_transfer_encoding(text: &[u8]) -> bool
 {
     let name = Name {
         bytes: *b"transfer-encoding",
-        length: crate::NAME_ROOM,
+        length: NAME_ROOM,
     };
-    crate::table::spells(name, text, true)
+    table::spells(name, text, true)
 }
 
 // The refusal of a text as a header's spelled name, 0 for none. That it is not empty is the string's own rule.
 pub fn spelled_fault(direction: Direction, text: &[u8]) -> u8
     ensures { λ r. ⌜ r ≡ spelledFault direction (now (text .entry)) ⌝ }
 {
-    if !crate::token::is_token(text) {
-        return wire::refusal::NAME_WRONG;
+    if !token::is_token(text) {
+        return refusal::NAME_WRONG;
     }
-    match crate::table::code_of(names_of(direction), text) {
-        CodeFound::Code(_) => wire::refusal::NAME_WRONG,
+    match table::code_of(names_of(direction), text) {
+        CodeFound::Code(_) => refusal::NAME_WRONG,
         CodeFound::NotListed => unlisted_fault(direction, text),
     }
 }
@@ -58,12 +62,12 @@ fn unlisted_fault(direction: Direction, text: &[u8]) -> u8
     ensures { λ r. ⌜ r ≡ unlistedFault direction (now (text .entry)) ⌝ }
 {
     match direction {
-        Direction::ToServer => wire::refusal::NONE,
+        Direction::ToServer => refusal::NONE,
         Direction::ToContainer => {
             if is_transfer_encoding(text) {
-                return wire::refusal::LENGTH_WRONG;
+                return refusal::LENGTH_WRONG;
             }
-            wire::refusal::NONE
+            refusal::NONE
         }
     }
 }

@@ -1,6 +1,7 @@
 // The declared length of a request's body.
 ghost use mathlib.Core.Path.{_≡_};
 ghost use Rattle.names.specs.Length.{decimalOf, declare, declaredLength};
+use wire::refusal;
 
 // The code of content-length in a request.
 pub const CONTENT_LENGTH: u16 = 0xA008;
@@ -57,7 +58,7 @@ pub fn declare_length(before: Declared, text: &[u8], null: bool) -> Declaring
     ensures { λ r. ⌜ r ≡ declare before null (now (text .entry)) ⌝ }
 {
     match before {
-        Declared::Known(_) => Declaring::Refused(wire::refusal::LENGTH_WRONG),
+        Declared::Known(_) => Declaring::Refused(refusal::LENGTH_WRONG),
         Declared::Absent => first_length(text, null),
     }
 }
@@ -67,10 +68,10 @@ fn first_length(text: &[u8], null: bool) -> Declaring
     ensures { λ r. ⌜ r ≡ declare Declared.Absent null (now (text .entry)) ⌝ }
 {
     if null {
-        return Declaring::Refused(wire::refusal::LENGTH_WRONG);
+        return Declaring::Refused(refusal::LENGTH_WRONG);
     }
     match decimal_of(text) {
-        Decimal::Bad => Declaring::Refused(wire::refusal::LENGTH_WRONG),
+        Decimal::Bad => Declaring::Refused(refusal::LENGTH_WRONG),
         Decimal::Value(n) => Declaring::Now(Declared::Known(n)),
     }
 }

@@ -3,7 +3,8 @@
 ghost use mathlib.Core.Path.{_≡_};
 ghost use mathlib.Core.List.{[]};
 ghost use lib.ListN.{getD, length};
-ghost use Rattle.names.specs.Names.{methodNames, requestNames, responseNames, attributeNames, namesIn, lengthsIn, firstCode, ignoresCase, isListed, nameFor, rowOf, padded, bytesOf, letter, sameName, codeIn};
+ghost use Rattle.names.specs.Names.{methodNames, requestNames, responseNames, attributeNames, namesIn, firstCode, ignoresCase, isListed, nameFor, letter, sameName, codeIn};
+ghost use Rattle.names.specs.Row.{lengthsIn, rowOf, padded, bytesOf};
 use crate::CodeFound;
 use crate::NAME_ROOM;
 use crate::Name;

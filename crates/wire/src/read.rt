@@ -1,6 +1,11 @@
 // Reads a field at a place of a packet.
 ghost use mathlib.Core.Path.{_≡_};
 ghost use Rattle.wire.specs.Field.{byteAt, integerAt, booleanAt, textAt, afterLength, stringAt};
+use crate::NULL_LENGTH;
+use crate::has_room;
+use crate::holds_barred;
+use crate::part_of;
+use crate::refusal;
 
 // A byte or an integer: refused, or its value and the place after it.
 pub enum NumberRead {
@@ -31,8 +36,8 @@ pub enum StringRead {
 pub fn byte(packet: &[u8], at: usize) -> NumberRead
     ensures { λ r. ⌜ r ≡ byteAt (now (packet .entry)) at ⌝ }
 {
-    if !crate::has_room(packet.len(), at, 1) {
-        return NumberRead::Refused(crate::refusal::CUT_SHORT);
+    if !has_room(packet.len(), at, 1) {
+        return NumberRead::Refused(refusal::CUT_SHORT);
     }
     let value = packet[at] as u16;
     NumberRead::Number {
@@ -45,8 +50,8 @@ pub fn byte(packet: &[u8], at: usize) -> NumberRead
 pub fn integer(packet: &[u8], at: usize) -> NumberRead
     ensures { λ r. ⌜ r ≡ integerAt (now (packet .entry)) at ⌝ }
 {
-    if !crate::has_room(packet.len(), at, 2) {
-        return NumberRead::Refused(crate::refusal::CUT_SHORT);
+    if !has_room(packet.len(), at, 2) {
+        return NumberRead::Refused(refusal::CUT_SHORT);
     }
     let high = packet[at] as u16;
     let low = packet[at + 1] as u16;
@@ -70,7 +75,7 @@ pub fn boolean(packet: &[u8], at: usize) -> BooleanRead
             if value == 1 {
                 return BooleanRead::Boolean { value: true, next };
             }
-            BooleanRead::Refused(crate::refusal::OUT_OF_RANGE)
+            BooleanRead::Refused(refusal::OUT_OF_RANGE)
         }
     }
 }
@@ -89,15 +94,15 @@ pub fn string(packet: &[u8], at: usize, optional: bool) -> StringRead
 fn after_length(packet: &[u8], optional: bool, len: u16, start: usize) -> StringRead
     ensures { λ r. ⌜ r ≡ afterLength (now (packet .entry)) optional len start ⌝ }
 {
-    if len == crate::NULL_LENGTH {
+    if len == NULL_LENGTH {
         if optional {
             return StringRead::Null { next: start };
         }
-        return StringRead::Refused(crate::refusal::STRING_WRONG);
+        return StringRead::Refused(refusal::STRING_WRONG);
     }
     if len == 0 {
         if !optional {
-            return StringRead::Refused(crate::refusal::STRING_WRONG);
+            return StringRead::Refused(refusal::STRING_WRONG);
         }
     }
     text(packet, start, len)
@@ -108,15 +113,15 @@ fn text(packet: &[u8], start: usize, len: u16) -> StringRead
     ensures { λ r. ⌜ r ≡ textAt (now (packet .entry)) start len ⌝ }
 {
     let n = len as usize;
-    if !crate::has_room(packet.len(), start, n + 1) {
-        return StringRead::Refused(crate::refusal::CUT_SHORT);
+    if !has_room(packet.len(), start, n + 1) {
+        return StringRead::Refused(refusal::CUT_SHORT);
     }
     let end = start + n;
     if packet[end] != 0 {
-        return StringRead::Refused(crate::refusal::STRING_WRONG);
+        return StringRead::Refused(refusal::STRING_WRONG);
     }
-    if crate::holds_barred(crate::part_of(packet, start, n)) {
-        return StringRead::Refused(crate::refusal::STRING_WRONG);
+    if holds_barred(part_of(packet, start, n)) {
+        return StringRead::Refused(refusal::STRING_WRONG);
     }
     StringRead::Text {
         start,

@@ -6,12 +6,15 @@ ghost use Rattle.wire.specs.Bytes.{put, integerBytes};
 ghost use Rattle.wire.specs.Field.{booleanBytes, stringBytes, putString};
 ghost use Rattle.wire.specs.Packet.{head};
 use crate::Direction;
+use crate::NULL_LENGTH;
+use crate::has_room;
+use crate::leading_bytes;
 
 // Copies bytes into the buffer from a place on.
 pub fn bytes(buffer: &mut [u8], at: usize, from: &[u8])
     ensures { λ _. ⌜ now (buffer .exit) ≡ put (now (buffer .entry)) at (now (from .entry)) ⌝ }
 {
-    if crate::has_room(buffer.len(), at, from.len()) {
+    if has_room(buffer.len(), at, from.len()) {
         let mut i = 0;
         while i < from.len() {
             buffer[at + i] = from[i];
@@ -20,10 +23,11 @@ pub fn bytes(buffer: &mut [u8], at: usize, from: &[u8])
     }
 }
 
+// Writes a byte.
 pub fn byte(buffer: &mut [u8], at: usize, value: u8)
     ensures { λ _. ⌜ now (buffer .exit) ≡ put (now (buffer .entry)) at (value ∷ []) ⌝ }
 {
-    if crate::has_room(buffer.len(), at, 1) {
+    if has_room(buffer.len(), at, 1) {
         buffer[at] = value;
     }
 }
@@ -32,12 +36,13 @@ pub fn byte(buffer: &mut [u8], at: usize, value: u8)
 pub fn integer(buffer: &mut [u8], at: usize, value: u16)
     ensures { λ _. ⌜ now (buffer .exit) ≡ put (now (buffer .entry)) at (integerBytes value) ⌝ }
 {
-    if crate::has_room(buffer.len(), at, 2) {
+    if has_room(buffer.len(), at, 2) {
         buffer[at] = (value / 256 % 256) as u8;
         buffer[at + 1] = (value % 256) as u8;
     }
 }
 
+// Writes a boolean: 1 for true, 0 for false.
 pub fn boolean(buffer: &mut [u8], at: usize, value: bool)
     ensures { λ _. ⌜ now (buffer .exit) ≡ put (now (buffer .entry)) at (booleanBytes value) ⌝ }
 {
@@ -63,14 +68,14 @@ pub fn string(buffer: &mut [u8], at: usize, text: &[u8], null: bool)
     ensures { λ _. ⌜ now (buffer .exit) ≡ putString (now (buffer .entry)) at null (now (text .entry)) ⌝ }
 {
     if null {
-        integer(buffer, at, crate::NULL_LENGTH);
+        integer(buffer, at, NULL_LENGTH);
         return;
     }
     let n = text.len();
-    if crate::NULL_LENGTH as usize <= n {
+    if NULL_LENGTH as usize <= n {
         return;
     }
-    if crate::has_room(buffer.len(), at, n + 3) {
+    if has_room(buffer.len(), at, n + 3) {
         integer(buffer, at, n as u16);
         bytes(buffer, at + 2, text);
         byte(buffer, at + 2 + n, 0);
@@ -81,8 +86,8 @@ pub fn string(buffer: &mut [u8], at: usize, text: &[u8], null: bool)
 pub fn packet_head(buffer: &mut [u8], direction: Direction, length: u16)
     ensures { λ _. ⌜ now (buffer .exit) ≡ put (now (buffer .entry)) 0 (head direction length) ⌝ }
 {
-    if crate::has_room(buffer.len(), 0, 4) {
-        let first = crate::leading_bytes(direction);
+    if has_room(buffer.len(), 0, 4) {
+        let first = leading_bytes(direction);
         bytes(buffer, 0, &first);
         integer(buffer, 2, length);
     }

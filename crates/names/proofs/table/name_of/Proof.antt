@@ -6,7 +6,8 @@ use native.Mathlib.Omega.{arith}
 use mathlib.Core.List.{[]}
 use Prim.Native.Nat.{_-_}
 use lib.ListN.{getD}
-use Rattle.names.specs.Names.{namesIn, padded}
+use Rattle.names.specs.Names.{namesIn}
+use Rattle.names.specs.Row.{padded}
 use Rattle.names.proofs.Laws.{name-below, name-from, as-padded}
 use Rattle.names.proofs.table.name_of.Statement.{statement}
 use Rattle.names.proofs.table.name_of.Tie as tie

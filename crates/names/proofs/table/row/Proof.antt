@@ -5,7 +5,8 @@ use mathlib.Core.Path.{sym, ap, _∙_}
 use mathlib.Core.List.{[]}
 use lib.ListN.{getD}
 use Rattle.names.specs.declared.NameList.{NameList}
-use Rattle.names.specs.Names.{namesIn, rowOf}
+use Rattle.names.specs.Names.{namesIn}
+use Rattle.names.specs.Row.{rowOf}
 use Rattle.names.proofs.table.row.Statement.{statement}
 use Rattle.names.proofs.table.row.Tie as tie
 

@@ -10,7 +10,8 @@ use lib.Dec.{eqb}
 use lib.ListN.{length, getD, take, drop, length-map}
 use lib.Seq.{length-take-le, getD-take}
 use Rattle.wire.specs.Pick.{both}
-use Rattle.names.specs.Names.{bytesOf, sameName, letter}
+use Rattle.names.specs.Names.{sameName, letter}
+use Rattle.names.specs.Row.{bytesOf}
 use Rattle.names.proofs.Laws.{same-step, same-end, same-length, take-past}
 use Rattle.names.proofs.table.spells.Statement.{statement}
 use Rattle.names.proofs.table.spells.Tie as tie
