@@ -9,7 +9,7 @@ use native.Mathlib.Omega.{arith}
 use borrow.Author.Tests.{eqb-true, leb-true}
 use lib.Dec.{eqb, leb}
 use Rattle.wire.specs.Pick.{pick, both}
-use Rattle.wire.specs.Refusal.{notNow, sizeWrong}
+use Rattle.wire.specs.Refusal.{none, notNow, sizeWrong}
 use Rattle.wire.specs.declared.Direction.{Direction}
 use Rattle.connection.specs.declared.State.{State}
 use Rattle.connection.specs.declared.Connection.{Connection}
@@ -17,7 +17,7 @@ use Rattle.connection.specs.declared.Kind.{Kind}
 use Rattle.connection.specs.declared.Move.{Move}
 use Rattle.connection.specs.declared.Step.{Step}
 use Rattle.connection.specs.Connection.{maxBody, isIdle, isPinged, isBusy, fields, bare, busy, counted, bodyDue}
-use Rattle.connection.specs.Cycle.{kindOf, directionOf, inState, largestBody, sizeAllowed, inSize, allowed, after, stepOf}
+use Rattle.connection.specs.Cycle.{kindOf, directionOf, inState, largestBody, sizeAllowed, inSize, allowed, after, stepOf, numberIn, connectionIn}
 use Rattle.connection.proofs.Laws.{largest-by, step-by}
 
 -- two constructors are never equal
@@ -274,3 +274,22 @@ step-refused-state c m e = step-by c m false (inSize c m) e refl
 
 pub step-refused-size : (c : Connection) (m : Move) → inState c (kindOf m) ≡ true → inSize c m ≡ false → stepOf c m ≡ Step.Refused sizeWrong
 step-refused-size c m e f = step-by c m true false e f
+
+-- a step's number and connection: refused, its number and the connection as it was; else 0 and the connection after the move
+pub step-number : (c : Connection) (m : Move) → numberIn (stepOf c m) ≡ pick (inState c (kindOf m)) (pick (inSize c m) none sizeWrong) notNow
+unfolding stepOf
+step-number c m = go (inState c (kindOf m)) (inSize c m)
+  where
+    go : (a b : Bool) → numberIn (pick a (pick b (Step.Next (after c m)) (Step.Refused sizeWrong)) (Step.Refused notNow)) ≡ pick a (pick b none sizeWrong) notNow
+    go true true = refl
+    go true false = refl
+    go false b = refl
+
+pub step-connection : (c : Connection) (m : Move) → connectionIn c (stepOf c m) ≡ pick (allowed c m) (after c m) c
+unfolding stepOf
+step-connection c m = go (inState c (kindOf m)) (inSize c m)
+  where
+    go : (a b : Bool) → connectionIn c (pick a (pick b (Step.Next (after c m)) (Step.Refused sizeWrong)) (Step.Refused notNow)) ≡ pick (both a b) (after c m) c
+    go true true = refl
+    go true false = refl
+    go false b = refl

@@ -7,7 +7,7 @@ use Rattle.wire.specs.Pick.{pick, both}
 use Rattle.connection.specs.declared.State.{State}
 use Rattle.connection.specs.declared.Connection.{Connection}
 
--- a whole packet, its payload, and the bytes of a body packet, at most
+-- the most bytes of a packet, of its payload, and of the body in a body packet
 abbrev pub maxPacket : ℕ
 maxPacket = 8192
 

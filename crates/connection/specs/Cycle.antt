@@ -1,12 +1,12 @@
 -- The cycle of a connection, one rule for the end that sends and the end that receives. The table of document 01, 'The cycle',
 -- is `inState` (which state and record allow a kind of packet) and `after` (the connection then), a row a line.
--- A record may hold anything in what does not count: nothing here looks at it, and nothing of it is left after a move.
+-- A record may hold anything in what does not count: a step does not look at it (the law `ignored`) and leaves nothing of it (`settled`).
 -- Assumes nothing.
 use mathlib.Core.Bool.{Bool, true, false, not}
 use Prim.Native.Nat.{ℕ, _-_, min}
 use lib.Dec.{ltb, eqb}
 use Rattle.wire.specs.Pick.{pick, both, between}
-use Rattle.wire.specs.Refusal.{notNow, sizeWrong}
+use Rattle.wire.specs.Refusal.{none, notNow, sizeWrong}
 use Rattle.wire.specs.declared.Direction.{Direction}
 use Rattle.connection.specs.declared.State.{State}
 use Rattle.connection.specs.declared.Connection.{Connection}
@@ -89,3 +89,13 @@ stepOf c m =
     pick (inState c (kindOf m))
     (pick (inSize c m) (Step.Next (after c m)) (Step.Refused sizeWrong))
     (Step.Refused notNow)
+
+-- what each case of an answer says in document 01's terms: its refusal number, 0 for none, and the connection that the caller then
+-- has, the one given where the move is refused
+abbrev pub numberIn : Step → ℕ
+numberIn (Step.Refused n) = n
+numberIn (Step.Next c) = none
+
+abbrev pub connectionIn : Connection → Step → Connection
+connectionIn given (Step.Refused n) = given
+connectionIn given (Step.Next c) = c

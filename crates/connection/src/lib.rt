@@ -1,9 +1,10 @@
 // One end's connection, and the cycle that every packet steps it through. It does not know which end holds it.
 // This crate alone makes a connection record or takes one apart. No call has a condition: any record gets an answer.
 ghost use mathlib.Core.Path.{_≡_};
-ghost use Rattle.connection.specs.Connection.{fresh, fields, bare, busy, isIdle, isPinged, isBusy, bodyDue};
+ghost use Rattle.connection.specs.Connection.{maxPacket, maxPayload, fresh, fields, bare, busy, isIdle, isPinged, isBusy, bodyDue};
 ghost use Rattle.connection.specs.Cycle.{kindOf, directionOf, inState, largestBody, sizeAllowed, inSize, after, stepOf};
 ghost use Prim.Native.Nat.{_-_};
+ghost use lib.Dec.{leb};
 ghost use Rattle.wire.specs.Pick.{pick};
 use wire::Direction;
 use wire::refusal;
@@ -149,11 +150,25 @@ impl Connection {
 
     pub const MAX_BODY: u16 = 8186;
 
-    // A fresh connection is Idle, whichever end holds it.
+    // A connection made new: Idle, for either end.
     pub fn fresh() -> Connection
         ensures { λ r. ⌜ r ≡ fresh ⌝ }
     {
         Self::bare(State::Idle)
+    }
+
+    // Whether a payload of so many bytes fits a packet, else it is refused with 2.
+    pub fn fits_payload(length: usize) -> bool
+        ensures { λ r. ⌜ r ≡ leb length maxPayload ⌝ }
+    {
+        length <= Self::MAX_PAYLOAD
+    }
+
+    // Whether so many bytes are no more than a packet may have.
+    pub fn fits_packet(length: usize) -> bool
+        ensures { λ r. ⌜ r ≡ leb length maxPacket ⌝ }
+    {
+        length <= Self::MAX_PACKET
     }
 
     // A connection with these fields as they stand, whether they count or not.

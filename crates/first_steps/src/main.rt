@@ -1,4 +1,4 @@
-// The ground floor at work: fields written and read back, names looked up both ways, and a request taken through the cycle.
+// Shows the crates below at work: fields written and read back, names looked up both ways, a request taken through the cycle.
 mod cycle;
 mod fields;
 mod names_both_ways;

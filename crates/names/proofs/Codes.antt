@@ -1,6 +1,6 @@
 -- What holds of the tables as a whole: how many bytes a name may hold, how long a name is, and that codes and names go both ways.
 -- Assumes nothing.
-use borrow.Author.Tests.{leb-true, ltb-true, le-leb, lt-ltb}
+use borrow.Author.Tests.{leb-true, ltb-true, eqb-true, le-leb, lt-ltb}
 use mathlib.Core.Path.{_≡_, refl, ap, _∙_}
 use mathlib.Core.Bool.{Bool, true, false}
 use mathlib.Core.List.{List, [], _∷_}
@@ -12,7 +12,9 @@ use Rattle.wire.specs.Pick.{pick}
 use Rattle.names.specs.declared.NameList.{NameList}
 use Rattle.names.specs.declared.CodeFound.{CodeFound}
 use Rattle.names.specs.Token.{tokenByte}
-use Rattle.names.specs.Names.{methodNames, requestNames, responseNames, attributeNames, namesIn, firstCode, isListed, nameFor, letter, sameName, codeFrom, codeIn}
+use Rattle.names.specs.Attribute.{attributeKind, isServed}
+use Rattle.names.specs.Length.{isContentLength}
+use Rattle.names.specs.Names.{ascii, methodNames, requestNames, responseNames, attributeNames, namesIn, firstCode, ignoresCase, isListed, nameFor, letter, sameName, codeFrom, codeIn}
 use Rattle.names.specs.Row.{nameRoom, padded, bytesOf}
 use Rattle.names.proofs.Rule.{values, agree}
 use Rattle.names.proofs.Rows.{name-room}
@@ -94,3 +96,38 @@ unfolding isListed codeIn
 found-listed list text n e =
     let w = found-within _ _ _ text n e in
     rw (le-leb (firstCode list) n (w .0), lt-ltb n (firstCode list + length (namesIn list)) (w .1))
+
+-- the name at a found code's place is the one that the text spells
+found-name : (ignoring : Bool) (first : ℕ) (names : List (List ℕ)) (text : List ℕ) (n : ℕ)
+    → codeFrom ignoring first names text ≡ CodeFound.Code n → sameName ignoring (getD names (n - first) []) text ≡ true
+unfolding codeFrom
+found-name ignoring first [] text n e = let z : _≡_ {A = ℕ} 0 1 = cc in absurd (omega arith)
+found-name ignoring first (name ∷ names) text n e =
+    go (sameName ignoring name text) refl e (found-name ignoring (first + 1) names text n) (found-within ignoring (first + 1) names text n)
+  where
+    go : (t : Bool) → sameName ignoring name text ≡ t
+        → pick t (CodeFound.Code first) (codeFrom ignoring (first + 1) names text) ≡ CodeFound.Code n
+        → (codeFrom ignoring (first + 1) names text ≡ CodeFound.Code n → sameName ignoring (getD names (n - (first + 1)) []) text ≡ true)
+        → (codeFrom ignoring (first + 1) names text ≡ CodeFound.Code n → (first + 1 ≤ n) × (n < first + 1 + length names))
+        → sameName ignoring (getD (name ∷ names) (n - first) []) text ≡ true
+    go true s e ih w = let q : n - first ≡ 0 = let p : first ≡ n = cc in omega arith in rw q s
+    go false s e ih w = let q : n - first ≡ suc (n - (first + 1)) = omega (arith, w e) in rw q (ih e)
+
+-- a text spells the name for the code that it is found to have
+pub found-spelled : (list : NameList) (text : List ℕ) (n : ℕ) → codeIn list text ≡ CodeFound.Code n
+    → sameName (ignoresCase list) (nameFor list n) text ≡ true
+unfolding codeIn
+found-spelled list text n e =
+    let w = found-within (ignoresCase list) (firstCode list) (namesIn list) text n e in
+    ap (λ (name : List ℕ). sameName (ignoresCase list) name text) (name-from list n (firstCode list) refl (w .0))
+    ∙ found-name (ignoresCase list) (firstCode list) (namesIn list) text n e
+
+-- the code of content-length is that of its name in the list
+pub content-length : (n : ℕ) → isContentLength n ≡ true → nameFor NameList.RequestHeaders n ≡ ascii "content-length"
+unfolding nameFor requestNames
+content-length n e = let q : n ≡ 0xA008 = eqb-true n 0xA008 e in rw q
+
+-- the attribute codes that are served are those that have a name
+pub served-listed : (n : ℕ) → n < 256 → isServed (attributeKind n) ≡ isListed NameList.Attributes n
+unfolding attributeKind isListed attributeNames
+served-listed n h = agree (λ (k : ℕ). isServed (attributeKind k)) (isListed NameList.Attributes) false 256 refl n h

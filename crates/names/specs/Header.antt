@@ -13,9 +13,9 @@ use Rattle.names.specs.declared.CodeFound.{CodeFound}
 use Rattle.names.specs.Token.{isToken}
 use Rattle.names.specs.Names.{ascii, isListed, sameName, codeIn}
 
--- a name whose first byte is A0 is a code; otherwise its two bytes begin a string
-abbrev pub codeMark : ℕ
-codeMark = 0xA0
+-- whether a name that begins with this byte is a code; if not, its first two bytes are a string's length
+abbrev pub beginsCode : ℕ → Bool
+beginsCode first = eqb first 0xA0
 
 -- the header names of a direction
 abbrev pub headerNames : Direction → NameList

@@ -1,10 +1,10 @@
 -- The declared length of a request's body: the value of content-length.
--- Document 01, 'Server to container': at most once; 1 to 10 decimal digits, at most 4294967295; absent means 0; else 10.
+-- Document 01, 'Server to container', Header, and row 10 of its refusals.
 -- Assumes nothing.
 use mathlib.Core.Bool.{Bool}
 use mathlib.Core.List.{List, [], _∷_}
 use Prim.Native.Nat.{ℕ, _+_, _-_, _*_}
-use lib.Dec.{leb}
+use lib.Dec.{leb, eqb}
 use lib.ListN.{length}
 use Rattle.wire.specs.Pick.{pick, between}
 use Rattle.wire.specs.Refusal.{lengthWrong}
@@ -29,16 +29,16 @@ abbrev pub asDeclared : Decimal → Declaring
 asDeclared (Decimal.Value n) = Declaring.Now (Declared.Known n)
 asDeclared Decimal.Bad = Declaring.Refused lengthWrong
 
--- the code of content-length in a request
-abbrev pub contentLength : ℕ
-contentLength = 0xA008
+-- whether a request header's code is that of content-length
+abbrev pub isContentLength : ℕ → Bool
+isContentLength n = eqb n 0xA008
 
--- a content-length's value, by what was declared before it; a second one and null are bad
+-- what a content-length declares, by what was declared before it: once, and not by null
 abbrev pub declare : Declared → Bool → List ℕ → Declaring
 declare Declared.Absent null text = pick null (Declaring.Refused lengthWrong) (asDeclared (decimalOf text))
 declare (Declared.Known n) null text = Declaring.Refused lengthWrong
 
--- absent means 0
+-- the length then; 0 where none was declared
 abbrev pub declaredLength : Declared → ℕ
 declaredLength Declared.Absent = 0
 declaredLength (Declared.Known n) = n

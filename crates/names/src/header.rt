@@ -1,6 +1,6 @@
 // What a header's name may be.
 ghost use mathlib.Core.Path.{_≡_};
-ghost use Rattle.names.specs.Header.{headerNames, codeFault, isTransferEncoding, unlistedFault, spelledFault};
+ghost use Rattle.names.specs.Header.{beginsCode, headerNames, codeFault, isTransferEncoding, unlistedFault, spelledFault};
 use crate::CodeFound;
 use crate::NAME_ROOM;
 use crate::Name;
@@ -10,8 +10,12 @@ use crate::token;
 use wire::Direction;
 use wire::refusal;
 
-// The first byte of a name that is a code.
-pub const CODE_MARK: u8 = 0xA0;
+// Whether a name that begins with this byte is a code, and no string.
+pub fn begins_code(first: u8) -> bool
+    ensures { λ r. ⌜ r ≡ beginsCode first ⌝ }
+{
+    first == 0xA0
+}
 
 // The header names of a direction.
 pub fn names_of(direction: Direction) -> NameList

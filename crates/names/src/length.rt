@@ -1,10 +1,14 @@
 // The declared length of a request's body.
 ghost use mathlib.Core.Path.{_≡_};
-ghost use Rattle.names.specs.Length.{decimalOf, declare, declaredLength};
+ghost use Rattle.names.specs.Length.{isContentLength, decimalOf, declare, declaredLength};
 use wire::refusal;
 
-// The code of content-length in a request.
-pub const CONTENT_LENGTH: u16 = 0xA008;
+// Whether a request header's code is that of content-length.
+pub fn is_content_length(code: u16) -> bool
+    ensures { λ r. ⌜ r ≡ isContentLength code ⌝ }
+{
+    code == 0xA008
+}
 
 // A decimal number.
 pub enum Decimal {

@@ -18,7 +18,7 @@ pub enum NameList {
 // Room for the longest name, transfer-encoding.
 pub const NAME_ROOM: usize = 17;
 
-// A name that is handed out: its bytes, zeros behind them, and how many bytes it has. None where there is no such name.
+// A name that is handed out: its bytes, zeros behind them, and how many bytes it has. Where there is no such name it has 0.
 pub struct Name {
     pub bytes: [u8; NAME_ROOM],
     pub length: usize,

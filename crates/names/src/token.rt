@@ -16,7 +16,7 @@ pub fn is_token(text: &[u8]) -> bool
     good
 }
 
-// For each of the 256 byte values, whether a name may hold it; beside it, the character.
+// A flag for each byte value, set where it is a token byte; beside it, the character.
 const TOKEN: [bool; 256] = [
     false,
     false,

@@ -1,5 +1,5 @@
--- Laws for a loop that passes over a whole list and keeps the answer so far in a flag: the flag, joined with the test over what
--- is left, is the test over the whole. One pair of laws for `any` and one for `all`, over any test.
+-- A loop that goes over a whole list with a flag for its answer so far. What it keeps true: the flag and the test of the elements
+-- still to come, put together, are the test of all elements. A law for a turn and one for the end, for `any` and for `all`.
 -- Assumes nothing.
 use mathlib.Core.Path.{_≡_, refl, sym, ap, _∙_}
 use mathlib.Core.Bool.{Bool, true, false}

@@ -1,5 +1,5 @@
 -- Parts of a list of bytes, bytes laid over a list, and numbers as two bytes.
--- Document 01, 'Bytes and numbers': all numbers are high byte first; an integer is 2 bytes, 0 to 65535.
+-- Document 01, 'Bytes and numbers': an integer has two bytes, the high one before the low one.
 -- Assumes nothing.
 use mathlib.Core.List.{List, [], _∷_, _++_}
 use Prim.Native.Nat.{ℕ, _+_, _*_, _/_, _%_}

@@ -1,7 +1,6 @@
 -- The fields of a packet: byte, integer, boolean and string; what reading one at a place answers, and what bytes it is.
 -- The packet is a list that ends where the packet ends, so a field that runs past it is cut short (3).
--- Document 01, 'Bytes and numbers', with the order of a string's faults from 'Refusal numbers': its length present (3), null or
--- empty where barred (6), its bytes and last zero present (3), zeros (6).
+-- Document 01, 'Bytes and numbers', and from 'Refusal numbers' the order in which a string's faults are judged: 3, 6, 3, 6.
 -- Assumes nothing.
 use mathlib.Core.Bool.{Bool, true, false, not}
 use mathlib.Core.List.{List, [], _∷_, _++_}
@@ -51,7 +50,7 @@ barred b = eqb b 0
 abbrev pub holdsBarred : List ℕ → Bool
 holdsBarred = any barred
 
--- null or empty is refused for protocol, req_uri and every header or attribute name; all other strings may be either
+-- which strings may be null or empty: all but protocol, req_uri and the names of headers and attributes
 abbrev pub isOptional : StringField → Bool
 isOptional StringField.Protocol = false
 isOptional StringField.ReqUri = false

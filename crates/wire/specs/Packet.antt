@@ -7,7 +7,7 @@ use lib.ListN.{length}
 use Rattle.wire.specs.Bytes.{integerBytes}
 use Rattle.wire.specs.declared.Direction.{Direction}
 
--- 12 34 from server to container, 41 42 from container to server
+-- 12 34 leads to the container, 41 42 to the server
 abbrev pub leading : Direction → List ℕ
 leading Direction.ToContainer = 0x12 ∷ 0x34 ∷ []
 leading Direction.ToServer = 0x41 ∷ 0x42 ∷ []

@@ -1,71 +1,94 @@
 -- The refusal numbers of document 01, each under a name, in the order of its table. `refusal` in src/ has the same list.
 -- Assumes nothing.
+use mathlib.Core.List.{List, [], _∷_}
 use Prim.Native.Nat.{ℕ}
 
 -- no fault
 abbrev pub none : ℕ
 none = 0
 
--- leading bytes wrong for this direction
+-- the first two bytes are not those of the direction
 abbrev pub leadingWrong : ℕ
 leadingWrong = 1
 
--- payload length above 8188
+-- a payload of over 8188 bytes
 abbrev pub tooLong : ℕ
 tooLong = 2
 
--- the payload ends inside a field, or before a code that is due
+-- the payload is over within a field, or where its code should be
 abbrev pub cutShort : ℕ
 cutShort = 3
 
--- code not of this direction
+-- a code that the direction does not have
 abbrev pub codeWrong : ℕ
 codeWrong = 4
 
--- a server's code 7 or 8
+-- 7 or 8 from a server
 abbrev pub codeNotServed : ℕ
 codeNotServed = 5
 
--- a string null or empty where barred, with a barred byte inside, or with a last byte that is not zero
+-- a string that lacks what its field asks for, holds a byte that it may not, or does not end in zero; a chunk that does not
 abbrev pub stringWrong : ℕ
 stringWrong = 6
 
--- method, boolean or status out of range
+-- a method, a boolean or a status that has no such value
 abbrev pub outOfRange : ℕ
 outOfRange = 7
 
--- a header name whose code is not listed, that is no token, or that is listed but spelled out
+-- a header name: an unlisted code, no token, or a listed name that is spelled
 abbrev pub nameWrong : ℕ
 nameWrong = 8
 
--- an attribute code not served, or single-use and repeated
+-- an attribute code that is not served, or comes again and may not
 abbrev pub attributeWrong : ℕ
 attributeWrong = 9
 
--- content-length bad, null or second; transfer-encoding
+-- content-length with a bad value, null, or for the second time; transfer-encoding
 abbrev pub lengthWrong : ℕ
 lengthWrong = 10
 
--- over 100 headers or over 64 attributes
+-- more than 100 headers, or than 64 attributes
 abbrev pub tooMany : ℕ
 tooMany = 11
 
--- bytes left after the last field
+-- bytes behind the last field
 abbrev pub leftOver : ℕ
 leftOver = 12
 
--- not allowed in this state
+-- a packet that the state does not allow
 abbrev pub notNow : ℕ
 notNow = 13
 
--- a body packet's size against the rule of the cycle
+-- a body packet of a size that the cycle does not allow
 abbrev pub sizeWrong : ℕ
 sizeWrong = 14
 
--- the lent table or buffer is too short
+-- a table or a buffer that is lent is too short
 abbrev pub lentTooShort : ℕ
 lentTooShort = 15
 
--- header after attribute, attribute on Send Headers, or impossible building record
+-- a header behind an attribute, an attribute on Send Headers, or a building record that cannot be
 abbrev pub recordWrong : ℕ
 recordWrong = 16
+
+-- all of them, each at its own place
+abbrev pub numbers : List ℕ
+numbers =
+    none
+    ∷ leadingWrong
+    ∷ tooLong
+    ∷ cutShort
+    ∷ codeWrong
+    ∷ codeNotServed
+    ∷ stringWrong
+    ∷ outOfRange
+    ∷ nameWrong
+    ∷ attributeWrong
+    ∷ lengthWrong
+    ∷ tooMany
+    ∷ leftOver
+    ∷ notNow
+    ∷ sizeWrong
+    ∷ lentTooShort
+    ∷ recordWrong
+    ∷ []

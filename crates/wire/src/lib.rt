@@ -3,7 +3,6 @@
 ghost use mathlib.Core.Path.{_≡_};
 ghost use Prim.Native.Nat.{_+_};
 ghost use lib.Dec.{leb};
-ghost use lib.ListN.{length};
 ghost use Rattle.wire.specs.Bytes.{part};
 ghost use Rattle.wire.specs.Field.{isOptional, barred, holdsBarred, stringAllowed};
 ghost use Rattle.wire.specs.Packet.{leading};
@@ -63,14 +62,14 @@ pub fn is_optional(field: StringField) -> bool
     }
 }
 
-// Whether `count` bytes from a place on lie within `length` bytes.
-pub fn has_room(length: usize, at: usize, count: usize) -> bool
-    ensures { λ r. ⌜ r ≡ leb (at + count) length ⌝ }
+// Whether `count` bytes from a place on lie within `size` bytes.
+pub fn has_room(size: usize, at: usize, count: usize) -> bool
+    ensures { λ r. ⌜ r ≡ leb (at + count) size ⌝ }
 {
-    if length < count {
+    if size < count {
         return false;
     }
-    at <= length - count
+    at <= size - count
 }
 
 // The bytes from a place on, `len` of them, or as many as there are.
@@ -88,7 +87,7 @@ pub fn part_of(s: &[u8], start: usize, len: usize) -> &[u8]
     &s[start..end]
 }
 
-// Whether no string may hold a byte.
+// Whether a byte is barred from strings.
 fn is_barred(b: u8) -> bool
     ensures { λ r. ⌜ r ≡ barred b ⌝ }
 {

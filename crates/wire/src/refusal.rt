@@ -1,4 +1,7 @@
-// The refusal numbers, in the order of their table. Each is what `specs/Refusal.antt` says of it.
+// The refusal numbers, under the names that `specs/Refusal.antt` gives them.
+ghost use mathlib.Core.Path.{_≡_};
+ghost use Rattle.wire.specs.Refusal.{numbers};
+
 pub const NONE: u8 = 0;
 
 pub const LEADING_WRONG: u8 = 1;
@@ -32,3 +35,28 @@ pub const SIZE_WRONG: u8 = 14;
 pub const LENT_TOO_SHORT: u8 = 15;
 
 pub const RECORD_WRONG: u8 = 16;
+
+// All of them, each at its own place.
+pub fn all() -> [u8; 17]
+    ensures { λ r. ⌜ r ≡ numbers ⌝ }
+{
+    [
+        NONE,
+        LEADING_WRONG,
+        TOO_LONG,
+        CUT_SHORT,
+        CODE_WRONG,
+        CODE_NOT_SERVED,
+        STRING_WRONG,
+        OUT_OF_RANGE,
+        NAME_WRONG,
+        ATTRIBUTE_WRONG,
+        LENGTH_WRONG,
+        TOO_MANY,
+        LEFT_OVER,
+        NOT_NOW,
+        SIZE_WRONG,
+        LENT_TOO_SHORT,
+        RECORD_WRONG,
+    ]
+}

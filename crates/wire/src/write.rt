@@ -82,13 +82,13 @@ pub fn string(buffer: &mut [u8], at: usize, text: &[u8], null: bool)
     }
 }
 
-// Writes a packet's first four bytes: its leading bytes and its payload's length.
-pub fn packet_head(buffer: &mut [u8], direction: Direction, length: u16)
-    ensures { λ _. ⌜ now (buffer .exit) ≡ put (now (buffer .entry)) 0 (head direction length) ⌝ }
+// Writes a packet's first four bytes: its leading bytes and how long its payload is.
+pub fn packet_head(buffer: &mut [u8], direction: Direction, payload: u16)
+    ensures { λ _. ⌜ now (buffer .exit) ≡ put (now (buffer .entry)) 0 (head direction payload) ⌝ }
 {
     if has_room(buffer.len(), 0, 4) {
         let first = leading_bytes(direction);
         bytes(buffer, 0, &first);
-        integer(buffer, 2, length);
+        integer(buffer, 2, payload);
     }
 }

@@ -12,12 +12,12 @@ use Rattle.wire.proofs.has_room.Tie as tie
 returns : tie.Need-returns
 returns c =
     let a = c .before .args in
-    sym (lt-leb (a .at + a .count) (a .length) (omega arith))
+    sym (lt-leb (a .at + a .count) (a .size) (omega arith))
 
 returns-2 : tie.Need-returns-2
 returns-2 c =
     let a = c .before .args in
-    room-shift (a .at) (a .count) (a .length) (search needs)
+    room-shift (a .at) (a .count) (a .size) (search needs)
 
 pub has-room-spec : {M : Type 1} → statement M
 has-room-spec = tie.close (tie.spec returns returns-2)

@@ -37,14 +37,14 @@ returns c =
     let room : 0 + 4 ≤ length (a .buffer .now) = room-yes _ _ _ (c .before .before .before .before .before .before .before .before .before .before .before .has-room .ensures) (c .before .before .before .before .before .before .before .before .before .before .if1 .taken) in
     let two = length-leading (a .direction) in
     c .before .before .integer .ensures
-    ∙ ap (λ (l : List ℕ). put l 2 (integerBytes (a .length))) (c .before .before .before .before .before .before .bytes .ensures ∙ ap (put (a .buffer .now) 0) (c .before .before .before .before .before .before .before .before .before .leading-bytes .ensures))
-    ∙ put-put (a .buffer .now) 0 2 (leading (a .direction)) (integerBytes (a .length)) (omega (arith, two)) (omega (arith, head-four (a .direction) (a .length)))
+    ∙ ap (λ (l : List ℕ). put l 2 (integerBytes (a .payload))) (c .before .before .before .before .before .before .bytes .ensures ∙ ap (put (a .buffer .now) 0) (c .before .before .before .before .before .before .before .before .before .leading-bytes .ensures))
+    ∙ put-put (a .buffer .now) 0 2 (leading (a .direction)) (integerBytes (a .payload)) (omega (arith, two)) (omega (arith, head-four (a .direction) (a .payload)))
 
 returns-2 : tie.Need-returns-2
 returns-2 c =
     let a = c .before .before .before .args in
     let short : length (a .buffer .now) < 0 + 4 = room-no _ _ _ (c .before .has-room .ensures) (c .if1 .left) in
-    sym (put-short (a .buffer .now) 0 (head (a .direction) (a .length)) (omega (arith, head-four (a .direction) (a .length))))
+    sym (put-short (a .buffer .now) 0 (head (a .direction) (a .payload)) (omega (arith, head-four (a .direction) (a .payload))))
 
 pub packet-head-spec : {M : Type 1} → statement M
 packet-head-spec =
