@@ -11,6 +11,7 @@ use lib.Dec.{eqb, leb}
 use Rattle.wire.specs.Pick.{pick, both}
 use Rattle.wire.specs.Refusal.{none, notNow, sizeWrong}
 use Rattle.wire.specs.declared.Direction.{Direction}
+use Rattle.wire.proofs.Tests.{both-first, both-second}
 use Rattle.connection.specs.declared.State.{State}
 use Rattle.connection.specs.declared.Connection.{Connection}
 use Rattle.connection.specs.declared.Kind.{Kind}
@@ -26,15 +27,6 @@ never e = absurd (false≢true e)
 
 wrong-way : {A : Type 0} → Direction.ToServer ≡ Direction.ToContainer → A
 wrong-way e = absurd (let z : _≡_ {A = ℕ} 0 1 = cc in omega arith)
-
--- what two tests that hold together say of each
-both-first : (a b : Bool) → both a b ≡ true → a ≡ true
-both-first true b e = refl
-both-first false b e = e
-
-both-second : (a b : Bool) → both a b ≡ true → b ≡ true
-both-second true b e = e
-both-second false b e = never e
 
 -- where a connection is Idle no move of the container's is allowed
 pub idle-mute : (c : Connection) (n : Move) → directionOf (kindOf n) ≡ Direction.ToServer → c .state ≡ State.Idle

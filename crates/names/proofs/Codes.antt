@@ -6,9 +6,10 @@ use mathlib.Core.Bool.{Bool, true, false}
 use mathlib.Core.List.{List, [], _∷_}
 use Prim.Native.Nat.{ℕ, suc, _+_, _-_, _≤_, _<_}
 use native.Mathlib.Omega.{arith}
-use lib.Dec.{leb, lit≤}
+use lib.Dec.{leb, ltb, lit≤}
 use lib.ListN.{length, getD}
 use Rattle.wire.specs.Pick.{pick}
+use Rattle.wire.proofs.Tests.{both-first, both-second}
 use Rattle.names.specs.declared.NameList.{NameList}
 use Rattle.names.specs.declared.CodeFound.{CodeFound}
 use Rattle.names.specs.Token.{tokenByte}
@@ -18,7 +19,7 @@ use Rattle.names.specs.Names.{ascii, methodNames, requestNames, response
 use Rattle.names.specs.Row.{nameRoom, padded, bytesOf}
 use Rattle.names.proofs.Rule.{values, agree}
 use Rattle.names.proofs.Rows.{name-room}
-use Rattle.names.proofs.Laws.{both-split, bytes-padded, name-from}
+use Rattle.names.proofs.Laws.{bytes-padded, name-from}
 
 -- how many tests hold
 abbrev pub howMany : List Bool → ℕ
@@ -45,8 +46,9 @@ listed-within : (list : NameList) (n : ℕ)
     → isListed list n ≡ true → (firstCode list ≤ n) × (n < firstCode list + length (namesIn list))
 unfolding isListed
 listed-within list n h =
-    let t = both-split _ _ h in
-    (leb-true _ _ (t .0), ltb-true _ _ (t .1))
+    let first = leb (firstCode list) n in
+    let last = ltb n (firstCode list + length (namesIn list)) in
+    (leb-true _ _ (both-first first last h), ltb-true _ _ (both-second first last h))
 
 -- the code that a list's name at a place is found to have, and the one that it has
 abbrev found : NameList → ℕ → CodeFound

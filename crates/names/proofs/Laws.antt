@@ -12,17 +12,12 @@ use lib.Dec.{ltb, eqb, lit<}
 use lib.ListN.{length, getD, take, drop, replicate}
 use lib.Seq.{drop-cons, drop-length, take-all, take-append-seam}
 use Rattle.wire.specs.Pick.{pick, both}
-use Rattle.wire.proofs.Scan.{both-assoc, both-true}
+use Rattle.wire.proofs.Tests.{both-assoc, both-true}
 use Rattle.names.specs.declared.Name.{Name}
 use Rattle.names.specs.declared.NameList.{NameList}
 use Rattle.names.specs.declared.CodeFound.{CodeFound}
 use Rattle.names.specs.Names.{methodNames, requestNames, responseNames, attributeNames, namesIn, firstCode, ignoresCase, isListed, nameFor, letter, sameName, codeFrom, codeIn}
 use Rattle.names.specs.Row.{nameRoom, rowOf, padded, bytesOf}
-
--- two tests that both hold
-pub both-split : (a b : Bool) → both a b ≡ true → (a ≡ true) × (b ≡ true)
-both-split true b h = (refl, h)
-both-split false b h = let z : _≡_ {A = ℕ} 0 1 = cc in absurd (omega arith)
 
 -- the bytes of a name that is handed out are the name's
 pub bytes-padded : (name : List ℕ) → bytesOf (padded name) ≡ name

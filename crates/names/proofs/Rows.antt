@@ -14,7 +14,7 @@ use Rattle.wire.specs.Pick.{all}
 use Rattle.names.specs.declared.NameList.{NameList}
 use Rattle.names.specs.Names.{methodNames, requestNames, responseNames, attributeNames, namesIn}
 use Rattle.names.specs.Row.{lengthsIn, nameRoom, rowOf}
-use Rattle.names.proofs.Laws.{both-split}
+use Rattle.wire.proofs.Tests.{both-first, both-second}
 
 -- a row of the table of a list of names
 pub row-in : (names : List (List ℕ)) (k : ℕ) (d : List ℕ) → k < length names → getD (map rowOf names) k d ≡ rowOf (getD names k [])
@@ -57,8 +57,8 @@ within-room : (names : List (List ℕ)) (k : ℕ) → all (λ n. leb n nameRoom)
     → length (getD names k []) ≤ nameRoom
 unfolding all
 within-room [] k h = lit≤ tt
-within-room (name ∷ names) zero h = leb-true (length name) nameRoom (both-split (leb (length name) nameRoom) _ h .0)
-within-room (name ∷ names) (suc k) h = within-room names k (both-split (leb (length name) nameRoom) _ h .1)
+within-room (name ∷ names) zero h = leb-true (length name) nameRoom (both-first (leb (length name) nameRoom) _ h)
+within-room (name ∷ names) (suc k) h = within-room names k (both-second (leb (length name) nameRoom) _ h)
 
 -- every listed name has at most 17 bytes: antt computes the lengths
 pub name-room : (list : NameList) (k : ℕ) → length (getD (namesIn list) k []) ≤ nameRoom

@@ -16,6 +16,7 @@ use Rattle.wire.specs.Field.{byteAt, integerAt, booleanOf, booleanAt, bo
 use Rattle.wire.specs.declared.read.NumberRead.{NumberRead}
 use Rattle.wire.specs.declared.read.BooleanRead.{BooleanRead}
 use Rattle.wire.specs.declared.read.StringRead.{StringRead}
+use Rattle.wire.proofs.Tests.{both-first, both-second}
 use Rattle.wire.proofs.Bytes.{length-part, part-middle, part-add, part-one}
 use Rattle.wire.proofs.Field.{number-read, boolean-is, string-is, after-is, text-closed}
 
@@ -59,15 +60,6 @@ text-written p t b clean =
 -- what reading a string that was written answers
 abbrev pub written : ℕ → Bool → List ℕ → StringRead
 written at null text = pick null (StringRead.Null (at + 2)) (StringRead.Text (at + 2) (length text) (at + 2 + length text + 1))
-
--- what two tests that hold together say of each
-both-first : (a b : Bool) → both a b ≡ true → a ≡ true
-both-first true b e = refl
-both-first false b e = e
-
-both-second : (a b : Bool) → both a b ≡ true → b ≡ true
-both-second true b e = e
-both-second false b e = absurd (false≢true e)
 
 -- empty is not barred, in the two ways that reading and writing say it
 not-barred : (optional empty : Bool) → either optional (not empty) ≡ true → both empty (not optional) ≡ false

@@ -10,22 +10,7 @@ use native.Mathlib.Omega.{arith}
 use lib.ListN.{length, getD, drop}
 use lib.Seq.{drop-cons, drop-length}
 use Rattle.wire.specs.Pick.{both, either, all, any}
-
-either-assoc : (a b c : Bool) → either (either a b) c ≡ either a (either b c)
-either-assoc true b c = refl
-either-assoc false b c = refl
-
-pub both-assoc : (a b c : Bool) → both (both a b) c ≡ both a (both b c)
-both-assoc true b c = refl
-both-assoc false b c = refl
-
-either-false : (a : Bool) → either a false ≡ a
-either-false true = refl
-either-false false = refl
-
-pub both-true : (a : Bool) → both a true ≡ a
-both-true true = refl
-both-true false = refl
+use Rattle.wire.proofs.Tests.{either-assoc, either-false, both-assoc, both-true}
 
 module _ (p : ℕ → Bool) (s : List ℕ) (flag : Bool) (i : ℕ) where
   -- one element more is passed: t is its test
