@@ -1,5 +1,5 @@
 // The fields of a packet, over lent bytes: `read` and `write`. An inner crate: the layers above call it, a user of the library does not.
-// A packet is a slice that ends where the packet ends; a place is an index into it. Every call answers for any place.
+// A packet is a slice of its own bytes and no others; a place is an index into it. Every call answers for any place.
 ghost use mathlib.Core.Path.{_≡_};
 ghost use Prim.Native.Nat.{_+_};
 ghost use lib.Dec.{leb};

@@ -1,4 +1,4 @@
--- `token::is_token` meets its contract. The invariant: the flag, joined with the test over what is left, is the test over the whole.
+-- `token::is_token` meets its contract. The invariant: the flag and the test of the bytes still to come are the test of the whole text.
 -- That the table follows the rule at every one of its 256 entries is a test that antt computes, once over the whole table.
 -- Assumes nothing.
 use borrow.Author.Needs.{needs}
