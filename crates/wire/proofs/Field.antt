@@ -10,7 +10,7 @@ use lib.Dec.{leb, eqb}
 use lib.ListN.{length, getD, length-append}
 use Rattle.wire.specs.Pick.{pick, both, either, any}
 use Rattle.wire.specs.Bytes.{part, put, integerIn, integerBytes}
-use Rattle.wire.specs.Field.{numberAt, byteAt, integerAt, booleanOf, booleanAt, holdsBarred, textAt, afterLength, stringOf, stringAt, stringBytes, stringAllowed, putString}
+use Rattle.wire.specs.Field.{numberAt, byteAt, integerAt, booleanOf, booleanAt, lacks, holdsBarred, textAt, afterLength, stringOf, stringAt, stringBytes, stringAllowed, putString}
 use Rattle.wire.specs.Packet.{leading, head}
 use Rattle.wire.specs.declared.Direction.{Direction}
 use Rattle.wire.specs.declared.read.NumberRead.{NumberRead}
@@ -36,14 +36,11 @@ pub string-is : (s : List ℕ) (at : ℕ) (optional : Bool) (r : NumberRead) →
 unfolding stringAt
 string-is s at optional r e = ap (stringOf s optional) e
 
--- what follows a length, by the two tests on it
-pub after-is : (s : List ℕ) (optional : Bool) (len start : ℕ) (null barred : Bool) → eqb len 65535 ≡ null → both (eqb len 0) (not optional) ≡ barred
-    → afterLength s optional len start
-    ≡ pick null
-    (pick optional (StringRead.Null start) (StringRead.Refused 6))
-    (pick barred (StringRead.Refused 6) (textAt s start len))
+-- what follows a length, by the two tests on it; a proof that does not reach a test says `refl`
+pub after-is : (s : List ℕ) (optional : Bool) (len start : ℕ) (lack null : Bool) → lacks optional (eqb len 65535) len ≡ lack → eqb len 65535 ≡ null
+    → pick lack (StringRead.Refused 6) (pick null (StringRead.Null start) (textAt s start len)) ≡ afterLength s optional len start
 unfolding afterLength
-after-is s optional len start null barred p q = rw (p, q)
+after-is s optional len start lack null p q = rw (p, q)
 
 -- the outcomes of a string's bytes
 module _ (s : List ℕ) (start len : ℕ) where
@@ -61,31 +58,11 @@ module _ (s : List ℕ) (start len : ℕ) where
   text-closed true h z e = simp (le-leb, z, ← e)
   text-closed false h z e = simp (le-leb, z, ← e)
 
--- the outcomes of the test on a string to be written
-module _ (optional null : Bool) (text : List ℕ) where
-  pub allowed-null : null ≡ true → optional ≡ stringAllowed optional null text
-  unfolding stringAllowed
-  allowed-null e = rw e
-
-  pub allowed-empty : null ≡ false → length text ≡ 0 → optional ≡ stringAllowed optional null text
-  unfolding stringAllowed any
-  allowed-empty e z = rw (e, empty text z) (go optional)
-    where
-      empty : (s : List ℕ) → length s ≡ 0 → s ≡ []
-      empty [] h = refl
-      empty (x ∷ xs) h = absurd (omega arith)
-
-      go : (o : Bool) → o ≡ both (either o false) (not (holdsBarred []))
-      go true = refl
-      go false = refl
-
-  pub allowed-text : (t : Bool) → null ≡ false → (length text ≡ 0 → ⊥) → t ≡ holdsBarred text → not t ≡ stringAllowed optional null text
-  unfolding stringAllowed
-  allowed-text t e z q = rw (e, ne-eqb (length text) 0 z, ← q) (go optional t)
-    where
-      go : (o b : Bool) → not b ≡ both (either o true) (not b)
-      go true b = refl
-      go false b = refl
+-- the test on a string to be written, by its tests; a proof that does not reach a test says `refl`
+pub allowed-is : (optional null : Bool) (text : List ℕ) (lack none barred : Bool) → lacks optional null (length text) ≡ lack → null ≡ none
+    → holdsBarred text ≡ barred → both (not lack) (either none (not barred)) ≡ stringAllowed optional null text
+unfolding stringAllowed
+allowed-is optional null text lack none barred p q r = rw (← p, ← q, ← r)
 
 -- the bytes of a text's field
 pub length-text : (text : List ℕ) → length (integerBytes (length text) ++ (text ++ (0 ∷ []))) ≡ length text + 3
@@ -183,14 +160,12 @@ text-inside s at start len k = go (leb (start + (len + 1)) (length s)) (both (eq
 string-of-inside : (s : List ℕ) (at : ℕ) (optional : Bool) (r : NumberRead) → NumberInside (length s) at 2 r → StringInside (length s) at (stringOf s optional r)
 unfolding afterLength
 string-of-inside s at optional (NumberRead.Refused k) h = tt
-string-of-inside s at optional (NumberRead.Number len start) h = go (eqb len 65535) optional (both (eqb len 0) (not optional))
+string-of-inside s at optional (NumberRead.Number len start) h = go (lacks optional (eqb len 65535) len) (eqb len 65535)
   where
-    go : (t o u : Bool)
-        → StringInside (length s) at (pick t (pick o (StringRead.Null start) (StringRead.Refused 6)) (pick u (StringRead.Refused 6) (textAt s start len)))
-    go true true u = h
-    go true false u = tt
-    go false o true = tt
-    go false o false = text-inside s at start len (h .0)
+    go : (t u : Bool) → StringInside (length s) at (pick t (StringRead.Refused 6) (pick u (StringRead.Null start) (textAt s start len)))
+    go true u = tt
+    go false true = h
+    go false false = text-inside s at start len (h .0)
 
 pub string-inside : (s : List ℕ) (at : ℕ) (optional : Bool) (r : StringRead) → stringAt s at optional ≡ r → StringInside (length s) at r
 unfolding stringAt

@@ -12,13 +12,13 @@ use lib.ListN.{length, getD, take, drop, length-append}
 use lib.Seq.{drop-at, take-at, drop-cons, drop-drop, take-add, getD-append-seam, getD-append-add}
 use Rattle.wire.specs.Pick.{pick, both, either}
 use Rattle.wire.specs.Bytes.{part, integerIn, integerBytes}
-use Rattle.wire.specs.Field.{byteAt, integerAt, booleanOf, booleanAt, booleanBytes, holdsBarred, textAt, afterLength, stringOf, stringAt, stringBytes, stringAllowed}
+use Rattle.wire.specs.Field.{byteAt, integerAt, booleanOf, booleanAt, booleanBytes, lacks, holdsBarred, textAt, afterLength, stringOf, stringAt, stringBytes, stringAllowed}
 use Rattle.wire.specs.declared.read.NumberRead.{NumberRead}
 use Rattle.wire.specs.declared.read.BooleanRead.{BooleanRead}
 use Rattle.wire.specs.declared.read.StringRead.{StringRead}
 use Rattle.wire.proofs.Tests.{both-first, both-second}
 use Rattle.wire.proofs.Bytes.{length-part, part-middle, part-add, part-one}
-use Rattle.wire.proofs.Field.{number-read, boolean-is, string-is, after-is, text-closed}
+use Rattle.wire.proofs.Field.{number-read, boolean-is, string-is, after-is, allowed-is, text-closed}
 
 -- every element is a byte's value
 abbrev pub Bytes : List ℕ → Type 0
@@ -61,13 +61,6 @@ text-written p t b clean =
 abbrev pub written : ℕ → Bool → List ℕ → StringRead
 written at null text = pick null (StringRead.Null (at + 2)) (StringRead.Text (at + 2) (length text) (at + 2 + length text + 1))
 
--- empty is not barred, in the two ways that reading and writing say it
-not-barred : (optional empty : Bool) → either optional (not empty) ≡ true → both empty (not optional) ≡ false
-not-barred true true e = refl
-not-barred true false e = refl
-not-barred false true e = absurd (false≢true e)
-not-barred false false e = refl
-
 -- a text, where it may stand in the field
 text-back : (a b : List ℕ) (optional : Bool) (text : List ℕ) → length text < 65535 → stringAllowed optional false text ≡ true
     → stringAt (a ++ (integerBytes (length text) ++ (text ++ (0 ∷ [])) ++ b)) (length a) optional ≡ written (length a) false text
@@ -79,10 +72,12 @@ text-back a b optional text h ok =
     let two : length p ≡ length a + 2 = length-append a (integerBytes n) in
     let parted : s ≡ p ++ (text ++ (0 ∷ b)) =
     ap (λ (r : List ℕ). a ++ (integerBytes n ++ r)) (append-assoc text (0 ∷ []) b) ∙ sym (append-assoc a (integerBytes n) (text ++ (0 ∷ b))) in
-    let present : either optional (not (eqb n 0)) ≡ true = both-first (either optional (not (eqb n 0))) (not (holdsBarred text)) ok in
-    let clean : holdsBarred text ≡ false = not-true (holdsBarred text) (both-second (either optional (not (eqb n 0))) (not (holdsBarred text)) ok) in
+    let whole : Bool = lacks optional false n in
+    let lack : lacks optional false n ≡ false = not-true whole (both-first (not whole) (not (holdsBarred text)) ok) in
+    let clean : holdsBarred text ≡ false = not-true (holdsBarred text) (both-second (not whole) (not (holdsBarred text)) ok) in
+    let some : eqb n 65535 ≡ false = ne-eqb n 65535 (λ e. omega arith) in
     string-is s (length a) optional (NumberRead.Number n (length a + 2)) (integer-written a (text ++ (0 ∷ []) ++ b) n (omega arith))
-    ∙ after-is s optional n (length a + 2) false false (ne-eqb n 65535 (λ e. omega arith)) (not-barred optional (eqb n 0) present)
+    ∙ sym (after-is s optional n (length a + 2) false false (ap (λ (t : Bool). lacks optional t n) some ∙ lack) some)
     ∙ ap (λ (l : List ℕ). textAt l (length a + 2) n) parted
     ∙ ap (λ (i : ℕ). textAt (p ++ (text ++ (0 ∷ b))) i n) (sym two)
     ∙ text-written p text b clean
@@ -160,22 +155,14 @@ Found s at optional (StringRead.Refused k) = Unit
 Found s at optional (StringRead.Null next) = NullRead s at optional next
 Found s at optional (StringRead.Text start len next) = TextRead s at optional start len next
 
--- empty is not barred and no byte is, in the two ways that reading and writing say it
-stands : (optional empty barred : Bool) → both empty (not optional) ≡ false → barred ≡ false → both (either optional (not empty)) (not barred) ≡ true
-stands true true false p q = refl
-stands true false false p q = refl
-stands false false false p q = refl
-stands false true false p q = absurd (false≢true (sym p))
-stands optional empty true p q = absurd (false≢true (sym q))
-
-standing : (s : List ℕ) (start len : ℕ) (optional : Bool) → both (eqb len 0) (not optional) ≡ false → holdsBarred (part s start len) ≡ false
+-- a text that reading lets by may stand in the field
+standing : (s : List ℕ) (start len : ℕ) (optional : Bool) → lacks optional false len ≡ false → holdsBarred (part s start len) ≡ false
     → start + (len + 1) ≤ length s → stringAllowed optional false (part s start len) ≡ true
-unfolding stringAllowed
 standing s start len optional p q h =
-    rw (length-part s start len (omega arith)) (stands optional (eqb len 0) (holdsBarred (part s start len)) p q)
+    sym (allowed-is optional false (part s start len) false false false (ap (lacks optional false) (length-part s start len (omega arith)) ∙ p) refl q)
 
 -- a text's bytes
-found-text : (s : List ℕ) (at : ℕ) (optional : Bool) (len : ℕ) → len ≡ integerIn s at → (len ≡ 65535 → ⊥) → both (eqb len 0) (not optional) ≡ false
+found-text : (s : List ℕ) (at : ℕ) (optional : Bool) (len : ℕ) → len ≡ integerIn s at → (len ≡ 65535 → ⊥) → lacks optional false len ≡ false
     → Found s at optional (textAt s (at + 2) len)
 unfolding textAt
 found-text s at optional len e k present =
@@ -198,17 +185,27 @@ found-text s at optional len e k present =
     go true false v h z c = tt
     go false u v h z c = tt
 
+-- null is let by where the field is optional
+null-optional : (optional : Bool) (len : ℕ) → lacks optional true len ≡ false → optional ≡ true
+null-optional true len e = refl
+null-optional false len e = absurd (false≢true (sym e))
+
 found-length : (s : List ℕ) (at : ℕ) (optional : Bool) → at + 2 ≤ length s → Found s at optional (afterLength s optional (integerIn s at) (at + 2))
 unfolding afterLength
-found-length s at optional h = go (eqb (integerIn s at) 65535) optional (both (eqb (integerIn s at) 0) (not optional)) refl refl refl
+found-length s at optional h = go (lacks optional (eqb (integerIn s at) 65535) (integerIn s at)) (eqb (integerIn s at) 65535) refl refl
   where
-    go : (t o u : Bool) → eqb (integerIn s at) 65535 ≡ t → optional ≡ o → both (eqb (integerIn s at) 0) (not optional) ≡ u
-        → Found s at optional
-        (pick t (pick o (StringRead.Null (at + 2)) (StringRead.Refused 6)) (pick u (StringRead.Refused 6) (textAt s (at + 2) (integerIn s at))))
-    go true true u p q r = record { ends = refl; fits = h; length-is = eqb-true (integerIn s at) 65535 p; may-stand = q }
-    go true false u p q r = tt
-    go false o true p q r = tt
-    go false o false p q r = found-text s at optional (integerIn s at) refl (eqb-false (integerIn s at) 65535 p) r
+    go : (t u : Bool) → lacks optional (eqb (integerIn s at) 65535) (integerIn s at) ≡ t → eqb (integerIn s at) 65535 ≡ u
+        → Found s at optional (pick t (StringRead.Refused 6) (pick u (StringRead.Null (at + 2)) (textAt s (at + 2) (integerIn s at))))
+    go true u p q = tt
+    go false true p q =
+        record {
+          ends = refl;
+          fits = h;
+          length-is = eqb-true (integerIn s at) 65535 q;
+          may-stand = null-optional optional (integerIn s at) (ap (λ (b : Bool). lacks optional b (integerIn s at)) (sym q) ∙ p);
+        }
+    go false false p q =
+        found-text s at optional (integerIn s at) refl (eqb-false (integerIn s at) 65535 q) (ap (λ (b : Bool). lacks optional b (integerIn s at)) (sym q) ∙ p)
 
 found : (s : List ℕ) (at : ℕ) (optional : Bool) (r : StringRead) → stringAt s at optional ≡ r → Found s at optional r
 unfolding stringAt integerAt

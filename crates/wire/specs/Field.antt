@@ -63,6 +63,10 @@ isOptional StringField.AttributeName = false
 isOptional StringField.AttributeValue = true
 isOptional StringField.Message = true
 
+-- null or empty in a field that may be neither
+abbrev pub lacks : Bool → Bool → ℕ → Bool
+lacks optional null len = both (not optional) (either null (eqb len 0))
+
 -- a string's bytes and its last zero, which start at a place: present (3), the last byte zero and no barred byte inside (6)
 unfoldable pub textAt : List ℕ → ℕ → ℕ → StringRead
 textAt s start len =
@@ -72,12 +76,12 @@ textAt s start len =
     (StringRead.Refused stringWrong))
     (StringRead.Refused cutShort)
 
--- what follows a string's length: null, empty where barred, or its bytes
+-- what follows a string's length: nothing for null, else its bytes
 unfoldable pub afterLength : List ℕ → Bool → ℕ → ℕ → StringRead
 afterLength s optional len start =
-    pick (eqb len nullLength)
-    (pick optional (StringRead.Null start) (StringRead.Refused stringWrong))
-    (pick (both (eqb len 0) (not optional)) (StringRead.Refused stringWrong) (textAt s start len))
+    pick (lacks optional (eqb len nullLength) len)
+    (StringRead.Refused stringWrong)
+    (pick (eqb len nullLength) (StringRead.Null start) (textAt s start len))
 
 abbrev pub stringOf : List ℕ → Bool → NumberRead → StringRead
 stringOf s optional (NumberRead.Refused n) = StringRead.Refused n
@@ -91,10 +95,9 @@ stringAt s at optional = stringOf s optional (integerAt s at)
 unfoldable pub stringBytes : Bool → List ℕ → List ℕ
 stringBytes null text = pick null (integerBytes nullLength) (integerBytes (length text) ++ (text ++ (0 ∷ [])))
 
--- a string that may stand in a field: not null or empty where that is barred, and no barred byte inside
+-- a string that may stand in a field: it lacks nothing that the field asks for, and if it is not null it holds no barred byte
 unfoldable pub stringAllowed : Bool → Bool → List ℕ → Bool
-stringAllowed optional null text =
-    pick null optional (both (either optional (not (eqb (length text) 0))) (not (holdsBarred text)))
+stringAllowed optional null text = both (not (lacks optional null (length text))) (either null (not (holdsBarred text)))
 
 -- the buffer with a string written into it; a text of 65535 bytes or more, whose length two bytes cannot tell, is not written
 unfoldable pub putString : List ℕ → ℕ → Bool → List ℕ → List ℕ

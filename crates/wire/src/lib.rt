@@ -4,7 +4,7 @@ ghost use mathlib.Core.Path.{_≡_};
 ghost use Prim.Native.Nat.{_+_};
 ghost use lib.Dec.{leb};
 ghost use Rattle.wire.specs.Bytes.{part};
-ghost use Rattle.wire.specs.Field.{isOptional, barred, holdsBarred, stringAllowed};
+ghost use Rattle.wire.specs.Field.{isOptional, lacks, barred, holdsBarred, stringAllowed};
 ghost use Rattle.wire.specs.Packet.{leading};
 
 pub mod read;
@@ -87,6 +87,13 @@ pub fn part_of(s: &[u8], start: usize, len: usize) -> &[u8]
     &s[start..end]
 }
 
+// Whether a string is null or empty in a field that may be neither.
+fn lacks(optional: bool, null: bool, len: usize) -> bool
+    ensures { λ r. ⌜ r ≡ lacks optional null len ⌝ }
+{
+    !optional & (null | (len == 0))
+}
+
 // Whether a byte is barred from strings.
 fn is_barred(b: u8) -> bool
     ensures { λ r. ⌜ r ≡ barred b ⌝ }
@@ -111,11 +118,11 @@ pub fn holds_barred(text: &[u8]) -> bool
 pub fn allows_string(text: &[u8], null: bool, optional: bool) -> bool
     ensures { λ r. ⌜ r ≡ stringAllowed optional null (now (text .entry)) ⌝ }
 {
-    if null {
-        return optional;
+    if lacks(optional, null, text.len()) {
+        return false;
     }
-    if text.len() == 0 {
-        return optional;
+    if null {
+        return true;
     }
     !holds_barred(text)
 }

@@ -4,6 +4,7 @@ ghost use Rattle.wire.specs.Field.{byteAt, integerAt, booleanAt, textAt,
 use crate::NULL_LENGTH;
 use crate::has_room;
 use crate::holds_barred;
+use crate::lacks;
 use crate::part_of;
 use crate::refusal;
 
@@ -94,16 +95,12 @@ pub fn string(packet: &[u8], at: usize, optional: bool) -> StringRead
 fn after_length(packet: &[u8], optional: bool, len: u16, start: usize) -> StringRead
     ensures { λ r. ⌜ r ≡ afterLength (now (packet .entry)) optional len start ⌝ }
 {
-    if len == NULL_LENGTH {
-        if optional {
-            return StringRead::Null { next: start };
-        }
+    let null = len == NULL_LENGTH;
+    if lacks(optional, null, len as usize) {
         return StringRead::Refused(refusal::STRING_WRONG);
     }
-    if len == 0 {
-        if !optional {
-            return StringRead::Refused(refusal::STRING_WRONG);
-        }
+    if null {
+        return StringRead::Null { next: start };
     }
     text(packet, start, len)
 }
