@@ -17,6 +17,7 @@ maxPayload = 8188
 abbrev pub maxBody : ℕ
 maxBody = 8186
 
+-- which state it is
 abbrev pub isIdle : State → Bool
 isIdle State.Idle = true
 isIdle State.Pinged = false

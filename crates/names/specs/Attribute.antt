@@ -20,6 +20,7 @@ attributeKind code =
 unfoldable pub mayRepeat : ℕ → Bool
 mayRepeat code = eqb code 10
 
+-- an attribute with a value of this kind is served
 abbrev pub isServed : AttributeKind → Bool
 isServed AttributeKind.NotServed = false
 isServed AttributeKind.Text = true

@@ -26,10 +26,12 @@ headerNames Direction.ToServer = NameList.ResponseHeaders
 unfoldable pub codeFault : Direction → ℕ → ℕ
 codeFault direction n = pick (isListed (headerNames direction) n) none nameWrong
 
+-- a code was found
 abbrev pub isFound : CodeFound → Bool
 isFound (CodeFound.Code n) = true
 isFound CodeFound.NotListed = false
 
+-- a text that spells transfer-encoding, case ignored
 unfoldable pub isTransferEncoding : List ℕ → Bool
 isTransferEncoding text = sameName true (ascii "transfer-encoding") text
 

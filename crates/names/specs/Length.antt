@@ -25,6 +25,7 @@ digits n (b ∷ bs) = pick (between 48 57 b) (digits (n * 10 + (b - 48)) bs) Dec
 unfoldable pub decimalOf : List ℕ → Decimal
 decimalOf text = pick (between 1 10 (length text)) (digits 0 text) Decimal.Bad
 
+-- what a number declares; a bad one is 10
 abbrev pub asDeclared : Decimal → Declaring
 asDeclared (Decimal.Value n) = Declaring.Now (Declared.Known n)
 asDeclared Decimal.Bad = Declaring.Refused lengthWrong

@@ -101,6 +101,7 @@ attributeNames =
     ∷ ascii "stored_method"
     ∷ []
 
+-- the names of a list
 abbrev pub namesIn : NameList → List (List ℕ)
 namesIn NameList.Methods = methodNames
 namesIn NameList.RequestHeaders = requestNames

@@ -3,16 +3,16 @@
 use mathlib.Core.Path.{_≡_, refl, sym, ap, _∙_}
 use mathlib.Core.Bool.{Bool, true, false, not}
 use mathlib.Core.List.{List, [], _∷_, _++_, append-assoc}
-use Prim.Native.Nat.{ℕ, zero, suc, _+_, _-_, _≤_, _<_}
+use Prim.Native.Nat.{ℕ, _+_, _-_, _≤_, _<_}
 use native.Mathlib.Omega.{arith}
 use native.Mathlib.Nat.{add-zero, add-assoc}
 use native.Mathlib.Numerals.{add-one}
 use borrow.Author.Tests.{le-leb, lt-leb, leb-true, leb-false, not-true, not-false}
 use lib.Dec.{leb}
-use lib.ListN.{length, take, drop, set, getD, length-set, length-append, length-take, length-drop, take-append-drop, drop-of-length-le}
-use lib.Seq.{set-split, take-at, take-all, drop-at, drop-cons, drop-drop, drop-append-add, length-take-le, take-suc, take-add, getD-take, getD-drop, take-length, take-nil}
+use lib.ListN.{length, take, drop, set, getD, length-set, length-append, length-drop, take-append-drop, drop-of-length-le}
+use lib.Seq.{set-split, take-at, take-all, drop-at, drop-cons, drop-drop, drop-append-add, length-take-le, take-suc, take-add, take-nil}
 use Rattle.wire.specs.Pick.{pick}
-use Rattle.wire.specs.Bytes.{part, over, put, integerBytes}
+use Rattle.wire.specs.Bytes.{part, over, put}
 
 -- a part that lies within the list has its length
 pub length-part : (s : List ℕ) (start len : ℕ) → start + len ≤ length s → length (part s start len) ≡ len

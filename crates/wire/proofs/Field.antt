@@ -1,14 +1,14 @@
 -- Laws of the fields' definitions: each outcome stated once, and that what is answered lies inside the packet.
 -- Assumes nothing.
 use mathlib.Core.Path.{_≡_, refl, sym, ap, subst, _∙_}
-use mathlib.Core.Bool.{Bool, true, false, not}
+use mathlib.Core.Bool.{Bool, true, false, not, false≢true}
 use mathlib.Core.List.{List, [], _∷_, _++_}
 use Prim.Native.Nat.{ℕ, _+_, _≤_, _<_}
 use native.Mathlib.Omega.{arith}
-use borrow.Author.Tests.{le-leb, lt-leb, lt-ltb, le-ltb, eq-eqb, ne-eqb, leb-true}
+use borrow.Author.Tests.{le-leb, lt-leb, lt-ltb, le-ltb, ne-eqb, leb-true, eqb-true, eqb-false}
 use lib.Dec.{leb, eqb}
 use lib.ListN.{length, getD, length-append}
-use Rattle.wire.specs.Pick.{pick, both, either, any}
+use Rattle.wire.specs.Pick.{pick, both, either}
 use Rattle.wire.specs.Bytes.{part, put, integerIn, integerBytes}
 use Rattle.wire.specs.Field.{numberAt, byteAt, integerAt, booleanOf, booleanAt, lacks, holdsBarred, textAt, afterLength, stringOf, stringAt, stringBytes, stringAllowed, putString}
 use Rattle.wire.specs.Packet.{leading, head}
@@ -16,7 +16,7 @@ use Rattle.wire.specs.declared.Direction.{Direction}
 use Rattle.wire.specs.declared.read.NumberRead.{NumberRead}
 use Rattle.wire.specs.declared.read.BooleanRead.{BooleanRead}
 use Rattle.wire.specs.declared.read.StringRead.{StringRead}
-use Rattle.wire.proofs.Bytes.{put-fits, put-short}
+use Rattle.wire.proofs.Bytes.{length-part}
 
 -- a number, where its bytes are there and where they are not
 module _ (width value : ℕ) (s : List ℕ) (at : ℕ) where
@@ -141,33 +141,106 @@ pub boolean-inside : (s : List ℕ) (at : ℕ) (r : BooleanRead) → booleanAt s
 unfolding booleanAt
 boolean-inside s at r e = subst (BooleanInside (length s) at) e (boolean-of-inside (length s) at (byteAt s at) (byte-inside s at (byteAt s at) refl))
 
+-- what a string that reads as a text is
+pub record TextRead (s : List ℕ) (at : ℕ) (optional : Bool) (start len next : ℕ) : Type 0 where
+  pub starts : start ≡ at + 2
+  pub ends : next ≡ start + len + 1
+  pub fits : next ≤ length s
+  pub length-is : len ≡ integerIn s at
+  pub not-null : len ≡ 65535 → ⊥
+  pub zero-last : getD s (start + len) 0 ≡ 0
+  pub may-stand : stringAllowed optional false (part s start len) ≡ true
+
+-- what a string that reads as null is
+pub record NullRead (s : List ℕ) (at : ℕ) (optional : Bool) (next : ℕ) : Type 0 where
+  pub ends : next ≡ at + 2
+  pub fits : next ≤ length s
+  pub length-is : integerIn s at ≡ 65535
+  pub may-stand : optional ≡ true
+
+abbrev Found : List ℕ → ℕ → Bool → StringRead → Type 0
+Found s at optional (StringRead.Refused k) = Unit
+Found s at optional (StringRead.Null next) = NullRead s at optional next
+Found s at optional (StringRead.Text start len next) = TextRead s at optional start len next
+
+-- a text that reading lets by may stand in the field
+standing : (s : List ℕ) (start len : ℕ) (optional : Bool) → lacks optional false len ≡ false → holdsBarred (part s start len) ≡ false
+    → start + (len + 1) ≤ length s → stringAllowed optional false (part s start len) ≡ true
+standing s start len optional p q h =
+    sym (allowed-is optional false (part s start len) false false false (ap (lacks optional false) (length-part s start len (omega arith)) ∙ p) refl q)
+
+-- a text's bytes
+found-text : (s : List ℕ) (at : ℕ) (optional : Bool) (len : ℕ) → len ≡ integerIn s at → (len ≡ 65535 → ⊥) → lacks optional false len ≡ false
+    → Found s at optional (textAt s (at + 2) len)
+unfolding textAt
+found-text s at optional len e k present =
+    go (leb (at + 2 + (len + 1)) (length s)) (eqb (getD s (at + 2 + len) 0) 0) (holdsBarred (part s (at + 2) len)) refl refl refl
+  where
+    go : (t u v : Bool) → leb (at + 2 + (len + 1)) (length s) ≡ t → eqb (getD s (at + 2 + len) 0) 0 ≡ u → holdsBarred (part s (at + 2) len) ≡ v
+        → Found s at optional (pick t (pick (both u (not v)) (StringRead.Text (at + 2) len (at + 2 + len + 1)) (StringRead.Refused 6)) (StringRead.Refused 3))
+    go true true false h z c =
+        let f : at + 2 + (len + 1) ≤ length s = leb-true (at + 2 + (len + 1)) (length s) h in
+        record {
+          starts = refl;
+          ends = refl;
+          fits = omega arith;
+          length-is = e;
+          not-null = k;
+          zero-last = eqb-true (getD s (at + 2 + len) 0) 0 z;
+          may-stand = standing s (at + 2) len optional present c f;
+        }
+    go true true true h z c = tt
+    go true false v h z c = tt
+    go false u v h z c = tt
+
+-- null is let by where the field is optional
+null-optional : (optional : Bool) (len : ℕ) → lacks optional true len ≡ false → optional ≡ true
+null-optional true len e = refl
+null-optional false len e = absurd (false≢true (sym e))
+
+found-length : (s : List ℕ) (at : ℕ) (optional : Bool) → at + 2 ≤ length s → Found s at optional (afterLength s optional (integerIn s at) (at + 2))
+unfolding afterLength
+found-length s at optional h = go (lacks optional (eqb (integerIn s at) 65535) (integerIn s at)) (eqb (integerIn s at) 65535) refl refl
+  where
+    go : (t u : Bool) → lacks optional (eqb (integerIn s at) 65535) (integerIn s at) ≡ t → eqb (integerIn s at) 65535 ≡ u
+        → Found s at optional (pick t (StringRead.Refused 6) (pick u (StringRead.Null (at + 2)) (textAt s (at + 2) (integerIn s at))))
+    go true u p q = tt
+    go false true p q =
+        record {
+          ends = refl;
+          fits = h;
+          length-is = eqb-true (integerIn s at) 65535 q;
+          may-stand = null-optional optional (integerIn s at) (ap (λ (b : Bool). lacks optional b (integerIn s at)) (sym q) ∙ p);
+        }
+    go false false p q =
+        found-text s at optional (integerIn s at) refl (eqb-false (integerIn s at) 65535 q) (ap (λ (b : Bool). lacks optional b (integerIn s at)) (sym q) ∙ p)
+
+found : (s : List ℕ) (at : ℕ) (optional : Bool) (r : StringRead) → stringAt s at optional ≡ r → Found s at optional r
+unfolding stringAt integerAt
+found s at optional r e = subst (Found s at optional) e (go (leb (at + 2) (length s)) refl)
+  where
+    go : (t : Bool) → leb (at + 2) (length s) ≡ t
+        → Found s at optional (stringOf s optional (pick t (NumberRead.Number (integerIn s at) (at + 2)) (NumberRead.Refused 3)))
+    go true h = found-length s at optional (leb-true (at + 2) (length s) h)
+    go false h = tt
+
+pub text-read : (s : List ℕ) (at : ℕ) (optional : Bool) (start len next : ℕ) → stringAt s at optional ≡ StringRead.Text start len next
+    → TextRead s at optional start len next
+text-read s at optional start len next e = found s at optional (StringRead.Text start len next) e
+
+pub null-read : (s : List ℕ) (at : ℕ) (optional : Bool) (next : ℕ) → stringAt s at optional ≡ StringRead.Null next → NullRead s at optional next
+null-read s at optional next e = found s at optional (StringRead.Null next) e
+
 -- a string whose length is at a place: null ends behind it; a text starts behind it, and ends behind its zero
 abbrev pub StringInside : ℕ → ℕ → StringRead → Type 0
 StringInside n at (StringRead.Refused k) = Unit
 StringInside n at (StringRead.Null next) = (next ≡ at + 2) × (next ≤ n)
 StringInside n at (StringRead.Text start len next) = (start ≡ at + 2) × ((next ≡ start + len + 1) × (next ≤ n))
 
-text-inside : (s : List ℕ) (at start len : ℕ) → start ≡ at + 2 → StringInside (length s) at (textAt s start len)
-unfolding textAt
-text-inside s at start len k = go (leb (start + (len + 1)) (length s)) (both (eqb (getD s (start + len) 0) 0) (not (holdsBarred (part s start len)))) refl
-  where
-    go : (t u : Bool) → leb (start + (len + 1)) (length s) ≡ t
-        → StringInside (length s) at (pick t (pick u (StringRead.Text start len (start + len + 1)) (StringRead.Refused 6)) (StringRead.Refused 3))
-    go true true h = (k, (refl, omega (arith, leb-true (start + (len + 1)) (length s) h)))
-    go true false h = tt
-    go false u h = tt
-
-string-of-inside : (s : List ℕ) (at : ℕ) (optional : Bool) (r : NumberRead) → NumberInside (length s) at 2 r → StringInside (length s) at (stringOf s optional r)
-unfolding afterLength
-string-of-inside s at optional (NumberRead.Refused k) h = tt
-string-of-inside s at optional (NumberRead.Number len start) h = go (lacks optional (eqb len 65535) len) (eqb len 65535)
-  where
-    go : (t u : Bool) → StringInside (length s) at (pick t (StringRead.Refused 6) (pick u (StringRead.Null start) (textAt s start len)))
-    go true u = tt
-    go false true = h
-    go false false = text-inside s at start len (h .0)
-
 pub string-inside : (s : List ℕ) (at : ℕ) (optional : Bool) (r : StringRead) → stringAt s at optional ≡ r → StringInside (length s) at r
-unfolding stringAt
-string-inside s at optional r e =
-    subst (StringInside (length s) at) e (string-of-inside s at optional (integerAt s at) (integer-inside s at (integerAt s at) refl))
+string-inside s at optional r e = go r (found s at optional r e)
+  where
+    go : (r : StringRead) → Found s at optional r → StringInside (length s) at r
+    go (StringRead.Refused k) h = tt
+    go (StringRead.Null next) h = (h .ends, h .fits)
+    go (StringRead.Text start len next) h = (h .starts, (h .ends, h .fits))

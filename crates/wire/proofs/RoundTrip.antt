@@ -1,24 +1,23 @@
 -- Fields there and back: reading a field that was written gives it, and writing a field that was read gives its bytes.
 -- Assumes nothing.
-use mathlib.Core.Path.{_≡_, refl, sym, ap, subst, _∙_}
+use mathlib.Core.Path.{_≡_, refl, sym, ap, _∙_}
 use mathlib.Core.Bool.{Bool, true, false, not, false≢true}
 use mathlib.Core.List.{List, [], _∷_, _++_, append-assoc}
 use Prim.Native.Nat.{ℕ, suc, _+_, _-_, _*_, _/_, _%_, _≤_, _<_}
 use native.Mathlib.Omega.{arith}
-use native.Mathlib.Numerals.{add-one}
-use borrow.Author.Tests.{le-leb, lt-leb, eq-eqb, ne-eqb, leb-true, eqb-true, eqb-false, not-true}
+use borrow.Author.Tests.{ne-eqb, leb-true, eqb-true, not-true}
 use lib.Dec.{leb, eqb}
-use lib.ListN.{length, getD, take, drop, length-append}
-use lib.Seq.{drop-at, take-at, drop-cons, drop-drop, take-add, getD-append-seam, getD-append-add}
-use Rattle.wire.specs.Pick.{pick, both, either}
+use lib.ListN.{length, getD, length-append}
+use lib.Seq.{getD-append-seam, getD-append-add}
+use Rattle.wire.specs.Pick.{pick}
 use Rattle.wire.specs.Bytes.{part, integerIn, integerBytes}
-use Rattle.wire.specs.Field.{byteAt, integerAt, booleanOf, booleanAt, booleanBytes, lacks, holdsBarred, textAt, afterLength, stringOf, stringAt, stringBytes, stringAllowed}
+use Rattle.wire.specs.Field.{byteAt, integerAt, booleanOf, booleanAt, booleanBytes, lacks, holdsBarred, textAt, afterLength, stringAt, stringBytes, stringAllowed}
 use Rattle.wire.specs.declared.read.NumberRead.{NumberRead}
 use Rattle.wire.specs.declared.read.BooleanRead.{BooleanRead}
 use Rattle.wire.specs.declared.read.StringRead.{StringRead}
 use Rattle.wire.proofs.Tests.{both-first, both-second}
 use Rattle.wire.proofs.Bytes.{length-part, part-middle, part-add, part-one}
-use Rattle.wire.proofs.Field.{number-read, boolean-is, string-is, after-is, allowed-is, text-closed}
+use Rattle.wire.proofs.Field.{number-read, boolean-is, string-is, after-is, text-closed, TextRead, text-read, NullRead, null-read}
 
 -- every element is a byte's value
 abbrev pub Bytes : List ℕ → Type 0
@@ -115,7 +114,7 @@ told b true w n v next p q r = let e : BooleanRead.Boolean false n ≡ BooleanRe
 told b false true n v next p q r = let e : BooleanRead.Boolean true n ≡ BooleanRead.Boolean v next = rw (p, q) at r in cc
 told b false false n v next p q r = absurd (untold b n v next p q r)
 
--- and so is the byte of a boolean that was read
+-- and the byte of a boolean that was read is its byte
 pub boolean-kept : (s : List ℕ) (at : ℕ) (v : Bool) (next : ℕ) → booleanAt s at ≡ BooleanRead.Boolean v next → part s at 1 ≡ booleanBytes v
 unfolding booleanAt byteAt
 boolean-kept s at v next e = go (leb (at + 1) (length s)) (eqb (getD s at 0) 0) (eqb (getD s at 0) 1) refl refl refl e
@@ -132,96 +131,6 @@ boolean-kept s at v next e = go (leb (at + 1) (length s)) (eqb (getD s at 0) 0) 
         part-one s at (omega (arith, leb-true (at + 1) (length s) h)) ∙ rw (z, x)
     go true false false h p q r = absurd (untold (getD s at 0) (at + 1) v next p q r)
     go false u w h p q r = absurd (let z : _≡_ {A = ℕ} 0 1 = cc in omega arith)
-
--- what a string that reads as a text is
-pub record TextRead (s : List ℕ) (at : ℕ) (optional : Bool) (start len next : ℕ) : Type 0 where
-  pub starts : start ≡ at + 2
-  pub ends : next ≡ start + len + 1
-  pub fits : next ≤ length s
-  pub length-is : len ≡ integerIn s at
-  pub not-null : len ≡ 65535 → ⊥
-  pub zero-last : getD s (start + len) 0 ≡ 0
-  pub may-stand : stringAllowed optional false (part s start len) ≡ true
-
--- what a string that reads as null is
-pub record NullRead (s : List ℕ) (at : ℕ) (optional : Bool) (next : ℕ) : Type 0 where
-  pub ends : next ≡ at + 2
-  pub fits : next ≤ length s
-  pub length-is : integerIn s at ≡ 65535
-  pub may-stand : optional ≡ true
-
-abbrev Found : List ℕ → ℕ → Bool → StringRead → Type 0
-Found s at optional (StringRead.Refused k) = Unit
-Found s at optional (StringRead.Null next) = NullRead s at optional next
-Found s at optional (StringRead.Text start len next) = TextRead s at optional start len next
-
--- a text that reading lets by may stand in the field
-standing : (s : List ℕ) (start len : ℕ) (optional : Bool) → lacks optional false len ≡ false → holdsBarred (part s start len) ≡ false
-    → start + (len + 1) ≤ length s → stringAllowed optional false (part s start len) ≡ true
-standing s start len optional p q h =
-    sym (allowed-is optional false (part s start len) false false false (ap (lacks optional false) (length-part s start len (omega arith)) ∙ p) refl q)
-
--- a text's bytes
-found-text : (s : List ℕ) (at : ℕ) (optional : Bool) (len : ℕ) → len ≡ integerIn s at → (len ≡ 65535 → ⊥) → lacks optional false len ≡ false
-    → Found s at optional (textAt s (at + 2) len)
-unfolding textAt
-found-text s at optional len e k present =
-    go (leb (at + 2 + (len + 1)) (length s)) (eqb (getD s (at + 2 + len) 0) 0) (holdsBarred (part s (at + 2) len)) refl refl refl
-  where
-    go : (t u v : Bool) → leb (at + 2 + (len + 1)) (length s) ≡ t → eqb (getD s (at + 2 + len) 0) 0 ≡ u → holdsBarred (part s (at + 2) len) ≡ v
-        → Found s at optional (pick t (pick (both u (not v)) (StringRead.Text (at + 2) len (at + 2 + len + 1)) (StringRead.Refused 6)) (StringRead.Refused 3))
-    go true true false h z c =
-        let f : at + 2 + (len + 1) ≤ length s = leb-true (at + 2 + (len + 1)) (length s) h in
-        record {
-          starts = refl;
-          ends = refl;
-          fits = omega arith;
-          length-is = e;
-          not-null = k;
-          zero-last = eqb-true (getD s (at + 2 + len) 0) 0 z;
-          may-stand = standing s (at + 2) len optional present c f;
-        }
-    go true true true h z c = tt
-    go true false v h z c = tt
-    go false u v h z c = tt
-
--- null is let by where the field is optional
-null-optional : (optional : Bool) (len : ℕ) → lacks optional true len ≡ false → optional ≡ true
-null-optional true len e = refl
-null-optional false len e = absurd (false≢true (sym e))
-
-found-length : (s : List ℕ) (at : ℕ) (optional : Bool) → at + 2 ≤ length s → Found s at optional (afterLength s optional (integerIn s at) (at + 2))
-unfolding afterLength
-found-length s at optional h = go (lacks optional (eqb (integerIn s at) 65535) (integerIn s at)) (eqb (integerIn s at) 65535) refl refl
-  where
-    go : (t u : Bool) → lacks optional (eqb (integerIn s at) 65535) (integerIn s at) ≡ t → eqb (integerIn s at) 65535 ≡ u
-        → Found s at optional (pick t (StringRead.Refused 6) (pick u (StringRead.Null (at + 2)) (textAt s (at + 2) (integerIn s at))))
-    go true u p q = tt
-    go false true p q =
-        record {
-          ends = refl;
-          fits = h;
-          length-is = eqb-true (integerIn s at) 65535 q;
-          may-stand = null-optional optional (integerIn s at) (ap (λ (b : Bool). lacks optional b (integerIn s at)) (sym q) ∙ p);
-        }
-    go false false p q =
-        found-text s at optional (integerIn s at) refl (eqb-false (integerIn s at) 65535 q) (ap (λ (b : Bool). lacks optional b (integerIn s at)) (sym q) ∙ p)
-
-found : (s : List ℕ) (at : ℕ) (optional : Bool) (r : StringRead) → stringAt s at optional ≡ r → Found s at optional r
-unfolding stringAt integerAt
-found s at optional r e = subst (Found s at optional) e (go (leb (at + 2) (length s)) refl)
-  where
-    go : (t : Bool) → leb (at + 2) (length s) ≡ t
-        → Found s at optional (stringOf s optional (pick t (NumberRead.Number (integerIn s at) (at + 2)) (NumberRead.Refused 3)))
-    go true h = found-length s at optional (leb-true (at + 2) (length s) h)
-    go false h = tt
-
-pub text-read : (s : List ℕ) (at : ℕ) (optional : Bool) (start len next : ℕ) → stringAt s at optional ≡ StringRead.Text start len next
-    → TextRead s at optional start len next
-text-read s at optional start len next e = found s at optional (StringRead.Text start len next) e
-
-pub null-read : (s : List ℕ) (at : ℕ) (optional : Bool) (next : ℕ) → stringAt s at optional ≡ StringRead.Null next → NullRead s at optional next
-null-read s at optional next e = found s at optional (StringRead.Null next) e
 
 -- the bytes of a string that was read are those that writing it gives
 pub text-kept : (s : List ℕ) (at : ℕ) (optional : Bool) (start len next : ℕ) → Bytes s → stringAt s at optional ≡ StringRead.Text start len next

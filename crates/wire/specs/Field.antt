@@ -19,9 +19,11 @@ use Rattle.wire.specs.declared.StringField.{StringField}
 abbrev pub numberAt : ℕ → ℕ → List ℕ → ℕ → NumberRead
 numberAt width value s at = pick (leb (at + width) (length s)) (NumberRead.Number value (at + width)) (NumberRead.Refused cutShort)
 
+-- the byte at a place
 unfoldable pub byteAt : List ℕ → ℕ → NumberRead
 byteAt s at = numberAt 1 (getD s at 0) s at
 
+-- the integer at a place
 unfoldable pub integerAt : List ℕ → ℕ → NumberRead
 integerAt s at = numberAt 2 (integerIn s at) s at
 
@@ -31,6 +33,7 @@ booleanOf (NumberRead.Refused n) = BooleanRead.Refused n
 booleanOf (NumberRead.Number b next) =
     pick (eqb b 0) (BooleanRead.Boolean false next) (pick (eqb b 1) (BooleanRead.Boolean true next) (BooleanRead.Refused outOfRange))
 
+-- the boolean at a place
 unfoldable pub booleanAt : List ℕ → ℕ → BooleanRead
 booleanAt s at = booleanOf (byteAt s at)
 
@@ -47,6 +50,7 @@ nullLength = 65535
 abbrev pub barred : ℕ → Bool
 barred b = eqb b 0
 
+-- a text with such a byte in it
 abbrev pub holdsBarred : List ℕ → Bool
 holdsBarred = any barred
 
@@ -83,6 +87,7 @@ afterLength s optional len start =
     (StringRead.Refused stringWrong)
     (pick (eqb len nullLength) (StringRead.Null start) (textAt s start len))
 
+-- a string, by what its length reads as
 abbrev pub stringOf : List ℕ → Bool → NumberRead → StringRead
 stringOf s optional (NumberRead.Refused n) = StringRead.Refused n
 stringOf s optional (NumberRead.Number len start) = afterLength s optional len start

@@ -16,5 +16,6 @@ leading Direction.ToServer = 0x41 ∷ 0x42 ∷ []
 abbrev pub head : Direction → ℕ → List ℕ
 head direction payloadLength = leading direction ++ integerBytes payloadLength
 
+-- a whole packet
 abbrev pub packet : Direction → List ℕ → List ℕ
 packet direction payload = head direction (length payload) ++ payload

@@ -15,7 +15,7 @@ leadingWrong = 1
 abbrev pub tooLong : ℕ
 tooLong = 2
 
--- the payload is over within a field, or where its code should be
+-- the payload runs out within a field, or where its code should be
 abbrev pub cutShort : ℕ
 cutShort = 3
 
@@ -27,11 +27,12 @@ codeWrong = 4
 abbrev pub codeNotServed : ℕ
 codeNotServed = 5
 
--- a string that lacks what its field asks for, holds a byte that it may not, or does not end in zero; a chunk that does not
+-- a string that lacks what its field asks for, holds a byte that it may not, or does not end in zero; a chunk
+-- that does not end in zero
 abbrev pub stringWrong : ℕ
 stringWrong = 6
 
--- a method, a boolean or a status that has no such value
+-- a number that no method, no boolean or no status has
 abbrev pub outOfRange : ℕ
 outOfRange = 7
 
@@ -63,7 +64,7 @@ notNow = 13
 abbrev pub sizeWrong : ℕ
 sizeWrong = 14
 
--- a table or a buffer that is lent is too short
+-- too little room in the table or the buffer that the caller lent
 abbrev pub lentTooShort : ℕ
 lentTooShort = 15
 

@@ -1,6 +1,5 @@
 -- `wire::part_of` meets its contract: where the packet has fewer bytes than are asked for, the part stops at its end.
 -- Assumes nothing.
-use native.Mathlib.Omega.{arith}
 use mathlib.Core.Path.{refl, _∙_}
 use Prim.Native.Nat.{_+_}
 use lib.ListN.{length}

@@ -4,8 +4,8 @@
 use borrow.Author.Needs.{needs}
 use native.Mathlib.Omega.{arith}
 use mathlib.Core.Path.{_≡_, refl}
-use mathlib.Core.Bool.{Bool, true, false}
-use Prim.Native.Nat.{ℕ, _-_, _≤_, _<_}
+use mathlib.Core.Bool.{false}
+use Prim.Native.Nat.{_-_, _≤_}
 use lib.ListN.{length, drop, getD}
 use Rattle.wire.specs.Pick.{both}
 use Rattle.wire.proofs.Scan.{all-step, all-end}

@@ -1,6 +1,6 @@
 -- `wire::read::after_length` meets its contract: each return knows whether the string lacks something and whether it is null.
 -- Assumes nothing.
-use mathlib.Core.Path.{_≡_, refl, sym, _∙_}
+use mathlib.Core.Path.{refl, sym, _∙_}
 use mathlib.Core.Bool.{true, false}
 use lib.Dec.{eqb}
 use borrow.Author.Needs.{needs}

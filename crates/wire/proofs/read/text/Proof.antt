@@ -1,12 +1,11 @@
 -- `wire::read::text` meets its contract: the tests on the way say which outcome of `textAt` holds.
 -- Assumes nothing.
 use native.Mathlib.Omega.{arith}
-use mathlib.Core.Path.{_≡_, sym, ap, _∙_}
-use mathlib.Core.Bool.{Bool, true, false}
+use mathlib.Core.Path.{sym, ap, _∙_}
+use mathlib.Core.Bool.{true, false}
 use Prim.Native.Nat.{_+_, _≤_}
 use borrow.Author.Needs.{needs}
 use lib.ListN.{length}
-use Rattle.wire.specs.Bytes.{part}
 use Rattle.wire.specs.Field.{holdsBarred}
 use Rattle.wire.proofs.Bytes.{room-in, room-out}
 use Rattle.wire.proofs.Field.{text-short, text-open, text-closed}

@@ -1,6 +1,6 @@
 -- `wire::write::boolean` meets its contract: a byte 1 or 0.
 -- Assumes nothing.
-use mathlib.Core.Path.{_≡_, sym, ap, _∙_}
+use mathlib.Core.Path.{sym, ap, _∙_}
 use borrow.Author.Needs.{needs}
 use Rattle.wire.specs.Bytes.{put}
 use Rattle.wire.specs.Field.{booleanBytes}
