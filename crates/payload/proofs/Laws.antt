@@ -1,0 +1,232 @@
+-- Laws of the definitions of what a packet says: each outcome by the values of its tests, that a body packet and a chunk have no bytes
+-- but those that they tell of, and that a code's kind goes the way that the packet goes.
+-- Assumes nothing.
+use mathlib.Core.Path.{_≡_, refl, sym, ap, subst, _∙_}
+use mathlib.Core.Bool.{Bool, true, false}
+use mathlib.Core.List.{List}
+use Prim.Native.Nat.{ℕ, _+_, _≤_, _<_}
+use native.Mathlib.Omega.{arith}
+use borrow.Author.Tests.{le-leb, lt-leb, ltb-false, ne-eqb, eqb-true}
+use lib.Dec.{leb, ltb, eqb}
+use lib.ListN.{length, getD}
+use Rattle.wire.specs.Pick.{pick, both, either}
+use Rattle.wire.specs.Field.{byteAt, integerAt, booleanAt, stringAt, isOptional}
+use Rattle.wire.specs.declared.Direction.{Direction}
+use Rattle.wire.specs.declared.StringField.{StringField}
+use Rattle.wire.specs.declared.read.NumberRead.{NumberRead}
+use Rattle.wire.specs.declared.read.BooleanRead.{BooleanRead}
+use Rattle.wire.specs.declared.read.StringRead.{StringRead}
+use Rattle.wire.proofs.Field.{NumberInside, integer-inside}
+use Rattle.connection.specs.declared.Kind.{Kind}
+use Rattle.connection.specs.Cycle.{directionOf}
+use Rattle.payload.specs.declared.KindRead.{KindRead}
+use Rattle.payload.specs.declared.Packet.{Packet}
+use Rattle.payload.specs.declared.PacketRead.{PacketRead}
+use Rattle.payload.specs.declared.field.FieldRead.{FieldRead}
+use Rattle.payload.specs.Code.{codeKind, kindOfCode, kindAt}
+use Rattle.payload.specs.Sequence.{bounded, byteAfter, integerAfter, stringField, stringFieldAt, booleanField, booleanFieldAt}
+use Rattle.payload.specs.Plain.{partFrom, finished, endOf, endAt, getOf, getAt, sizedAt, sizedOf, bodyAt, chunkOf, chunkBy, chunkAt}
+
+-- the kind of a packet, by whether it is read as a body packet and by what its code reads as
+pub kind-is : (d : Direction) (body t : Bool) (s : List ℕ) (r : NumberRead) → body ≡ t → byteAt s 4 ≡ r
+    → kindAt d body s ≡ pick t (KindRead.Kind Kind.Body) (kindOfCode d r)
+unfolding kindAt
+kind-is d body t s r p q = rw (p, q)
+
+-- a string as a field, by what it reads as
+pub string-field-is : (s : List ℕ) (field : StringField) (at : ℕ) (optional : Bool) (r : StringRead) → optional ≡ isOptional field
+    → stringAt s at optional ≡ r → stringFieldAt s field at ≡ stringField at r
+unfolding stringFieldAt
+string-field-is s field at optional r p q = ap (stringField at) (ap (stringAt s at) (sym p) ∙ q)
+
+-- a boolean as a field, by what it reads as
+pub boolean-field-is : (s : List ℕ) (at : ℕ) (r : BooleanRead) → booleanAt s at ≡ r → booleanFieldAt s at ≡ booleanField at r
+unfolding booleanFieldAt
+boolean-field-is s at r e = ap (booleanField at) e
+
+-- a number as a field, by its two tests; a return that does not reach a test says `refl`
+pub bounded-by : (at low high fault : ℕ) (number : NumberRead) (value next : ℕ) (a b : Bool) → number ≡ NumberRead.Number value next
+    → leb low value ≡ a → leb value high ≡ b
+    → pick (both a b) (FieldRead.Field at value next) (FieldRead.Refused fault) ≡ bounded at low high fault number
+bounded-by at low high fault number value next a b e p q = rw (e, p, q)
+
+-- the byte and the integer behind a field that was read, by what they read as
+module _ (s : List ℕ) (low high fault at value next : ℕ) (before : FieldRead) (r : NumberRead) where
+  pub byte-after-is : before ≡ FieldRead.Field at value next → byteAt s next ≡ r
+      → byteAfter s low high fault before ≡ bounded next low high fault r
+  unfolding byteAfter
+  byte-after-is p q = rw (p, q)
+
+  pub integer-after-is : before ≡ FieldRead.Field at value next → integerAt s next ≡ r
+      → integerAfter s low high fault before ≡ bounded next low high fault r
+  unfolding integerAfter
+  integer-after-is p q = rw (p, q)
+
+-- End, Get Body Chunk and Send Body Chunk, by what their first field reads as
+pub end-is : (s : List ℕ) (r : BooleanRead) → booleanAt s 5 ≡ r → endAt s ≡ endOf (length s) r
+unfolding endAt
+end-is s r e = ap (endOf (length s)) e
+
+pub get-is : (s : List ℕ) (r : NumberRead) → integerAt s 5 ≡ r → getAt s ≡ getOf (length s) r
+unfolding getAt
+get-is s r e = ap (getOf (length s)) e
+
+pub chunk-is : (s : List ℕ) (r : NumberRead) → integerAt s 5 ≡ r → chunkAt s ≡ chunkBy s r
+unfolding chunkAt
+chunk-is s r e = ap (chunkBy s) e
+
+-- a body packet, by whether anything follows its length and by what its size reads as
+pub body-is : (s : List ℕ) (t : Bool) (r : NumberRead) → eqb (length s) 4 ≡ t → integerAt s 4 ≡ r
+    → bodyAt s ≡ pick t (PacketRead.Packet (Packet.Body (partFrom 4 0))) (sizedOf (length s) r)
+unfolding bodyAt
+body-is s t r p q = rw (p, q)
+
+-- a body packet that tells its size, by its three tests; a return that does not reach a test says `refl`
+pub sized-by : (size start len : ℕ) (a b c : Bool) → ltb size (start + len) ≡ a → ltb (start + len) size ≡ b → eqb len 0 ≡ c
+    → pick a (PacketRead.Refused 3)
+    (pick b (PacketRead.Refused 12) (pick c (PacketRead.Refused 14) (PacketRead.Packet (Packet.Body (partFrom start len)))))
+    ≡ sizedAt size start len
+unfolding sizedAt
+sized-by size start len a b c p q r = rw (p, q, r)
+
+-- the outcomes of a chunk's bytes
+module _ (s : List ℕ) (start len : ℕ) where
+  -- they or the byte behind them are not there
+  pub chunk-short : length s < start + (len + 1) → PacketRead.Refused 3 ≡ chunkOf s start len
+  unfolding chunkOf
+  chunk-short h = simp lt-leb
+
+  -- the byte behind them is not zero
+  pub chunk-open : start + (len + 1) ≤ length s → (getD s (start + len) 0 ≡ 0 → ⊥) → PacketRead.Refused 6 ≡ chunkOf s start len
+  unfolding chunkOf
+  chunk-open h z = simp (le-leb, ne-eqb)
+
+  -- the byte behind them is zero
+  pub chunk-closed : start + (len + 1) ≤ length s → getD s (start + len) 0 ≡ 0
+      → finished (length s) (start + len + 1) (Packet.BodyChunk (partFrom start len)) ≡ chunkOf s start len
+  unfolding chunkOf
+  chunk-closed h z = simp (le-leb, z)
+
+-- the bytes of a body packet or a chunk in a packet of n bytes: a body's end with the packet; a chunk's start at 7 and end one before the
+-- packet's end
+abbrev pub PlainInside : ℕ → PacketRead → Type 0
+PlainInside n (PacketRead.Refused k) = Unit
+PlainInside n (PacketRead.Packet Packet.CPing) = Unit
+PlainInside n (PacketRead.Packet Packet.CPong) = Unit
+PlainInside n (PacketRead.Packet (Packet.Forward f)) = Unit
+PlainInside n (PacketRead.Packet (Packet.Body p)) = p .start .0 + p .len ≡ n
+PlainInside n (PacketRead.Packet (Packet.GetBody k)) = Unit
+PlainInside n (PacketRead.Packet (Packet.SendHeaders h)) = Unit
+PlainInside n (PacketRead.Packet (Packet.BodyChunk p)) = (p .start .0 ≡ 7) × (p .start .0 + p .len + 1 ≡ n)
+PlainInside n (PacketRead.Packet (Packet.End reuse)) = Unit
+
+-- a body packet that tells its size
+sized-inside : (n start len : ℕ) → PlainInside n (sizedAt n start len)
+unfolding sizedAt
+sized-inside n start len = go (ltb n (start + len)) (ltb (start + len) n) (eqb len 0) refl refl
+  where
+    go : (a b c : Bool) → ltb n (start + len) ≡ a → ltb (start + len) n ≡ b
+        → PlainInside n
+        (pick a (PacketRead.Refused 3)
+        (pick b (PacketRead.Refused 12) (pick c (PacketRead.Refused 14) (PacketRead.Packet (Packet.Body (partFrom start len))))))
+    go true b c p q = tt
+    go false true c p q = tt
+    go false false true p q = tt
+    go false false false p q = omega (arith, ltb-false n (start + len) p, ltb-false (start + len) n q)
+
+-- a body packet, by what its size reads as
+sized-of-inside : (n : ℕ) (r : NumberRead) → PlainInside n (sizedOf n r)
+sized-of-inside n (NumberRead.Refused k) = tt
+sized-of-inside n (NumberRead.Number len start) = sized-inside n start len
+
+-- a body packet
+body-all : (s : List ℕ) → PlainInside (length s) (bodyAt s)
+unfolding bodyAt
+body-all s = go (eqb (length s) 4) refl
+  where
+    go : (t : Bool) → eqb (length s) 4 ≡ t
+        → PlainInside (length s) (pick t (PacketRead.Packet (Packet.Body (partFrom 4 0))) (sizedOf (length s) (integerAt s 4)))
+    go true e = sym (eqb-true (length s) 4 e)
+    go false e = sized-of-inside (length s) (integerAt s 4)
+
+-- a chunk whose bytes start at 7
+chunk-of-inside : (s : List ℕ) (start len : ℕ) → start ≡ 7 → PlainInside (length s) (chunkOf s start len)
+unfolding chunkOf
+chunk-of-inside s start len e =
+    go (leb (start + (len + 1)) (length s)) (eqb (getD s (start + len) 0) 0) (eqb (start + len + 1) (length s)) refl
+  where
+    go : (a b c : Bool) → eqb (start + len + 1) (length s) ≡ c
+        → PlainInside (length s)
+        (pick a
+        (pick b (pick c (PacketRead.Packet (Packet.BodyChunk (partFrom start len))) (PacketRead.Refused 12)) (PacketRead.Refused 6))
+        (PacketRead.Refused 3))
+    go true true true p = (e, eqb-true (start + len + 1) (length s) p)
+    go true true false p = tt
+    go true false c p = tt
+    go false b c p = tt
+
+-- a chunk, by what its length reads as
+chunk-by-inside : (s : List ℕ) (r : NumberRead) → NumberInside (length s) 5 2 r → PlainInside (length s) (chunkBy s r)
+chunk-by-inside s (NumberRead.Refused k) h = tt
+chunk-by-inside s (NumberRead.Number len start) h = chunk-of-inside s start len (h .0)
+
+-- a chunk
+chunk-all : (s : List ℕ) → PlainInside (length s) (chunkAt s)
+unfolding chunkAt
+chunk-all s = chunk-by-inside s (integerAt s 5) (integer-inside s 5 (integerAt s 5) refl)
+
+-- body packets and chunks have no bytes but those that they tell of
+pub plain-inside : (s : List ℕ) → PlainInside (length s) (bodyAt s) × PlainInside (length s) (chunkAt s)
+plain-inside s = (body-all s, chunk-all s)
+
+-- a body packet, where the answer is known
+pub body-inside : (s : List ℕ) (r : PacketRead) → bodyAt s ≡ r → PlainInside (length s) r
+body-inside s r e = subst (PlainInside (length s)) e (body-all s)
+
+-- a chunk, where the answer is known
+pub chunk-inside : (s : List ℕ) (r : PacketRead) → chunkAt s ≡ r → PlainInside (length s) r
+chunk-inside s r e = subst (PlainInside (length s)) e (chunk-all s)
+
+-- a kind that goes a way, where the packet is not refused
+abbrev pub Goes : Direction → KindRead → Type 0
+Goes d (KindRead.Refused n) = Unit
+Goes d (KindRead.Kind k) = directionOf k ≡ d
+
+-- the kind that has a code goes the way in which the code was read
+code-goes : (d : Direction) (code : ℕ) → Goes d (codeKind d code)
+unfolding codeKind
+code-goes Direction.ToContainer code = go (eqb code 2) (eqb code 10) (either (eqb code 7) (eqb code 8))
+  where
+    go : (a b c : Bool)
+        → Goes Direction.ToContainer
+        (pick a (KindRead.Kind Kind.Forward)
+        (pick b (KindRead.Kind Kind.CPing) (pick c (KindRead.Refused 5) (KindRead.Refused 4))))
+    go true b c = refl
+    go false true c = refl
+    go false false true = tt
+    go false false false = tt
+code-goes Direction.ToServer code = go (eqb code 3) (eqb code 4) (eqb code 5) (eqb code 6) (eqb code 9)
+  where
+    go : (a b c d e : Bool)
+        → Goes Direction.ToServer
+        (pick a (KindRead.Kind Kind.BodyChunk)
+        (pick b (KindRead.Kind Kind.SendHeaders)
+        (pick c (KindRead.Kind Kind.End)
+        (pick d (KindRead.Kind Kind.GetBody) (pick e (KindRead.Kind Kind.CPong) (KindRead.Refused 4))))))
+    go true b c d e = refl
+    go false true c d e = refl
+    go false false true d e = refl
+    go false false false true e = refl
+    go false false false false true = refl
+    go false false false false false = tt
+
+-- and so does the kind by the code as read
+code-read-goes : (d : Direction) (r : NumberRead) → Goes d (kindOfCode d r)
+code-read-goes d (NumberRead.Refused n) = tt
+code-read-goes d (NumberRead.Number code next) = code-goes d code
+
+-- the kind of a packet that is not read as a body packet goes the way that the packet goes
+pub kind-direction : (d : Direction) (body : Bool) (s : List ℕ) (k : Kind) → kindAt d body s ≡ KindRead.Kind k → body ≡ false
+    → directionOf k ≡ d
+kind-direction d body s k e f =
+    subst (Goes d) (sym (kind-is d body false s (byteAt s 4) f refl) ∙ e) (code-read-goes d (byteAt s 4))

@@ -1,0 +1,39 @@
+-- `payload::kind_to_server` meets its contract, by the code that the arm has.
+-- Assumes nothing.
+use borrow.Author.Tests.{ne-eqb}
+use mathlib.Core.Path.{sym, ap}
+use Rattle.wire.specs.declared.Direction.{Direction}
+use Rattle.payload.specs.Code.{codeKind}
+use Rattle.payload.proofs.kind_to_server.Statement.{statement}
+use Rattle.payload.proofs.kind_to_server.Tie as tie
+
+returns : tie.Need-returns
+unfolding codeKind
+returns c = sym (ap (codeKind Direction.ToServer) (c .match .keys1))
+
+returns-2 : tie.Need-returns-2
+unfolding codeKind
+returns-2 c = sym (ap (codeKind Direction.ToServer) (c .match .keys2))
+
+returns-3 : tie.Need-returns-3
+unfolding codeKind
+returns-3 c = sym (ap (codeKind Direction.ToServer) (c .match .keys3))
+
+returns-4 : tie.Need-returns-4
+unfolding codeKind
+returns-4 c = sym (ap (codeKind Direction.ToServer) (c .match .keys4))
+
+returns-5 : tie.Need-returns-5
+unfolding codeKind
+returns-5 c = sym (ap (codeKind Direction.ToServer) (c .match .keys5))
+
+returns-6 : tie.Need-returns-6
+unfolding codeKind
+returns-6 c =
+    let code = c .before .args .code in
+    let r = c .match .rest in
+    simp (ne-eqb code 3 (r .0 .0 .0 .0 .1), ne-eqb code 4 (r .0 .0 .0 .1), ne-eqb code 5 (r .0 .0 .1), ne-eqb code 6 (r .0 .1), ne-eqb code 9 (r .1))
+
+pub kind-to-server-spec : {M : Type 1} → statement M
+kind-to-server-spec =
+    tie.close (tie.spec returns returns-2 returns-3 returns-4 returns-5 returns-6)

@@ -1,0 +1,47 @@
+-- `plain::sized` meets its contract, by its three tests.
+-- Assumes nothing.
+use borrow.Author.Tests.{lt-ltb, le-ltb, eq-eqb, ne-eqb}
+use borrow.Author.Needs.{needs}
+use mathlib.Core.Path.{refl}
+use mathlib.Core.Bool.{true, false}
+use Prim.Native.Nat.{_+_}
+use lib.Dec.{ltb, eqb}
+use Rattle.payload.proofs.Laws.{sized-by}
+use Rattle.payload.proofs.plain.sized.Statement.{statement}
+use Rattle.payload.proofs.plain.sized.Tie as tie
+
+add-if1 : tie.Need-add-if1
+add-if1 c = search needs
+
+returns : tie.Need-returns
+returns c =
+    let a = c .before .args in
+    sized-by (a .size) (a .start) (a .len) true (ltb (a .start + a .len) (a .size)) (eqb (a .len) 0)
+    (lt-ltb _ _ (c .if1 .taken)) refl refl
+
+add-if2 : tie.Need-add-if2
+add-if2 c = search needs
+
+returns-2 : tie.Need-returns-2
+returns-2 c =
+    let a = c .before .before .args in
+    sized-by (a .size) (a .start) (a .len) false true (eqb (a .len) 0)
+    (le-ltb _ _ (c .before .if1 .left)) (lt-ltb _ _ (c .if2 .taken)) refl
+
+returns-3 : tie.Need-returns-3
+returns-3 c =
+    let a = c .before .before .before .args in
+    sized-by (a .size) (a .start) (a .len) false false true
+    (le-ltb _ _ (c .before .before .if1 .left)) (le-ltb _ _ (c .before .if2 .left)) (eq-eqb _ _ (c .if3 .taken))
+
+cast-t7 : tie.Need-cast-t7
+cast-t7 c = search needs
+
+returns-4 : tie.Need-returns-4
+returns-4 c =
+    let a = c .before .before .before .args in
+    sized-by (a .size) (a .start) (a .len) false false false
+    (le-ltb _ _ (c .before .before .if1 .left)) (le-ltb _ _ (c .before .if2 .left)) (ne-eqb _ _ (c .if3 .left))
+
+pub sized-spec : {M : Type 1} → statement M
+sized-spec = tie.close (tie.spec add-if1 returns add-if2 returns-2 returns-3 cast-t7 returns-4)

@@ -1,0 +1,145 @@
+// The fixed fields of a packet, one after the other: each is read where the one before it ends, and a refusal stays.
+ghost use mathlib.Core.Path.{_≡_};
+ghost use Rattle.payload.specs.Sequence.{afterCode, bounded, stringFieldAt, stringAfter, booleanFieldAt, booleanAfter, byteAfter, integerAfter, placeOf, valueOf, Within};
+use crate::AFTER_CODE;
+use crate::CODE_PLACE;
+use connection::Place;
+use wire::StringField;
+use wire::is_optional;
+use wire::read;
+use wire::read::BooleanRead;
+use wire::read::NumberRead;
+use wire::read::StringRead;
+
+// A field: refused, or its place, its number (0 for a string) and the place after it.
+pub enum FieldRead {
+    Refused(u8),
+    Field { at: usize, value: u16, next: usize },
+}
+
+// The code, which was judged before: the first field is behind it.
+pub fn after_code() -> FieldRead
+    ensures { λ r. ⌜ r ≡ afterCode ⌝ }
+{
+    FieldRead::Field {
+        at: CODE_PLACE,
+        value: 0,
+        next: AFTER_CODE,
+    }
+}
+
+// The string behind a field.
+pub fn string_after(packet: &[u8], before: FieldRead, field: StringField) -> FieldRead
+    ensures { λ r. ⌜ r ≡ stringAfter (now (packet .entry)) field before ⌝ }
+{
+    match before {
+        FieldRead::Refused(n) => FieldRead::Refused(n),
+        FieldRead::Field { at, value, next } => string_at(packet, next, field),
+    }
+}
+
+// The string at a place, as a field.
+fn string_at(packet: &[u8], place: usize, field: StringField) -> FieldRead
+    ensures { λ r. ⌜ r ≡ stringFieldAt (now (packet .entry)) field place ⌝ }
+{
+    match read::string(packet, place, is_optional(field)) {
+        StringRead::Refused(n) => FieldRead::Refused(n),
+        StringRead::Null { next } => FieldRead::Field {
+            at: place,
+            value: 0,
+            next,
+        },
+        StringRead::Text { start, len, next } => FieldRead::Field {
+            at: place,
+            value: 0,
+            next,
+        },
+    }
+}
+
+// The boolean behind a field; its number is 1 for true.
+pub fn boolean_after(packet: &[u8], before: FieldRead) -> FieldRead
+    ensures { λ r. ⌜ r ≡ booleanAfter (now (packet .entry)) before ⌝ }
+{
+    match before {
+        FieldRead::Refused(n) => FieldRead::Refused(n),
+        FieldRead::Field { at, value, next } => boolean_at(packet, next),
+    }
+}
+
+// The boolean at a place, as a field.
+fn boolean_at(packet: &[u8], place: usize) -> FieldRead
+    ensures { λ r. ⌜ r ≡ booleanFieldAt (now (packet .entry)) place ⌝ }
+{
+    match read::boolean(packet, place) {
+        BooleanRead::Refused(n) => FieldRead::Refused(n),
+        BooleanRead::Boolean { value, next } => FieldRead::Field {
+            at: place,
+            value: value as u16,
+            next,
+        },
+    }
+}
+
+// The byte behind a field, which is from `low` to `high`, else it is refused with `fault`.
+pub fn byte_after(packet: &[u8], before: FieldRead, low: u16, high: u16, fault: u8) -> FieldRead
+    ensures { λ r. ⌜ r ≡ byteAfter (now (packet .entry)) low high fault before ⌝ }
+{
+    match before {
+        FieldRead::Refused(n) => FieldRead::Refused(n),
+        FieldRead::Field { at, value, next } => {
+            bounded(next, read::byte(packet, next), low, high, fault)
+        }
+    }
+}
+
+// The integer behind a field, which is from `low` to `high`, else it is refused with `fault`.
+pub fn integer_after(packet: &[u8], before: FieldRead, low: u16, high: u16, fault: u8) -> FieldRead
+    ensures { λ r. ⌜ r ≡ integerAfter (now (packet .entry)) low high fault before ⌝ }
+{
+    match before {
+        FieldRead::Refused(n) => FieldRead::Refused(n),
+        FieldRead::Field { at, value, next } => {
+            bounded(next, read::integer(packet, next), low, high, fault)
+        }
+    }
+}
+
+// A number as read at a place, which is from `low` to `high`, else it is refused with `fault`.
+fn bounded(at: usize, number: NumberRead, low: u16, high: u16, fault: u8) -> FieldRead
+    ensures { λ r. ⌜ r ≡ bounded at low high fault number ⌝ }
+{
+    match number {
+        NumberRead::Refused(n) => FieldRead::Refused(n),
+        NumberRead::Number { value, next } => {
+            if value < low {
+                return FieldRead::Refused(fault);
+            }
+            if high < value {
+                return FieldRead::Refused(fault);
+            }
+            FieldRead::Field { at, value, next }
+        }
+    }
+}
+
+// A field's place, 0 for a refused one.
+pub fn place_of(field: FieldRead) -> Place
+    requires { ⌜ Within 65535 field ⌝ }
+    ensures { λ r. ⌜ r ≡ placeOf field ⌝ }
+{
+    match field {
+        FieldRead::Refused(n) => Place(0),
+        FieldRead::Field { at, value, next } => Place(at as u16),
+    }
+}
+
+// A field's number, 0 for a refused one.
+pub fn value_of(field: FieldRead) -> u16
+    ensures { λ r. ⌜ r ≡ valueOf field ⌝ }
+{
+    match field {
+        FieldRead::Refused(n) => 0,
+        FieldRead::Field { at, value, next } => value,
+    }
+}

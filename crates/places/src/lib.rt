@@ -1,0 +1,47 @@
+// The table of places: two for each header and then two for each attribute. An inner crate: the layers above call it, a user of the
+// library does not.
+ghost use mathlib.Core.Path.{_≡_};
+ghost use mathlib.Core.List.{[], _∷_};
+ghost use lib.ListN.{take};
+ghost use Rattle.wire.specs.Bytes.{put};
+use wire::has_room;
+
+// The most headers of a packet, the most attributes of a Forward, and the most places that they take.
+pub const MAX_HEADERS: u16 = 100;
+
+pub const MAX_ATTRIBUTES: usize = 64;
+
+pub const MAX_PLACES: usize = 328;
+
+// Puts two places into a table, from an index on; where they do not fit, the table stays as it is.
+pub fn put_pair(table: &mut [u16], at: usize, first: u16, second: u16)
+    ensures { λ _. ⌜ now (table .exit) ≡ put (now (table .entry)) at (first ∷ second ∷ []) ⌝ }
+{
+    if has_room(table.len(), at, 2) {
+        table[at] = first;
+        table[at + 1] = second;
+    }
+}
+
+// The first `count` places of a list, or as many as there are.
+pub fn first(list: &[u16], count: usize) -> &[u16]
+    ensures { λ r. ⌜ now r ≡ take count (now (list .entry)) ⌝ }
+{
+    if list.len() < count {
+        return list;
+    }
+    &list[..count]
+}
+
+// Copies places into a table, from its start on; where they do not fit, the table stays as it is.
+pub fn fill(table: &mut [u16], from: &[u16])
+    ensures { λ _. ⌜ now (table .exit) ≡ put (now (table .entry)) 0 (now (from .entry)) ⌝ }
+{
+    if from.len() <= table.len() {
+        let mut i = 0;
+        while i < from.len() {
+            table[i] = from[i];
+            i += 1;
+        }
+    }
+}

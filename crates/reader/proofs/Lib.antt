@@ -1,0 +1,4 @@
+pub mod Framing
+pub mod Below
+pub mod Laws
+pub mod Views

@@ -1,0 +1,49 @@
+-- Laws of the views: what each shows by what is read at the place.
+-- Assumes nothing.
+use mathlib.Core.Path.{_≡_, refl, sym, ap, _∙_}
+use mathlib.Core.Bool.{Bool, true, false}
+use mathlib.Core.List.{List, []}
+use Prim.Native.Nat.{ℕ, _+_}
+use lib.Dec.{leb, eqb}
+use lib.ListN.{length, getD}
+use Rattle.wire.specs.Pick.{pick, both}
+use Rattle.wire.specs.Bytes.{part, integerIn}
+use Rattle.wire.specs.Field.{integerAt}
+use Rattle.wire.specs.declared.read.NumberRead.{NumberRead}
+use Rattle.names.specs.Header.{beginsCode}
+use Rattle.reader.specs.declared.view.HeaderName.{HeaderName}
+use Rattle.reader.specs.View.{numberIn, isNullIn, textIn, nameIn}
+
+-- a number as read, 0 where it is refused
+abbrev pub numberOf : NumberRead → ℕ
+numberOf (NumberRead.Refused n) = 0
+numberOf (NumberRead.Number value next) = value
+
+-- the number at a place, by what is read there
+pub number-is : (s : List ℕ) (at : ℕ) (r : NumberRead) → integerAt s at ≡ r → numberOf r ≡ numberIn s at
+unfolding integerAt numberIn
+number-is s at r e = ap numberOf (sym e) ∙ go (leb (at + 2) (length s))
+  where
+    go : (there : Bool) → numberOf (pick there (NumberRead.Number (integerIn s at) (at + 2)) (NumberRead.Refused 3)) ≡ pick there (integerIn s at) 0
+    go true = refl
+    go false = refl
+
+-- whether it is null, by the number
+pub null-is : (s : List ℕ) (at n : ℕ) → n ≡ numberIn s at → eqb n 65535 ≡ isNullIn s at
+unfolding isNullIn
+null-is s at n e = ap (λ (k : ℕ). eqb k 65535) e
+
+-- the text, where it is null and where it is not
+pub text-null : (s : List ℕ) (at n : ℕ) → n ≡ numberIn s at → eqb n 65535 ≡ true → part s 0 0 ≡ textIn s at
+unfolding textIn part
+text-null s at n e q = rw (sym (null-is s at n e) ∙ q)
+
+pub text-is : (s : List ℕ) (at n : ℕ) → n ≡ numberIn s at → eqb n 65535 ≡ false → part s (at + 2) n ≡ textIn s at
+unfolding textIn
+text-is s at n e q = rw (sym (null-is s at n e) ∙ q, e)
+
+-- a header's name, by its first byte
+pub name-is : (s : List ℕ) (at n : ℕ) (there code : Bool) → leb (at + 1) (length s) ≡ there → beginsCode (getD s at 0) ≡ code → n ≡ numberIn s at
+    → pick (both there code) (HeaderName.Code n) HeaderName.Spelled ≡ nameIn s at
+unfolding nameIn
+name-is s at n there code p q e = rw (p, q, e)

@@ -1,0 +1,57 @@
+-- `reader::settle` meets its contract, by the step that the packet makes.
+-- Assumes nothing.
+use mathlib.Core.Path.{sym, ap, _∙_}
+use Rattle.connection.specs.Cycle.{stepOf}
+use Rattle.reader.specs.Reading.{settled}
+use Rattle.reader.proofs.Laws.{settled-is}
+use borrow.Author.Needs.{needs}
+use Rattle.reader.proofs.settle.Statement.{statement}
+use Rattle.reader.proofs.settle.Tie as tie
+
+enum-known-found : tie.Need-enum-known-found
+enum-known-found c = search needs
+
+enum-known-found-2 : tie.Need-enum-known-found-2
+enum-known-found-2 c = search needs
+
+move-of-requires : tie.Need-move-of-requires
+move-of-requires c κs = search needs
+
+step-requires : tie.Need-step-requires
+step-requires c κs = search needs
+
+enum-known-n : tie.Need-enum-known-n
+enum-known-n c = search needs
+
+enum-known-after : tie.Need-enum-known-after
+enum-known-after c = search needs
+
+returns : tie.Need-returns
+unfolding settled
+returns c = sym (ap (settled _ _) (c .before .found .given .1))
+
+returns-2 : tie.Need-returns-2
+returns-2 c =
+    settled-is _ _ _ _
+    (ap (stepOf _) (sym (c .before .before .before .before .move-of .ensures)) ∙ sym (c .before .before .before .step .ensures) ∙ c .before .n .given .1)
+    ∙ sym (ap (settled _ _) (c .before .before .before .before .before .before .found2 .given .1))
+
+returns-3 : tie.Need-returns-3
+returns-3 c =
+    settled-is _ _ _ _
+    (ap (stepOf _) (sym (c .before .before .before .before .move-of .ensures)) ∙ sym (c .before .before .before .step .ensures) ∙ c .before .after .given .1)
+    ∙ sym (ap (settled _ _) (c .before .before .before .before .before .before .found2 .given .1))
+
+pub settle-spec : {M : Type 1} → statement M
+settle-spec =
+    tie.close
+    (tie.spec
+    enum-known-found
+    enum-known-found-2
+    move-of-requires
+    step-requires
+    enum-known-n
+    enum-known-after
+    returns
+    returns-2
+    returns-3)

@@ -1,0 +1,115 @@
+-- Reading a packet at either end. The connection enters at three places only: whether the packet is read as a body packet, whether its
+-- kind is allowed (13), and the step (14). All else is `parse`, which sees no connection.
+-- Document 01, 'Refusal numbers': the reading order and the table.
+-- Assumes nothing.
+use mathlib.Core.Bool.{Bool, false}
+use mathlib.Core.List.{List, []}
+use Prim.Native.Nat.{ℕ}
+use lib.Dec.{leb}
+use lib.ListN.{length}
+use Rattle.wire.specs.Pick.{pick}
+use Rattle.wire.specs.Refusal.{notNow, lentTooShort}
+use Rattle.wire.specs.Bytes.{part, over}
+use Rattle.wire.specs.declared.Direction.{Direction}
+use Rattle.places.specs.Entries.{Entries}
+use Rattle.connection.specs.Connection.{bodyDue}
+use Rattle.connection.specs.Cycle.{inState, stepOf}
+use Rattle.connection.specs.declared.Kind.{Kind}
+use Rattle.connection.specs.declared.Connection.{Connection}
+use Rattle.connection.specs.declared.Step.{Step}
+use Rattle.payload.specs.Code.{kindAt}
+use Rattle.payload.specs.Parse.{packetAt, moveIn}
+use Rattle.payload.specs.declared.KindRead.{KindRead}
+use Rattle.payload.specs.declared.Packet.{Packet}
+use Rattle.payload.specs.declared.PacketRead.{PacketRead}
+use Rattle.reader.specs.declared.frame.FrameRead.{FrameRead}
+use Rattle.reader.specs.Frame.{frameAt}
+use Rattle.reader.specs.Meaning.{Told, Meaning, needs, refused, accepted, told, placesIn}
+
+-- what bytes are, with no connection in it: too few, wrong, or a whole packet of a kind, with its length and what its fields say
+pub data Parsed : Type 0 where
+  short : ℕ → Parsed
+  wrong : ℕ → Parsed
+  whole : Kind → ℕ → Entries PacketRead → Parsed
+
+-- a packet, by its kind
+abbrev pub parsedOf : List ℕ → KindRead → Parsed
+parsedOf s (KindRead.Refused n) = wrong n
+parsedOf s (KindRead.Kind kind) = whole kind (length s) (packetAt kind s)
+
+-- a packet that is a list of its own bytes, read as a body packet or by its code
+unfoldable pub parseWhole : Direction → Bool → List ℕ → Parsed
+parseWhole direction body s = parsedOf s (kindAt direction body s)
+
+-- bytes, by the first packet's frame: what lies behind it is not looked at
+abbrev pub parseFrame : Direction → Bool → List ℕ → FrameRead → Parsed
+parseFrame direction body s (FrameRead.Needs n) = short n
+parseFrame direction body s (FrameRead.Refused n) = wrong n
+parseFrame direction body s (FrameRead.Whole n) = parseWhole direction body (part s 0 n)
+
+unfoldable pub parse : Direction → Bool → List ℕ → Parsed
+parse direction body s = parseFrame direction body s (frameAt direction s)
+
+-- the container's end reads a packet as a body packet exactly when one is due
+abbrev pub readAsBody : Direction → Connection → Bool
+readAsBody Direction.ToContainer c = bodyDue c
+readAsBody Direction.ToServer c = false
+
+-- the step that a packet makes: 14, or the connection after it
+abbrev pub stepped : Packet → ℕ → Step → Meaning
+stepped packet taken (Step.Refused n) = refused n
+stepped packet taken (Step.Next after) = accepted (told packet) taken after
+
+unfoldable pub settled : Connection → ℕ → PacketRead → Meaning
+settled c taken (PacketRead.Refused n) = refused n
+settled c taken (PacketRead.Packet packet) = stepped packet taken (stepOf c (moveIn packet))
+
+-- where the table has too little room: 15
+abbrev pub lending : ℕ → Meaning → Meaning
+lending room (needs n) = needs n
+lending room (refused n) = refused n
+lending room (accepted t taken after) = pick (leb (placesIn t) room) (accepted t taken after) (refused lentTooShort)
+
+-- a packet of a kind that is allowed: its fields, 12 among them, then 14, then 15
+unfoldable pub judged : Connection → ℕ → Kind → List ℕ → Meaning
+judged c room kind s = lending room (settled c (length s) (packetAt kind s .end))
+
+-- what bytes are answered with: 13 comes behind the code and before the fields
+abbrev pub received : Connection → ℕ → Parsed → Meaning
+received c room (short n) = needs n
+received c room (wrong n) = refused n
+received c room (whole kind taken found) = pick (inState c kind) (lending room (settled c taken (found .end))) (refused notNow)
+
+-- the answer of reading, at the end to which packets of this direction go
+unfoldable pub reading : Direction → Connection → List ℕ → ℕ → Meaning
+reading direction c s room = received c room (parse direction (readAsBody direction c) s)
+
+-- the answer for a packet that is a list of its own bytes
+unfoldable pub wholeOf : Direction → Connection → List ℕ → ℕ → Meaning
+wholeOf direction c s room = received c room (parseWhole direction (readAsBody direction c) s)
+
+-- the places that a packet has for the table: for each header its name's and its value's, then for each attribute its code's and its
+-- value's
+abbrev pub placesOf : Parsed → List ℕ
+placesOf (short n) = []
+placesOf (wrong n) = []
+placesOf (whole kind taken found) = found .places
+
+unfoldable pub placesAt : Direction → Connection → List ℕ → List ℕ
+placesAt direction c s = placesOf (parseWhole direction (readAsBody direction c) s)
+
+-- how many places an answer asks of the table
+abbrev pub needed : Meaning → ℕ
+needed (needs n) = 0
+needed (refused n) = 0
+needed (accepted t taken after) = placesIn t
+
+-- the table then: where the packet is accepted, its places from the table's start on and the rest as it was; else all as it was
+abbrev pub filled : Meaning → List ℕ → List ℕ → List ℕ
+filled (needs n) places table = table
+filled (refused n) places table = table
+filled (accepted t taken after) places table = over table 0 places
+
+unfoldable pub tableAfter : Direction → Connection → List ℕ → List ℕ → List ℕ
+tableAfter direction c s table =
+    filled (reading direction c s (length table)) (placesOf (parse direction (readAsBody direction c) s)) table

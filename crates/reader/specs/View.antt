@@ -1,0 +1,31 @@
+-- What the fields of a packet show at a place. Any bytes and any place have an answer; that it is the field of the packet, where reading
+-- gave the place, is shown beside the proofs.
+-- Document 01, 'Bytes and numbers': strings; 'Server to container', Header.
+-- Assumes nothing.
+use mathlib.Core.Bool.{Bool}
+use mathlib.Core.List.{List, []}
+use Prim.Native.Nat.{ℕ, _+_}
+use lib.Dec.{leb, eqb}
+use lib.ListN.{length, getD}
+use Rattle.wire.specs.Pick.{pick, both}
+use Rattle.wire.specs.Bytes.{part, integerIn}
+use Rattle.wire.specs.Field.{nullLength}
+use Rattle.names.specs.Header.{beginsCode}
+use Rattle.reader.specs.declared.view.HeaderName.{HeaderName}
+
+-- the integer at a place, 0 where it is not there
+unfoldable pub numberIn : List ℕ → ℕ → ℕ
+numberIn s at = pick (leb (at + 2) (length s)) (integerIn s at) 0
+
+-- the string at a place is null
+unfoldable pub isNullIn : List ℕ → ℕ → Bool
+isNullIn s at = eqb (numberIn s at) nullLength
+
+-- the bytes of the string at a place
+unfoldable pub textIn : List ℕ → ℕ → List ℕ
+textIn s at = pick (isNullIn s at) [] (part s (at + 2) (numberIn s at))
+
+-- the header's name at a place: a code where its first byte says so, else a string
+unfoldable pub nameIn : List ℕ → ℕ → HeaderName
+nameIn s at =
+    pick (both (leb (at + 1) (length s)) (beginsCode (getD s at 0))) (HeaderName.Code (numberIn s at)) HeaderName.Spelled

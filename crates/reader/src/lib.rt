@@ -1,0 +1,217 @@
+// Reading at both ends: takes a packet out of lent bytes, checks it, tells what it is, fills the lent table and steps the connection.
+// `read_at_container` and `read_at_server` answer for any connection, any bytes and any table. `view` shows the fields of what was read.
+ghost use mathlib.Core.Path.{_≡_};
+ghost use Prim.Native.Nat.{_≤_};
+ghost use lib.ListN.{length, take};
+ghost use Rattle.payload.specs.Parse.{moveIn, packetAt};
+ghost use Rattle.payload.specs.Listed.{forwardAt, sendHeadersAt};
+ghost use Rattle.reader.specs.Meaning.{meaning, told, placesIn};
+ghost use Rattle.reader.specs.Reading.{readAsBody, settled, lending, needed, filled, judged, wholeOf, reading, placesAt, tableAfter};
+use connection::Connection;
+use connection::Kind;
+use connection::Move;
+use connection::Step;
+use payload::KindRead;
+use payload::Packet;
+use payload::PacketRead;
+use payload::listed;
+use payload::plain;
+use places::MAX_PLACES;
+use places::fill;
+use places::first;
+use wire::Direction;
+use wire::part_of;
+use wire::refusal;
+
+pub mod frame;
+pub mod view;
+
+use crate::frame::FrameRead;
+
+// What reading answers: how many bytes it needs in all, the refusal's number, or the packet, how many bytes were taken, and the connection
+// after it.
+pub enum Received {
+    Needs(usize),
+    Refused(u8),
+    Accepted {
+        packet: Packet,
+        taken: usize,
+        connection: Connection,
+    },
+}
+
+// The container's end reads the first packet of the bytes. Where it is accepted, the table has the places of its headers and attributes;
+// else the table is as it was, and the connection given still counts.
+pub fn read_at_container(connection: Connection, bytes: &[u8], table: &mut [u16]) -> Received
+    ensures { λ r. ⌜ meaning r ≡ reading Direction.ToContainer connection (now (bytes .entry)) (length (now (table .entry))) ⌝ }
+    ensures { λ r. ⌜ now (table .exit) ≡ tableAfter Direction.ToContainer connection (now (bytes .entry)) (now (table .entry)) ⌝ }
+{
+    read(Direction::ToContainer, connection, bytes, table)
+}
+
+// The server's end reads the first packet of the bytes, in the same way.
+pub fn read_at_server(connection: Connection, bytes: &[u8], table: &mut [u16]) -> Received
+    ensures { λ r. ⌜ meaning r ≡ reading Direction.ToServer connection (now (bytes .entry)) (length (now (table .entry))) ⌝ }
+    ensures { λ r. ⌜ now (table .exit) ≡ tableAfter Direction.ToServer connection (now (bytes .entry)) (now (table .entry)) ⌝ }
+{
+    read(Direction::ToServer, connection, bytes, table)
+}
+
+// Reads the first packet of the bytes, which goes in a direction.
+fn read(direction: Direction, connection: Connection, bytes: &[u8], table: &mut [u16]) -> Received
+    ensures { λ r. ⌜ meaning r ≡ reading direction connection (now (bytes .entry)) (length (now (table .entry))) ⌝ }
+    ensures { λ r. ⌜ now (table .exit) ≡ tableAfter direction connection (now (bytes .entry)) (now (table .entry)) ⌝ }
+{
+    match frame::frame(bytes, direction) {
+        FrameRead::Needs(n) => Received::Needs(n),
+        FrameRead::Refused(n) => Received::Refused(n),
+        FrameRead::Whole(n) => whole(direction, connection, part_of(bytes, 0, n), table),
+    }
+}
+
+// Whether a packet is read as a body packet: at the container's end, exactly when one is due.
+fn reads_body(direction: Direction, connection: Connection) -> bool
+    ensures { λ r. ⌜ r ≡ readAsBody direction connection ⌝ }
+{
+    match direction {
+        Direction::ToContainer => connection.is_body_due(),
+        Direction::ToServer => false,
+    }
+}
+
+// A whole packet: its kind, whether that is allowed now, then its fields.
+fn whole(direction: Direction, connection: Connection, packet: &[u8], table: &mut [u16]) -> Received
+    requires { ⌜ length (now packet) ≤ 8192 ⌝ }
+    ensures { λ r. ⌜ meaning r ≡ wholeOf direction connection (now (packet .entry)) (length (now (table .entry))) ⌝ }
+    ensures { λ r. ⌜ now (table .exit) ≡ filled (wholeOf direction connection (now (packet .entry)) (length (now (table .entry)))) (placesAt direction connection (now (packet .entry))) (now (table .entry)) ⌝ }
+{
+    match payload::kind_of(packet, direction, reads_body(direction, connection)) {
+        KindRead::Refused(n) => Received::Refused(n),
+        KindRead::Kind(kind) => {
+            if !connection.allows(kind) {
+                return Received::Refused(refusal::NOT_NOW);
+            }
+            fields(connection, kind, packet, table)
+        }
+    }
+}
+
+// A packet of a kind: its fields, then the step, then the table.
+fn fields(connection: Connection, kind: Kind, packet: &[u8], table: &mut [u16]) -> Received
+    requires { ⌜ length (now packet) ≤ 8192 ⌝ }
+    ensures { λ r. ⌜ meaning r ≡ judged connection (length (now (table .entry))) kind (now (packet .entry)) ⌝ }
+    ensures { λ r. ⌜ now (table .exit) ≡ filled (judged connection (length (now (table .entry))) kind (now (packet .entry))) (packetAt kind (now (packet .entry)) .places) (now (table .entry)) ⌝ }
+{
+    let size = packet.len();
+    match kind {
+        Kind::CPing => settle(connection, plain::bare(packet, Packet::CPing), size),
+        Kind::CPong => settle(connection, plain::bare(packet, Packet::CPong), size),
+        Kind::Forward => forward(connection, packet, table),
+        Kind::Body => settle(connection, plain::body(packet), size),
+        Kind::GetBody => settle(connection, plain::get_body(packet), size),
+        Kind::SendHeaders => send_headers(connection, packet, table),
+        Kind::BodyChunk => settle(connection, plain::body_chunk(packet), size),
+        Kind::End => settle(connection, plain::end(packet), size),
+    }
+}
+
+// A Forward; the table is filled from a list of our own at the very end, so that a refusal leaves it.
+fn forward(connection: Connection, packet: &[u8], table: &mut [u16]) -> Received
+    requires { ⌜ length (now packet) ≤ 8192 ⌝ }
+    ensures { λ r. ⌜ meaning r ≡ judged connection (length (now (table .entry))) Kind.Forward (now (packet .entry)) ⌝ }
+    ensures { λ r. ⌜ now (table .exit) ≡ filled (judged connection (length (now (table .entry))) Kind.Forward (now (packet .entry))) (forwardAt (now (packet .entry)) .places) (now (table .entry)) ⌝ }
+{
+    let mut places = [0u16; MAX_PLACES];
+    let found = listed::forward(packet, &mut places);
+    lend(settle(connection, found, packet.len()), &places, table)
+}
+
+// Send Headers, in the same way.
+fn send_headers(connection: Connection, packet: &[u8], table: &mut [u16]) -> Received
+    requires { ⌜ length (now packet) ≤ 8192 ⌝ }
+    ensures { λ r. ⌜ meaning r ≡ judged connection (length (now (table .entry))) Kind.SendHeaders (now (packet .entry)) ⌝ }
+    ensures { λ r. ⌜ now (table .exit) ≡ filled (judged connection (length (now (table .entry))) Kind.SendHeaders (now (packet .entry))) (sendHeadersAt (now (packet .entry)) .places) (now (table .entry)) ⌝ }
+{
+    let mut places = [0u16; MAX_PLACES];
+    let found = listed::send_headers(packet, &mut places);
+    lend(settle(connection, found, packet.len()), &places, table)
+}
+
+// The move that a packet makes in the cycle.
+pub fn move_of(packet: Packet) -> Move
+    ensures { λ r. ⌜ r ≡ moveIn packet ⌝ }
+{
+    match packet {
+        Packet::CPing => Move::CPing,
+        Packet::CPong => Move::CPong,
+        Packet::Forward(f) => {
+            let declared = f.declared;
+            Move::Forward(declared)
+        }
+        Packet::Body(p) => Move::Body(p.len as usize),
+        Packet::GetBody(asked) => Move::GetBody(asked),
+        Packet::SendHeaders(h) => Move::SendHeaders,
+        Packet::BodyChunk(p) => Move::BodyChunk(p.len as usize),
+        Packet::End(reuse) => Move::End(reuse),
+    }
+}
+
+// Steps the connection by a packet that was read; the table aside.
+fn settle(connection: Connection, found: PacketRead, taken: usize) -> Received
+    ensures { λ r. ⌜ meaning r ≡ settled connection taken found ⌝ }
+{
+    match found {
+        PacketRead::Refused(n) => Received::Refused(n),
+        PacketRead::Packet(packet) => match connection.step(move_of(packet)) {
+            Step::Refused(n) => Received::Refused(n),
+            Step::Next(after) => Received::Accepted {
+                packet,
+                taken,
+                connection: after,
+            },
+        },
+    }
+}
+
+// How many places a packet needs: two for each header and each attribute.
+pub fn places_of(packet: Packet) -> usize
+    ensures { λ r. ⌜ r ≡ placesIn (told packet) ⌝ }
+{
+    match packet {
+        Packet::CPing => 0,
+        Packet::CPong => 0,
+        Packet::Forward(f) => 2 * (f.headers as usize + f.attributes as usize),
+        Packet::Body(p) => 0,
+        Packet::GetBody(asked) => 0,
+        Packet::SendHeaders(h) => 2 * h.headers as usize,
+        Packet::BodyChunk(p) => 0,
+        Packet::End(reuse) => 0,
+    }
+}
+
+// Fills the table from a list of places where the packet is accepted and the table is long enough.
+fn lend(answer: Received, places: &[u16], table: &mut [u16]) -> Received
+    ensures { λ r. ⌜ meaning r ≡ lending (length (now (table .entry))) (meaning answer) ⌝ }
+    ensures { λ r. ⌜ now (table .exit) ≡ filled (lending (length (now (table .entry))) (meaning answer)) (take (needed (meaning answer)) (now (places .entry))) (now (table .entry)) ⌝ }
+{
+    match answer {
+        Received::Needs(n) => Received::Needs(n),
+        Received::Refused(n) => Received::Refused(n),
+        Received::Accepted {
+            packet,
+            taken,
+            connection,
+        } => {
+            let count = places_of(packet);
+            if table.len() < count {
+                return Received::Refused(refusal::LENT_TOO_SHORT);
+            }
+            fill(table, first(places, count));
+            Received::Accepted {
+                packet,
+                taken,
+                connection,
+            }
+        }
+    }
+}

@@ -1,0 +1,102 @@
+// Views of the fields of a packet, at the places that reading gives: parts of the lent bytes, not copies. Each answers for any bytes and
+// any place.
+ghost use mathlib.Core.Path.{_≡_};
+ghost use lib.ListN.{getD};
+ghost use Rattle.wire.specs.Bytes.{part};
+ghost use Rattle.reader.specs.View.{isNullIn, textIn, nameIn, numberIn};
+ghost use Rattle.names.specs.Header.{headerNames};
+ghost use Rattle.names.specs.Names.{nameFor};
+ghost use Rattle.names.specs.Row.{padded};
+use connection::Place;
+use names::Name;
+use names::NameList;
+use names::header;
+use names::table;
+use payload::Part;
+use wire::Direction;
+use wire::has_room;
+use wire::part_of;
+use wire::read;
+use wire::read::NumberRead;
+
+// The length that says null.
+const NULL_LENGTH: u16 = 65535;
+
+// A header's name: its code, or a string, whose bytes `text_at` shows.
+pub enum HeaderName {
+    Code(u16),
+    Spelled,
+}
+
+// The integer at a place: an integer attribute's value, a string's length. 0 where it is not there.
+pub fn integer_at(packet: &[u8], place: Place) -> u16
+    ensures { λ r. ⌜ r ≡ numberIn (now (packet .entry)) (place .0) ⌝ }
+{
+    match read::integer(packet, place.index()) {
+        NumberRead::Refused(n) => 0,
+        NumberRead::Number { value, next } => value,
+    }
+}
+
+// Whether the string at a place is null; an empty string is not.
+pub fn is_null_at(packet: &[u8], place: Place) -> bool
+    ensures { λ r. ⌜ r ≡ isNullIn (now (packet .entry)) (place .0) ⌝ }
+{
+    integer_at(packet, place) == NULL_LENGTH
+}
+
+// The bytes of the string at a place; none where it is null.
+pub fn text_at(packet: &[u8], place: Place) -> &[u8]
+    ensures { λ r. ⌜ now r ≡ textIn (now (packet .entry)) (place .0) ⌝ }
+{
+    let n = integer_at(packet, place);
+    if n == NULL_LENGTH {
+        return part_of(packet, 0, 0);
+    }
+    part_of(packet, place.index() + 2, n as usize)
+}
+
+// The header's name at a place.
+pub fn name_at(packet: &[u8], place: Place) -> HeaderName
+    ensures { λ r. ⌜ r ≡ nameIn (now (packet .entry)) (place .0) ⌝ }
+{
+    if has_room(packet.len(), place.index(), 1) {
+        if header::begins_code(packet[place.index()]) {
+            return HeaderName::Code(integer_at(packet, place));
+        }
+    }
+    HeaderName::Spelled
+}
+
+// A part of the packet: a delivered body or chunk.
+pub fn bytes_of(packet: &[u8], of: Part) -> &[u8]
+    ensures { λ r. ⌜ now r ≡ part (now (packet .entry)) (of .start .0) (of .len) ⌝ }
+{
+    let start = of.start;
+    part_of(packet, start.index(), of.len as usize)
+}
+
+// The place at an index of the table, 0 where the table is not so long: the name of header i is at 2 * i and its value behind it; the
+// attributes follow the headers.
+pub fn place_at(list: &[u16], index: usize) -> Place
+    ensures { λ r. ⌜ r .0 ≡ getD (now (list .entry)) index 0 ⌝ }
+{
+    if index < list.len() {
+        return Place(list[index]);
+    }
+    Place(0)
+}
+
+// The name of a header by its code; none where the direction has no such code.
+pub fn header_name(direction: Direction, code: u16) -> Name
+    ensures { λ r. ⌜ r ≡ padded (nameFor (headerNames direction) code) ⌝ }
+{
+    table::name_of(header::names_of(direction), code)
+}
+
+// The name of a method; none where there is no such method.
+pub fn method_name(method: u16) -> Name
+    ensures { λ r. ⌜ r ≡ padded (nameFor NameList.Methods method) ⌝ }
+{
+    table::name_of(NameList::Methods, method)
+}
