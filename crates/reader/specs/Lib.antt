@@ -2,3 +2,4 @@ pub mod Frame
 pub mod Meaning
 pub mod Reading
 pub mod View
+pub mod Starred
