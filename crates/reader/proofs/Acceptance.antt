@@ -84,7 +84,7 @@ module _ (direction : Direction) (c : Connection) (s : List ℕ) where
             → packetAt kind (part s 0 n) .end ≡ PacketRead.Packet packet → allowed c (moveIn packet) ≡ true
             → (enough : Bool) → leb (placesIn (told packet)) room ≡ enough
             → Accepts direction c s room
-              (pick enough (accepted (told packet) (length (part s 0 n)) (after c (moveIn packet))) (refused 15))
+            (pick enough (accepted (told packet) (length (part s 0 n)) (after c (moveIn packet))) (refused 15))
         by-room n kind packet w k f a false e = tt
         by-room n kind packet w k f a true e =
             subst (λ (taken : ℕ). Acceptance direction c s room (told packet) taken (after c (moveIn packet))) (sym (taken-is n w))
@@ -105,7 +105,7 @@ module _ (direction : Direction) (c : Connection) (s : List ℕ) where
             → packetAt kind (part s 0 n) .end ≡ PacketRead.Packet packet → inState c (kindOf (moveIn packet)) ≡ true
             → (size : Bool) → inSize c (moveIn packet) ≡ size
             → Accepts direction c s room
-              (lending room (stepped packet (length (part s 0 n)) (pick size (Step.Next (after c (moveIn packet))) (Step.Refused 14))))
+            (lending room (stepped packet (length (part s 0 n)) (pick size (Step.Next (after c (moveIn packet))) (Step.Refused 14))))
         by-size n kind packet w k f a false e = tt
         by-size n kind packet w k f a true e =
             by-room n kind packet w k f (rw (a, e)) (leb (placesIn (told packet)) room) refl
@@ -153,12 +153,12 @@ same-told direction c e s room more t u taken used next other b p q =
     let w : FrameRead.Whole taken ≡ FrameRead.Whole used = sym (a .whole-is) ∙ o .whole-is in
     let n : taken ≡ used = cc in
     let k : KindRead.Kind (a .kind) ≡ KindRead.Kind (o .kind) =
-      sym (a .kind-is) ∙ ap (λ (body : Bool). kindAt direction body (part s 0 taken)) b
-      ∙ ap (λ (m : ℕ). kindAt direction (readAsBody direction e) (part s 0 m)) n ∙ o .kind-is in
+    sym (a .kind-is) ∙ ap (λ (body : Bool). kindAt direction body (part s 0 taken)) b
+    ∙ ap (λ (m : ℕ). kindAt direction (readAsBody direction e) (part s 0 m)) n ∙ o .kind-is in
     let i : a .kind ≡ o .kind = cc in
     let f : PacketRead.Packet (a .packet) ≡ PacketRead.Packet (o .packet) =
-      sym (a .fields-are) ∙ ap (λ (kind : Kind). packetAt kind (part s 0 taken) .end) i
-      ∙ ap (λ (m : ℕ). packetAt (o .kind) (part s 0 m) .end) n ∙ o .fields-are in
+    sym (a .fields-are) ∙ ap (λ (kind : Kind). packetAt kind (part s 0 taken) .end) i
+    ∙ ap (λ (m : ℕ). packetAt (o .kind) (part s 0 m) .end) n ∙ o .fields-are in
     let same : a .packet ≡ o .packet = cc in
     (a .tells ∙ ap told same ∙ sym (o .tells), n)
 

@@ -1,7 +1,7 @@
 -- Laws of reading: what each definition says by the answers it goes by.
 -- Assumes nothing.
 use mathlib.Core.Path.{_≡_, refl, sym, ap, _∙_}
-use mathlib.Core.Bool.{Bool, true, false}
+use mathlib.Core.Bool.{Bool, true, false, false≢true}
 use mathlib.Core.List.{List, []}
 use Prim.Native.Nat.{ℕ, _+_, _≤_}
 use native.Mathlib.Omega.{arith}
@@ -40,16 +40,19 @@ settled-is c taken packet step e = ap (stepped packet taken) (sym e)
 abbrev pub Answers : Meaning → List ℕ → List ℕ → Meaning → List ℕ → Type 0
 Answers answer places table r exit = (r ≡ answer) × (exit ≡ filled answer places table)
 
--- too little room
-pub lent-short : (t : Told) (taken : ℕ) (after : Connection) (places table : List ℕ) → leb (placesIn t) (length table) ≡ false
-    → Answers (lending (length table) (accepted t taken after)) (take (placesIn t) places) table (refused 15) table
-lent-short t taken after places table e = rw e (refl, refl)
+-- too little room for the places that an answer asks for
+pub lent-short : (m : Meaning) (places table : List ℕ) → leb (needed m) (length table) ≡ false
+    → Answers (lending (length table) m) (take (needed m) places) table (refused 15) table
+lent-short (needs n) places table e = absurd (false≢true (sym e ∙ le-leb 0 (length table) (omega arith)))
+lent-short (refused n) places table e = absurd (false≢true (sym e ∙ le-leb 0 (length table) (omega arith)))
+lent-short (accepted t taken after) places table e = rw e (refl, refl)
 
--- room enough
-pub lent-filled : (t : Told) (taken : ℕ) (after : Connection) (places table exit : List ℕ) → leb (placesIn t) (length table) ≡ true
-    → exit ≡ over table 0 (take (placesIn t) places)
-    → Answers (lending (length table) (accepted t taken after)) (take (placesIn t) places) table (accepted t taken after) exit
-lent-filled t taken after places table exit e h = rw e (refl, h)
+-- room enough for them
+pub lent-filled : (m : Meaning) (places table exit : List ℕ) → leb (needed m) (length table) ≡ true
+    → exit ≡ over table 0 (take (needed m) places) → Answers (lending (length table) m) (take (needed m) places) table m exit
+lent-filled (needs n) places table exit e h = (refl, h ∙ over-none table 0)
+lent-filled (refused n) places table exit e h = (refl, h ∙ over-none table 0)
+lent-filled (accepted t taken after) places table exit e h = rw e (refl, h)
 
 -- the table after a list's first places were copied into it, where it has room for them
 pub laid-first : (places table exit own : List ℕ) (count n : ℕ) → exit ≡ put table 0 own → own ≡ take count places → count ≡ n

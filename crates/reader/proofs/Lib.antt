@@ -2,6 +2,8 @@ pub mod Framing
 pub mod Below
 pub mod Laws
 pub mod Views
-pub mod StarredSet
 pub mod Later
 pub mod Acceptance
+pub mod Inside
+pub mod Shown
+pub mod StarredSet

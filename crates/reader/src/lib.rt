@@ -189,29 +189,30 @@ pub fn places_of(packet: Packet) -> usize
     }
 }
 
+// How many places an answer asks of the table: none unless the packet is accepted.
+fn needed_by(answer: Received) -> usize
+    ensures { λ r. ⌜ r ≡ needed (meaning answer) ⌝ }
+{
+    match answer {
+        Received::Needs(n) => 0,
+        Received::Refused(n) => 0,
+        Received::Accepted {
+            packet,
+            taken,
+            connection,
+        } => places_of(packet),
+    }
+}
+
 // Fills the table from a list of places where the packet is accepted and the table is long enough.
 fn lend(answer: Received, places: &[u16], table: &mut [u16]) -> Received
     ensures { λ r. ⌜ meaning r ≡ lending (length (now (table .entry))) (meaning answer) ⌝ }
     ensures { λ r. ⌜ now (table .exit) ≡ filled (lending (length (now (table .entry))) (meaning answer)) (take (needed (meaning answer)) (now (places .entry))) (now (table .entry)) ⌝ }
 {
-    match answer {
-        Received::Needs(n) => Received::Needs(n),
-        Received::Refused(n) => Received::Refused(n),
-        Received::Accepted {
-            packet,
-            taken,
-            connection,
-        } => {
-            let count = places_of(packet);
-            if table.len() < count {
-                return Received::Refused(refusal::LENT_TOO_SHORT);
-            }
-            fill(table, first(places, count));
-            Received::Accepted {
-                packet,
-                taken,
-                connection,
-            }
-        }
+    let count = needed_by(answer);
+    if table.len() < count {
+        return Received::Refused(refusal::LENT_TOO_SHORT);
     }
+    fill(table, first(places, count));
+    answer
 }
