@@ -50,7 +50,7 @@ parseFrame direction body s (FrameRead.Whole n) = parseWhole direction body (par
 unfoldable pub parse : Direction → Bool → List ℕ → Parsed
 parse direction body s = parseFrame direction body s (frameAt direction s)
 
--- the container's end reads a packet as a body packet exactly when one is due
+-- whether an end takes what comes for a body packet: the container's while one is due, the server's never
 abbrev pub readAsBody : Direction → Connection → Bool
 readAsBody Direction.ToContainer c = bodyDue c
 readAsBody Direction.ToServer c = false

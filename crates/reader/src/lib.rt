@@ -69,7 +69,7 @@ fn read(direction: Direction, connection: Connection, bytes: &[u8], table: &mut 
     }
 }
 
-// Whether a packet is read as a body packet: at the container's end, exactly when one is due.
+// Whether this end takes a packet for a body packet: the container's while one is due, the server's never.
 fn reads_body(direction: Direction, connection: Connection) -> bool
     ensures { λ r. ⌜ r ≡ readAsBody direction connection ⌝ }
 {
