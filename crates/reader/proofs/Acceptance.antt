@@ -28,8 +28,8 @@ use Rattle.payload.specs.declared.PacketRead.{PacketRead}
 use Rattle.payload.proofs.Parsed.{parsed-kind, move-kind}
 use Rattle.reader.specs.declared.frame.FrameRead.{FrameRead}
 use Rattle.reader.specs.Frame.{frameAt}
-use Rattle.reader.specs.Meaning.{Told, Meaning, needs, refused, accepted, told, placesIn}
-use Rattle.reader.specs.Reading.{parsedOf, parseWhole, parseFrame, parse, readAsBody, stepped, settled, lending, received, reading, tableAfter}
+use Rattle.reader.specs.Meaning.{Told, Meaning, needs, refused, accepted, told, placesNeeded}
+use Rattle.reader.specs.Reading.{parsedOf, parseWhole, parseFrame, parse, readAsBody, stepped, accepting, judging, withRoom, reading, tableAfter}
 use Rattle.reader.proofs.Framing.{frame-inside}
 
 -- what is behind an accepted packet
@@ -42,7 +42,7 @@ pub record Acceptance (direction : Direction) (c : Connection) (s : List ℕ) (r
   pub allows : allowed c (moveIn packet) ≡ true
   pub tells : t ≡ told packet
   pub steps : next ≡ after c (moveIn packet)
-  pub has-room : placesIn t ≤ room
+  pub has-room : placesNeeded t ≤ room
 
 -- of an answer
 abbrev Accepts : Direction → Connection → List ℕ → ℕ → Meaning → Type 0
@@ -65,24 +65,24 @@ module _ (direction : Direction) (c : Connection) (s : List ℕ) where
     -- from what is read to the answer
     pub accepted-by : (kind : Kind) (packet : Packet) (taken : ℕ) → frameAt direction s ≡ FrameRead.Whole taken
         → kindAt direction (readAsBody direction c) (part s 0 taken) ≡ KindRead.Kind kind
-        → packetAt kind (part s 0 taken) .end ≡ PacketRead.Packet packet → allowed c (moveIn packet) ≡ true → placesIn (told packet) ≤ room
+        → packetAt kind (part s 0 taken) .end ≡ PacketRead.Packet packet → allowed c (moveIn packet) ≡ true → placesNeeded (told packet) ≤ room
         → reading direction c s room ≡ accepted (told packet) taken (after c (moveIn packet))
-    unfolding reading parse parseWhole settled
+    unfolding reading parse parseWhole accepting
     accepted-by kind packet taken w k f a h =
         let m = moveIn packet in
         let in-state : inState c (kindOf m) ≡ true = both-first (inState c (kindOf m)) (inSize c m) a in
         let in-kind : inState c kind ≡ true = ap (inState c) (sym (move-is kind (part s 0 taken) packet f)) ∙ in-state in
         let step : stepOf c m ≡ Step.Next (after c m) = step-by c m true true in-state (both-second (inState c (kindOf m)) (inSize c m) a) in
-        rw (w, k, in-kind, f, step, le-leb (placesIn (told packet)) room h, taken-is taken w)
+        rw (w, k, in-kind, f, step, le-leb (placesNeeded (told packet)) room h, taken-is taken w)
 
     accepts : Accepts direction c s room (reading direction c s room)
-    unfolding reading parse parseWhole settled
+    unfolding reading parse parseWhole accepting
     accepts = by-frame (frameAt direction s) refl
       where
         by-room : (n : ℕ) (kind : Kind) (packet : Packet) → frameAt direction s ≡ FrameRead.Whole n
             → kindAt direction (readAsBody direction c) (part s 0 n) ≡ KindRead.Kind kind
             → packetAt kind (part s 0 n) .end ≡ PacketRead.Packet packet → allowed c (moveIn packet) ≡ true
-            → (enough : Bool) → leb (placesIn (told packet)) room ≡ enough
+            → (enough : Bool) → leb (placesNeeded (told packet)) room ≡ enough
             → Accepts direction c s room
             (pick enough (accepted (told packet) (length (part s 0 n)) (after c (moveIn packet))) (refused 15))
         by-room n kind packet w k f a false e = tt
@@ -97,7 +97,7 @@ module _ (direction : Direction) (c : Connection) (s : List ℕ) where
               allows = a;
               tells = refl;
               steps = refl;
-              has-room = leb-true (placesIn (told packet)) room e;
+              has-room = leb-true (placesNeeded (told packet)) room e;
             })
 
         by-size : (n : ℕ) (kind : Kind) (packet : Packet) → frameAt direction s ≡ FrameRead.Whole n
@@ -105,35 +105,35 @@ module _ (direction : Direction) (c : Connection) (s : List ℕ) where
             → packetAt kind (part s 0 n) .end ≡ PacketRead.Packet packet → inState c (kindOf (moveIn packet)) ≡ true
             → (size : Bool) → inSize c (moveIn packet) ≡ size
             → Accepts direction c s room
-            (lending room (stepped packet (length (part s 0 n)) (pick size (Step.Next (after c (moveIn packet))) (Step.Refused 14))))
+            (withRoom room (stepped packet (length (part s 0 n)) (pick size (Step.Next (after c (moveIn packet))) (Step.Refused 14))))
         by-size n kind packet w k f a false e = tt
         by-size n kind packet w k f a true e =
-            by-room n kind packet w k f (rw (a, e)) (leb (placesIn (told packet)) room) refl
+            by-room n kind packet w k f (rw (a, e)) (leb (placesNeeded (told packet)) room) refl
 
         by-fields : (n : ℕ) (kind : Kind) → frameAt direction s ≡ FrameRead.Whole n
             → kindAt direction (readAsBody direction c) (part s 0 n) ≡ KindRead.Kind kind → inState c kind ≡ true
-            → (r : PacketRead) → packetAt kind (part s 0 n) .end ≡ r → Accepts direction c s room (lending room (settled c (length (part s 0 n)) r))
+            → (r : PacketRead) → packetAt kind (part s 0 n) .end ≡ r → Accepts direction c s room (withRoom room (accepting c (length (part s 0 n)) r))
         by-fields n kind w k a (PacketRead.Refused number) e = tt
         by-fields n kind w k a (PacketRead.Packet packet) e =
             let m = moveIn packet in
             let in-state : inState c (kindOf m) ≡ true = ap (inState c) (move-is kind (part s 0 n) packet e) ∙ a in
-            subst (λ (step : Step). Accepts direction c s room (lending room (stepped packet (length (part s 0 n)) step)))
+            subst (λ (step : Step). Accepts direction c s room (withRoom room (stepped packet (length (part s 0 n)) step)))
             (sym (step-by c m true (inSize c m) in-state refl))
             (by-size n kind packet w k e in-state (inSize c m) refl)
 
         by-state : (n : ℕ) (kind : Kind) → frameAt direction s ≡ FrameRead.Whole n
             → kindAt direction (readAsBody direction c) (part s 0 n) ≡ KindRead.Kind kind → (now : Bool) → inState c kind ≡ now
-            → Accepts direction c s room (pick now (lending room (settled c (length (part s 0 n)) (packetAt kind (part s 0 n) .end))) (refused 13))
+            → Accepts direction c s room (withRoom room (pick now (accepting c (length (part s 0 n)) (packetAt kind (part s 0 n) .end)) (refused 13)))
         by-state n kind w k false e = tt
         by-state n kind w k true e = by-fields n kind w k e (packetAt kind (part s 0 n) .end) refl
 
         by-kind : (n : ℕ) → frameAt direction s ≡ FrameRead.Whole n → (r : KindRead)
-            → kindAt direction (readAsBody direction c) (part s 0 n) ≡ r → Accepts direction c s room (received c room (parsedOf (part s 0 n) r))
+            → kindAt direction (readAsBody direction c) (part s 0 n) ≡ r → Accepts direction c s room (withRoom room (judging c (parsedOf (part s 0 n) r)))
         by-kind n w (KindRead.Refused number) e = tt
         by-kind n w (KindRead.Kind kind) e = by-state n kind w e (inState c kind) refl
 
         by-frame : (f : FrameRead) → frameAt direction s ≡ f
-            → Accepts direction c s room (received c room (parseFrame direction (readAsBody direction c) s f))
+            → Accepts direction c s room (withRoom room (judging c (parseFrame direction (readAsBody direction c) s f)))
         by-frame (FrameRead.Needs n) e = tt
         by-frame (FrameRead.Refused n) e = tt
         by-frame (FrameRead.Whole n) e = by-kind n e (kindAt direction (readAsBody direction c) (part s 0 n)) refl
@@ -185,10 +185,10 @@ Settled (needs n) = ⊥
 Settled (refused n) = Unit
 Settled (accepted t taken next) = Unit
 
-settled-answers : (c : Connection) (taken : ℕ) (r : PacketRead) → Settled (settled c taken r)
-unfolding settled
-settled-answers c taken (PacketRead.Refused n) = tt
-settled-answers c taken (PacketRead.Packet packet) = go (stepOf c (moveIn packet))
+accepting-answers : (c : Connection) (taken : ℕ) (r : PacketRead) → Settled (accepting c taken r)
+unfolding accepting
+accepting-answers c taken (PacketRead.Refused n) = tt
+accepting-answers c taken (PacketRead.Packet packet) = go (stepOf c (moveIn packet))
   where
     go : (step : Step) → Settled (stepped packet taken step)
     go (Step.Refused n) = tt
@@ -199,24 +199,24 @@ pub needs-more : (direction : Direction) (c : Connection) (s : List ℕ) (room n
 unfolding reading parse parseWhole
 needs-more direction c s room n e = subst (NeedsMore (length s)) e (by-frame (frameAt direction s) refl)
   where
-    lent : (m : Meaning) → Settled m → NeedsMore (length s) (lending room m)
+    lent : (m : Meaning) → Settled m → NeedsMore (length s) (withRoom room m)
     lent (needs k) h = absurd h
     lent (refused k) h = tt
-    lent (accepted t taken next) h = go (leb (placesIn t) room)
+    lent (accepted t taken next) h = go (leb (placesNeeded t) room)
       where
         go : (enough : Bool) → NeedsMore (length s) (pick enough (accepted t taken next) (refused 15))
         go true = tt
         go false = tt
 
-    by-state : (now : Bool) (m : Meaning) → Settled m → NeedsMore (length s) (pick now (lending room m) (refused 13))
+    by-state : (now : Bool) (m : Meaning) → Settled m → NeedsMore (length s) (withRoom room (pick now m (refused 13)))
     by-state true m h = lent m h
     by-state false m h = tt
 
-    by-kind : (packet : List ℕ) (r : KindRead) → NeedsMore (length s) (received c room (parsedOf packet r))
+    by-kind : (packet : List ℕ) (r : KindRead) → NeedsMore (length s) (withRoom room (judging c (parsedOf packet r)))
     by-kind packet (KindRead.Refused k) = tt
-    by-kind packet (KindRead.Kind kind) = by-state (inState c kind) (settled c (length packet) (packetAt kind packet .end)) (settled-answers c (length packet) (packetAt kind packet .end))
+    by-kind packet (KindRead.Kind kind) = by-state (inState c kind) (accepting c (length packet) (packetAt kind packet .end)) (accepting-answers c (length packet) (packetAt kind packet .end))
 
-    by-frame : (f : FrameRead) → frameAt direction s ≡ f → NeedsMore (length s) (received c room (parseFrame direction (readAsBody direction c) s f))
+    by-frame : (f : FrameRead) → frameAt direction s ≡ f → NeedsMore (length s) (withRoom room (judging c (parseFrame direction (readAsBody direction c) s f)))
     by-frame (FrameRead.Needs k) q = frame-inside direction s (FrameRead.Needs k) q
     by-frame (FrameRead.Refused k) q = tt
     by-frame (FrameRead.Whole k) q = by-kind (part s 0 k) (kindAt direction (readAsBody direction c) (part s 0 k))

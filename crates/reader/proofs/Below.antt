@@ -11,12 +11,12 @@ use Rattle.payload.specs.Listed.{forwardAt, sendHeadersAt}
 use Rattle.payload.specs.declared.Packet.{Packet}
 use Rattle.payload.specs.declared.PacketRead.{PacketRead}
 use Rattle.payload.proofs.Parsed.{forward-places, send-headers-places, parsed-kind}
-use Rattle.reader.specs.Meaning.{told, placesIn}
+use Rattle.reader.specs.Meaning.{told, placesNeeded}
 
 -- a packet that was read asks for so many places, at most 328
 abbrev pub PlacesFit : ℕ → PacketRead → Type 0
 PlacesFit many (PacketRead.Refused n) = Unit
-PlacesFit many (PacketRead.Packet packet) = (many ≡ placesIn (told packet)) × (many ≤ 328)
+PlacesFit many (PacketRead.Packet packet) = (many ≡ placesNeeded (told packet)) × (many ≤ 328)
 
 -- the kinds without headers, and the two with them
 abbrev Plain : Kind → Type 0

@@ -31,7 +31,7 @@ use Rattle.payload.specs.declared.PacketRead.{PacketRead}
 use Rattle.payload.proofs.Fields.{FieldInside, string-after-inside, integer-after-inside}
 use Rattle.payload.proofs.Laws.{body-inside, chunk-inside}
 use Rattle.payload.proofs.Parsed.{forward-places, send-headers-places, parsed-kind}
-use Rattle.reader.specs.Meaning.{Told, told, placesIn}
+use Rattle.reader.specs.Meaning.{Told, told, placesNeeded}
 
 -- every place is before the end of a packet of `size` bytes
 abbrev AllBelow : ℕ → List ℕ → Type 0
@@ -97,7 +97,7 @@ pub record ToldInside (size : ℕ) (t : Told) : Type 0 where
   pub part-in : t .start + t .len ≤ size
   pub headers-most : t .headers ≤ 100
   pub attributes-most : t .attributes ≤ 64
-  pub places-most : placesIn t ≤ 328
+  pub places-most : placesNeeded t ≤ 328
 
 -- the places of the strings that are told, where a packet is read, are inside a packet of `size` bytes
 abbrev StringsIn : ℕ → PacketRead → Type 0

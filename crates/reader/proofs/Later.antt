@@ -22,7 +22,7 @@ use Rattle.connection.specs.declared.Connection.{Connection}
 use Rattle.reader.specs.declared.frame.FrameRead.{FrameRead}
 use Rattle.reader.specs.Frame.{differs, leadingDiffers, lengthAt, frameOf, frameAt}
 use Rattle.reader.specs.Meaning.{Meaning, needs, refused, accepted}
-use Rattle.reader.specs.Reading.{Parsed, short, wrong, whole, parseWhole, parseFrame, parse, readAsBody, received, reading, tableAfter, placesOf, filled}
+use Rattle.reader.specs.Reading.{Parsed, parseWhole, parseFrame, parse, readAsBody, judging, withRoom, reading, tableAfter}
 use Rattle.reader.proofs.Framing.{frame-inside}
 
 -- an answer that is not "needs"
@@ -69,17 +69,17 @@ module _ (s rest : List ℕ) where
       let h : at + 1 ≤ length s = leb-true (at + 1) (length s) (both-first (leb (at + 1) (length s)) (not (eqb (getD s at 0) byte)) e) in
       same-differs at byte h ∙ e
 
-  still-misled : (direction : Direction) → leadingDiffers direction s ≡ true → leadingDiffers direction (s ++ rest) ≡ true
+  still-differing : (direction : Direction) → leadingDiffers direction s ≡ true → leadingDiffers direction (s ++ rest) ≡ true
   unfolding leadingDiffers
-  still-misled direction e =
+  still-differing direction e =
       still-either (differs s 0 (getD (leading direction) 0 0)) (differs s 1 (getD (leading direction) 1 0))
       (differs (s ++ rest) 0 (getD (leading direction) 0 0)) (differs (s ++ rest) 1 (getD (leading direction) 1 0))
       (still-differs 0 (getD (leading direction) 0 0)) (still-differs 1 (getD (leading direction) 1 0)) e
 
   -- where the length is there, so are the leading bytes
-  same-misled : (direction : Direction) → 4 ≤ length s → leadingDiffers direction (s ++ rest) ≡ leadingDiffers direction s
+  same-leading : (direction : Direction) → 4 ≤ length s → leadingDiffers direction (s ++ rest) ≡ leadingDiffers direction s
   unfolding leadingDiffers
-  same-misled direction h =
+  same-leading direction h =
       let a = same-differs 0 (getD (leading direction) 0 0) (omega arith) in
       let b = same-differs 1 (getD (leading direction) 1 0) (omega arith) in
       rw (a, b)
@@ -116,12 +116,12 @@ module _ (s rest : List ℕ) where
           → Framed (pick differ (FrameRead.Refused 1) (frameOf (length s) number))
           → pick (leadingDiffers direction (s ++ rest)) (FrameRead.Refused 1) (frameOf (length (s ++ rest)) (integerAt (s ++ rest) 2))
           ≡ pick differ (FrameRead.Refused 1) (frameOf (length s) number)
-      go true number e q h = rw (still-misled direction e)
+      go true number e q h = rw (still-differing direction e)
       go false (NumberRead.Refused n) e q h = absurd h
       go false (NumberRead.Number payload next) e q h =
           let inside = integer-inside s 2 (NumberRead.Number payload next) q in
           let four : 4 ≤ length s = omega (arith, inside) in
-          rw (same-misled direction four ∙ e, same-length four ∙ q) (same-sized payload h)
+          rw (same-leading direction four ∙ e, same-length four ∙ q) (same-sized payload h)
 
   -- what bytes are parsed as
   same-parse : (direction : Direction) (body : Bool) → Framed (frameAt direction s) → parse direction body (s ++ rest) ≡ parse direction body s
@@ -141,7 +141,7 @@ module _ (s rest : List ℕ) where
   unfolding reading parse
   framed direction c room = go (frameAt direction s)
     where
-      go : (frame : FrameRead) → Answered (received c room (parseFrame direction (readAsBody direction c) s frame)) → Framed frame
+      go : (frame : FrameRead) → Answered (withRoom room (judging c (parseFrame direction (readAsBody direction c) s frame))) → Framed frame
       go (FrameRead.Needs n) h = h
       go (FrameRead.Refused n) h = tt
       go (FrameRead.Whole n) h = tt
@@ -149,7 +149,7 @@ module _ (s rest : List ℕ) where
   pub later-answer : (direction : Direction) (c : Connection) (room : ℕ) → Answered (reading direction c s room)
       → reading direction c (s ++ rest) room ≡ reading direction c s room
   unfolding reading
-  later-answer direction c room h = ap (received c room) (same-parse direction (readAsBody direction c) (framed direction c room h))
+  later-answer direction c room h = ap (λ (p : Parsed). withRoom room (judging c p)) (same-parse direction (readAsBody direction c) (framed direction c room h))
 
   pub later-table : (direction : Direction) (c : Connection) (table : List ℕ) → Answered (reading direction c s (length table))
       → tableAfter direction c (s ++ rest) table ≡ tableAfter direction c s table

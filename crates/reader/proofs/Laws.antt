@@ -14,7 +14,7 @@ use Rattle.wire.specs.Pick.{pick}
 use Rattle.wire.specs.Bytes.{part, over, put}
 use Rattle.wire.proofs.Bytes.{over-none, put-fits}
 use Rattle.wire.specs.declared.Direction.{Direction}
-use Rattle.places.specs.Entries.{Entries, ended}
+use Rattle.places.specs.Entries.{ended}
 use Rattle.connection.specs.Cycle.{inState, stepOf}
 use Rattle.connection.specs.declared.Kind.{Kind}
 use Rattle.connection.specs.declared.Connection.{Connection}
@@ -26,33 +26,32 @@ use Rattle.payload.specs.declared.Packet.{Packet}
 use Rattle.payload.specs.declared.PacketRead.{PacketRead}
 use Rattle.reader.specs.declared.frame.FrameRead.{FrameRead}
 use Rattle.reader.specs.Frame.{frameAt}
-use Rattle.reader.specs.Meaning.{Told, Meaning, needs, refused, accepted, told, placesIn}
-use Rattle.reader.specs.Reading.{parsedOf, parseWhole, parseFrame, parse, readAsBody, stepped, settled, lending, judged, received, reading, wholeOf, placesOf, placesAt, needed, filled, tableAfter}
+use Rattle.reader.specs.Meaning.{Meaning, needs, refused, accepted, placesNeeded}
+use Rattle.reader.specs.Reading.{parseWhole, parse, readAsBody, stepped, accepting, withRoom, reading, filled, tableAfter}
+use Rattle.reader.specs.Private.{needed, tableGiven, fieldsOf, tableFields, wholeOf, tableWhole}
 use Rattle.reader.proofs.Below.{PlacesFit, places-fit}
 
 -- a packet that was read, by the step
-pub settled-is : (c : Connection) (taken : ℕ) (packet : Packet) (step : Step) → stepOf c (moveIn packet) ≡ step
-    → stepped packet taken step ≡ settled c taken (PacketRead.Packet packet)
-unfolding settled
-settled-is c taken packet step e = ap (stepped packet taken) (sym e)
-
--- an answer and the table then, for a packet whose fields ended so and which has these places
-abbrev pub Answers : Meaning → List ℕ → List ℕ → Meaning → List ℕ → Type 0
-Answers answer places table r exit = (r ≡ answer) × (exit ≡ filled answer places table)
+pub accepting-is : (c : Connection) (taken : ℕ) (packet : Packet) (step : Step) → stepOf c (moveIn packet) ≡ step
+    → stepped packet taken step ≡ accepting c taken (PacketRead.Packet packet)
+unfolding accepting
+accepting-is c taken packet step e = ap (stepped packet taken) (sym e)
 
 -- too little room for the places that an answer asks for
-pub lent-short : (m : Meaning) (places table : List ℕ) → leb (needed m) (length table) ≡ false
-    → Answers (lending (length table) m) (take (needed m) places) table (refused 15) table
-lent-short (needs n) places table e = absurd (false≢true (sym e ∙ le-leb 0 (length table) (omega arith)))
-lent-short (refused n) places table e = absurd (false≢true (sym e ∙ le-leb 0 (length table) (omega arith)))
-lent-short (accepted t taken after) places table e = rw e (refl, refl)
+pub room-short : (m : Meaning) (places table : List ℕ) → leb (needed m) (length table) ≡ false
+    → (refused 15 ≡ withRoom (length table) m) × (table ≡ tableGiven m places table)
+unfolding tableGiven
+room-short (needs n) places table e = absurd (false≢true (sym e ∙ le-leb 0 (length table) (omega arith)))
+room-short (refused n) places table e = absurd (false≢true (sym e ∙ le-leb 0 (length table) (omega arith)))
+room-short (accepted t taken after) places table e = rw e (refl, refl)
 
 -- room enough for them
-pub lent-filled : (m : Meaning) (places table exit : List ℕ) → leb (needed m) (length table) ≡ true
-    → exit ≡ over table 0 (take (needed m) places) → Answers (lending (length table) m) (take (needed m) places) table m exit
-lent-filled (needs n) places table exit e h = (refl, h ∙ over-none table 0)
-lent-filled (refused n) places table exit e h = (refl, h ∙ over-none table 0)
-lent-filled (accepted t taken after) places table exit e h = rw e (refl, h)
+pub room-filled : (m : Meaning) (places table exit : List ℕ) → leb (needed m) (length table) ≡ true
+    → exit ≡ over table 0 (take (needed m) places) → (m ≡ withRoom (length table) m) × (exit ≡ tableGiven m places table)
+unfolding tableGiven
+room-filled (needs n) places table exit e h = (refl, h ∙ over-none table 0)
+room-filled (refused n) places table exit e h = (refl, h ∙ over-none table 0)
+room-filled (accepted t taken after) places table exit e h = rw e (refl, h)
 
 -- the table after a list's first places were copied into it, where it has room for them
 pub laid-first : (places table exit own : List ℕ) (count n : ℕ) → exit ≡ put table 0 own → own ≡ take count places → count ≡ n
@@ -66,13 +65,13 @@ laid-first places table exit own count n e p q h =
 abbrev pub NeedsPlaces : ℕ → Meaning → Type 0
 NeedsPlaces many (needs n) = Unit
 NeedsPlaces many (refused n) = Unit
-NeedsPlaces many (accepted t taken after) = many ≡ placesIn t
+NeedsPlaces many (accepted t taken after) = many ≡ placesNeeded t
 
 -- the step leaves the places that a packet asks for
-pub settled-places : (c : Connection) (taken many : ℕ) (end : PacketRead) → PlacesFit many end → NeedsPlaces many (settled c taken end)
-unfolding settled
-settled-places c taken many (PacketRead.Refused n) h = tt
-settled-places c taken many (PacketRead.Packet packet) h = go (stepOf c (moveIn packet))
+pub accepting-places : (c : Connection) (taken many : ℕ) (end : PacketRead) → PlacesFit many end → NeedsPlaces many (accepting c taken end)
+unfolding accepting
+accepting-places c taken many (PacketRead.Refused n) h = tt
+accepting-places c taken many (PacketRead.Packet packet) h = go (stepOf c (moveIn packet))
   where
     go : (step : Step) → NeedsPlaces many (stepped packet taken step)
     go (Step.Refused n) = tt
@@ -85,69 +84,72 @@ take-laid blank places = take-at places (drop (0 + length places) blank) (length
 
 -- the table is filled with a packet's own places
 fill-own : (m : Meaning) (room : ℕ) (places blank table : List ℕ) → NeedsPlaces (length places) m
-    → filled (lending room m) (take (needed m) (over blank 0 places)) table ≡ filled (lending room m) places table
+    → filled (withRoom room m) (take (needed m) (over blank 0 places)) table ≡ filled (withRoom room m) places table
 fill-own (needs n) room places blank table h = refl
 fill-own (refused n) room places blank table h = refl
-fill-own (accepted t taken after) room places blank table h = go (leb (placesIn t) room)
+fill-own (accepted t taken after) room places blank table h = go (leb (placesNeeded t) room)
   where
     go : (enough : Bool)
-        → filled (pick enough (accepted t taken after) (refused 15)) (take (placesIn t) (over blank 0 places)) table
+        → filled (pick enough (accepted t taken after) (refused 15)) (take (placesNeeded t) (over blank 0 places)) table
         ≡ filled (pick enough (accepted t taken after) (refused 15)) places table
     go true = ap (over table 0) (ap (λ (n : ℕ). take n (over blank 0 places)) (sym h) ∙ take-laid blank places)
     go false = refl
 
--- a packet with headers: it was settled, and its places were lent from a list of the reader's own
+-- a packet with headers: it was stepped by, and the table was filled from a list of the reader's own
 pub listed-is : (c : Connection) (kind : Kind) (s blank table : List ℕ) (found : PacketRead) (answer r : Meaning) (places exit : List ℕ)
-    → found ≡ packetAt kind s .end → places ≡ over blank 0 (packetAt kind s .places) → answer ≡ settled c (length s) found
-    → Answers (lending (length table) answer) (take (needed answer) places) table r exit
-    → Answers (judged c (length table) kind s) (packetAt kind s .places) table r exit
-unfolding judged
+    → found ≡ packetAt kind s .end → places ≡ over blank 0 (packetAt kind s .places) → answer ≡ accepting c (length s) found
+    → (r ≡ withRoom (length table) answer) × (exit ≡ tableGiven answer places table)
+    → (r ≡ fieldsOf c kind s (length table)) × (exit ≡ tableFields c kind s table)
+unfolding fieldsOf tableFields tableGiven
 listed-is c kind s blank table found answer r places exit p q e h =
-    let m : answer ≡ settled c (length s) (packetAt kind s .end) = e ∙ ap (settled c (length s)) p in
-    let fit = settled-places c (length s) (length (packetAt kind s .places)) (packetAt kind s .end) (places-fit s kind) in (
-      h .0 ∙ ap (lending (length table)) m,
+    let own = accepting c (length s) (packetAt kind s .end) in
+    let m : answer ≡ own = e ∙ ap (accepting c (length s)) p in
+    let fit = accepting-places c (length s) (length (packetAt kind s .places)) (packetAt kind s .end) (places-fit s kind) in
+    (
+      h .0 ∙ ap (withRoom (length table)) m,
       h .1
-          ∙ ap (λ (a : Meaning). filled (lending (length table) a) (take (needed a) places) table) m
-          ∙ ap (λ (l : List ℕ). filled (lending (length table) (settled c (length s) (packetAt kind s .end))) (take (needed (settled c (length s) (packetAt kind s .end))) l) table) q
-          ∙ fill-own (settled c (length s) (packetAt kind s .end)) (length table) (packetAt kind s .places) blank table fit,
+      ∙ ap (λ (a : Meaning). filled (withRoom (length table) a) (take (needed a) places) table) m
+      ∙ ap (λ (l : List ℕ). filled (withRoom (length table) own) (take (needed own) l) table) q
+      ∙ fill-own own (length table) (packetAt kind s .places) blank table fit,
     )
 
 -- an answer that asks for no places is not refused for the table, and leaves it
-none-lent : (m : Meaning) (table : List ℕ) → NeedsPlaces 0 m → Answers (lending (length table) m) [] table m table
-none-lent (needs n) table h = (refl, refl)
-none-lent (refused n) table h = (refl, refl)
-none-lent (accepted t taken after) table h =
-    let e : leb (placesIn t) (length table) ≡ true = le-leb (placesIn t) (length table) (omega (arith, h)) in
+none-needed : (m : Meaning) (table : List ℕ) → NeedsPlaces 0 m
+    → (m ≡ withRoom (length table) m) × (table ≡ filled (withRoom (length table) m) [] table)
+none-needed (needs n) table h = (refl, refl)
+none-needed (refused n) table h = (refl, refl)
+none-needed (accepted t taken after) table h =
+    let e : leb (placesNeeded t) (length table) ≡ true = le-leb (placesNeeded t) (length table) (omega (arith, h)) in
     rw e (refl, sym (over-none table 0))
 
--- a packet without headers: it was settled, and the table is as it was
+-- a packet without headers: it was stepped by, and the table is as it was
 pub plain-is : (c : Connection) (given kind : Kind) (s table : List ℕ) (end found : PacketRead) (r : Meaning)
-    → given ≡ kind → packetAt kind s ≡ ended end → found ≡ end → r ≡ settled c (length s) found
-    → Answers (judged c (length table) given s) (packetAt given s .places) table r table
-unfolding judged
+    → given ≡ kind → packetAt kind s ≡ ended end → found ≡ end → r ≡ accepting c (length s) found
+    → (r ≡ fieldsOf c given s (length table)) × (table ≡ tableFields c given s table)
+unfolding fieldsOf tableFields
 plain-is c given kind s table end found r k p q e =
     let fit : PlacesFit 0 end = rw p at (places-fit s kind) in
-    let lent = none-lent (settled c (length s) end) table (settled-places c (length s) 0 end fit) in
-    rw (k, p) (e ∙ ap (settled c (length s)) q ∙ lent .0, lent .1)
+    let kept = none-needed (accepting c (length s) end) table (accepting-places c (length s) 0 end fit) in
+    rw (k, p) (e ∙ ap (accepting c (length s)) q ∙ kept .0, kept .1)
 
 module _ (direction : Direction) (c : Connection) (s table : List ℕ) where
   -- a packet whose code is refused
   pub whole-refused : (n : ℕ) → kindAt direction (readAsBody direction c) s ≡ KindRead.Refused n
-      → Answers (wholeOf direction c s (length table)) (placesAt direction c s) table (refused n) table
-  unfolding wholeOf placesAt parseWhole
+      → (refused n ≡ wholeOf direction c s (length table)) × (table ≡ tableWhole direction c s table)
+  unfolding wholeOf tableWhole parseWhole
   whole-refused n e = rw e (refl, refl)
 
   -- a kind that is not allowed now
   pub whole-not : (kind : Kind) → kindAt direction (readAsBody direction c) s ≡ KindRead.Kind kind → inState c kind ≡ false
-      → Answers (wholeOf direction c s (length table)) (placesAt direction c s) table (refused 13) table
-  unfolding wholeOf placesAt parseWhole
+      → (refused 13 ≡ wholeOf direction c s (length table)) × (table ≡ tableWhole direction c s table)
+  unfolding wholeOf tableWhole parseWhole
   whole-not kind e q = rw (e, q) (refl, refl)
 
   -- a kind that is allowed
   pub whole-kind : (kind : Kind) (r : Meaning) (exit : List ℕ) → kindAt direction (readAsBody direction c) s ≡ KindRead.Kind kind
-      → inState c kind ≡ true → Answers (judged c (length table) kind s) (packetAt kind s .places) table r exit
-      → Answers (wholeOf direction c s (length table)) (placesAt direction c s) table r exit
-  unfolding wholeOf placesAt parseWhole judged
+      → inState c kind ≡ true → (r ≡ fieldsOf c kind s (length table)) × (exit ≡ tableFields c kind s table)
+      → (r ≡ wholeOf direction c s (length table)) × (exit ≡ tableWhole direction c s table)
+  unfolding wholeOf tableWhole parseWhole fieldsOf tableFields
   whole-kind kind r exit e q h = rw (e, q) h
 
   -- more bytes are needed
@@ -164,7 +166,7 @@ module _ (direction : Direction) (c : Connection) (s table : List ℕ) where
 
   -- the packet is whole
   pub read-whole : (n : ℕ) (packet : List ℕ) (r : Meaning) (exit : List ℕ) → frameAt direction s ≡ FrameRead.Whole n → packet ≡ part s 0 n
-      → Answers (wholeOf direction c packet (length table)) (placesAt direction c packet) table r exit
+      → (r ≡ wholeOf direction c packet (length table)) × (exit ≡ tableWhole direction c packet table)
       → (r ≡ reading direction c s (length table)) × (exit ≡ tableAfter direction c s table)
-  unfolding tableAfter reading parse wholeOf placesAt
+  unfolding tableAfter reading parse wholeOf tableWhole
   read-whole n packet r exit e p h = rw e (rw p at h)

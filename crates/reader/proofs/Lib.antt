@@ -6,4 +6,5 @@ pub mod Later
 pub mod Acceptance
 pub mod Inside
 pub mod Shown
+pub mod Handed
 pub mod StarredSet

@@ -24,40 +24,40 @@ use Rattle.headers.specs.Headers.{codeNameOf, spelledAt, spelledOf, nameAt}
 use Rattle.headers.specs.declared.NameRead.{NameRead}
 use Rattle.headers.proofs.Laws.{part-none}
 use Rattle.reader.specs.declared.view.HeaderName.{HeaderName}
-use Rattle.reader.specs.View.{numberIn, isNullIn, textIn, nameIn}
+use Rattle.reader.specs.View.{integerView, nullView, textView, nameView}
 use Rattle.reader.proofs.Views.{number-is, null-is, text-null, text-is, name-is}
 
 -- an integer that was read is the number that is shown
-pub integer-shown : (s : List ℕ) (at value next : ℕ) → integerAt s at ≡ NumberRead.Number value next → numberIn s at ≡ value
+pub integer-shown : (s : List ℕ) (at value next : ℕ) → integerAt s at ≡ NumberRead.Number value next → integerView s at ≡ value
 integer-shown s at value next e = sym (number-is s at (NumberRead.Number value next) e)
 
 -- where two bytes are there, the number that is shown is theirs
-number-there : (s : List ℕ) (at : ℕ) → at + 2 ≤ length s → numberIn s at ≡ integerIn s at
-unfolding numberIn
+number-there : (s : List ℕ) (at : ℕ) → at + 2 ≤ length s → integerView s at ≡ integerIn s at
+unfolding integerView
 number-there s at h = rw (le-leb (at + 2) (length s) h)
 
 -- a string that was read as a text is shown as not null, with that text's bytes
 pub text-shown : (s : List ℕ) (at : ℕ) (optional : Bool) (start len next : ℕ) → stringAt s at optional ≡ StringRead.Text start len next
-    → (isNullIn s at ≡ false) × (textIn s at ≡ part s start len)
+    → (nullView s at ≡ false) × (textView s at ≡ part s start len)
 text-shown s at optional start len next e =
     let r : TextRead s at optional start len next = text-read s at optional start len next e in
-    let n : len ≡ numberIn s at = r .length-is ∙ sym (number-there s at (omega (arith, r .starts, r .ends, r .fits))) in
+    let n : len ≡ integerView s at = r .length-is ∙ sym (number-there s at (omega (arith, r .starts, r .ends, r .fits))) in
     let some : eqb len 65535 ≡ false = ne-eqb len 65535 (r .not-null) in
     (sym (null-is s at len n) ∙ some, sym (text-is s at len n some) ∙ ap (λ (k : ℕ). part s k len) (sym (r .starts)))
 
 -- a string that was read as null is shown as null, with no bytes
 pub null-shown : (s : List ℕ) (at : ℕ) (optional : Bool) (next : ℕ) → stringAt s at optional ≡ StringRead.Null next
-    → (isNullIn s at ≡ true) × (textIn s at ≡ [])
+    → (nullView s at ≡ true) × (textView s at ≡ [])
 null-shown s at optional next e =
     let r : NullRead s at optional next = null-read s at optional next e in
-    let n : 65535 ≡ numberIn s at = sym (r .length-is) ∙ sym (number-there s at (omega (arith, r .ends, r .fits))) in
+    let n : 65535 ≡ integerView s at = sym (r .length-is) ∙ sym (number-there s at (omega (arith, r .ends, r .fits))) in
     (sym (null-is s at 65535 n), sym (text-null s at 65535 n refl) ∙ part-none s)
 
 -- what is shown of a name, by what it was read as
 abbrev NameShown : List ℕ → ℕ → NameRead → Type 0
 NameShown s at (NameRead.Refused n) = Unit
-NameShown s at (NameRead.Code code next) = nameIn s at ≡ HeaderName.Code code
-NameShown s at (NameRead.Spelled start len next) = (nameIn s at ≡ HeaderName.Spelled) × (textIn s at ≡ part s start len)
+NameShown s at (NameRead.Code code next) = nameView s at ≡ HeaderName.Code code
+NameShown s at (NameRead.Spelled start len next) = (nameView s at ≡ HeaderName.Spelled) × (textView s at ≡ part s start len)
 
 module _ (d : Direction) (s : List ℕ) (at : ℕ) (there : at + 2 ≤ length s) where
   -- a name that begins as a code
@@ -79,7 +79,7 @@ module _ (d : Direction) (s : List ℕ) (at : ℕ) (there : at + 2 ≤ length s)
     where
       go : (t : Bool) → NameShown s at (pick t (NameRead.Spelled start len next) (NameRead.Refused (spelledFault d (part s start len))))
       go true = (
-        sym (name-is s at (numberIn s at) true false (le-leb (at + 1) (length s) (omega arith)) q refl),
+        sym (name-is s at (integerView s at) true false (le-leb (at + 1) (length s) (omega arith)) q refl),
         text-shown s at optional start len next e .1,
       )
       go false = tt
@@ -98,12 +98,12 @@ name-shown d s at = go (leb (at + 2) (length s)) (beginsCode (getD s at 0)) refl
     go false u p q = tt
 
 -- a name that was read as a code is shown as that code
-pub code-shown : (d : Direction) (s : List ℕ) (at code next : ℕ) → nameAt d s at ≡ NameRead.Code code next → nameIn s at ≡ HeaderName.Code code
+pub code-shown : (d : Direction) (s : List ℕ) (at code next : ℕ) → nameAt d s at ≡ NameRead.Code code next → nameView s at ≡ HeaderName.Code code
 code-shown d s at code next e = subst (NameShown s at) e (name-shown d s at)
 
 -- a name that was read as a spelled one is shown as one, with its bytes
 pub spelled-shown : (d : Direction) (s : List ℕ) (at start len next : ℕ) → nameAt d s at ≡ NameRead.Spelled start len next
-    → (nameIn s at ≡ HeaderName.Spelled) × (textIn s at ≡ part s start len)
+    → (nameView s at ≡ HeaderName.Spelled) × (textView s at ≡ part s start len)
 spelled-shown d s at start len next e = subst (NameShown s at) e (name-shown d s at)
 
 -- a part that lies in the first of two lists is a part of both together
@@ -115,7 +115,7 @@ part-more s rest start len h =
 -- bytes behind a packet: a field whose first two bytes are in the packet is shown the same with them
 module _ (s rest : List ℕ) (at : ℕ) (there : at + 2 ≤ length s) where
   -- the number
-  pub number-more : numberIn (s ++ rest) at ≡ numberIn s at
+  pub number-more : integerView (s ++ rest) at ≡ integerView s at
   unfolding integerIn
   number-more =
       let same : integerIn (s ++ rest) at ≡ integerIn s at =
@@ -123,21 +123,21 @@ module _ (s rest : List ℕ) (at : ℕ) (there : at + 2 ≤ length s) where
       number-there (s ++ rest) at (omega (arith, length-append s rest)) ∙ same ∙ sym (number-there s at there)
 
   -- whether a string is null
-  pub null-more : isNullIn (s ++ rest) at ≡ isNullIn s at
-  null-more = sym (null-is (s ++ rest) at (numberIn s at) (sym number-more)) ∙ null-is s at (numberIn s at) refl
+  pub null-more : nullView (s ++ rest) at ≡ nullView s at
+  null-more = sym (null-is (s ++ rest) at (integerView s at) (sym number-more)) ∙ null-is s at (integerView s at) refl
 
   -- a string's bytes, where it is null or they are in the packet too
-  pub text-more : (isNullIn s at ≡ false → at + 2 + numberIn s at ≤ length s) → textIn (s ++ rest) at ≡ textIn s at
-  unfolding textIn
-  text-more h = rw (null-more, number-more) (go (isNullIn s at) refl)
+  pub text-more : (nullView s at ≡ false → at + 2 + integerView s at ≤ length s) → textView (s ++ rest) at ≡ textView s at
+  unfolding textView
+  text-more h = rw (null-more, number-more) (go (nullView s at) refl)
     where
-      go : (t : Bool) → isNullIn s at ≡ t → pick t [] (part (s ++ rest) (at + 2) (numberIn s at)) ≡ pick t [] (part s (at + 2) (numberIn s at))
+      go : (t : Bool) → nullView s at ≡ t → pick t [] (part (s ++ rest) (at + 2) (integerView s at)) ≡ pick t [] (part s (at + 2) (integerView s at))
       go true e = refl
-      go false e = part-more s rest (at + 2) (numberIn s at) (h e)
+      go false e = part-more s rest (at + 2) (integerView s at) (h e)
 
   -- a header's name
-  pub name-more : nameIn (s ++ rest) at ≡ nameIn s at
-  unfolding nameIn
+  pub name-more : nameView (s ++ rest) at ≡ nameView s at
+  unfolding nameView
   name-more =
       let p : leb (at + 1) (length (s ++ rest)) ≡ true = le-leb (at + 1) (length (s ++ rest)) (omega (arith, length-append s rest)) in
       let q : leb (at + 1) (length s) ≡ true = le-leb (at + 1) (length s) (omega arith) in
@@ -150,12 +150,12 @@ lent-is s n = take-append-drop n s
 
 -- so they show a string of the packet with its own bytes
 pub text-lent : (s : List ℕ) (n at : ℕ) (optional : Bool) (start len next : ℕ) → stringAt (part s 0 n) at optional ≡ StringRead.Text start len next
-    → textIn s at ≡ part (part s 0 n) start len
+    → textView s at ≡ part (part s 0 n) start len
 text-lent s n at optional start len next e =
     let packet : List ℕ = part s 0 n in
     let r : TextRead packet at optional start len next = text-read packet at optional start len next e in
     let there : at + 2 ≤ length packet = omega (arith, r .starts, r .ends, r .fits) in
-    let size : numberIn packet at ≡ len = number-there packet at there ∙ sym (r .length-is) in
-    let fits : at + 2 + numberIn packet at ≤ length packet = omega (arith, r .starts, r .ends, r .fits) in
-    ap (λ (l : List ℕ). textIn l at) (sym (lent-is s n)) ∙ text-more packet (drop n s) at there (λ _. fits)
+    let size : integerView packet at ≡ len = number-there packet at there ∙ sym (r .length-is) in
+    let fits : at + 2 + integerView packet at ≤ length packet = omega (arith, r .starts, r .ends, r .fits) in
+    ap (λ (l : List ℕ). textView l at) (sym (lent-is s n)) ∙ text-more packet (drop n s) at there (λ _. fits)
     ∙ text-shown packet at optional start len next e .1

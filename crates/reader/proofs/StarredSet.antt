@@ -13,9 +13,9 @@ use Rattle.payload.specs.Sequence.{stringFieldAt, stringAfter, booleanFieldAt, 
 use Rattle.payload.specs.Plain.{endAt, getAt, sizedAt, bodyAt, chunkOf, chunkAt}
 use Rattle.payload.specs.Listed.{headersAfter, attributesBehind, listsAt, forwardAt, sendHeadersAt}
 use Rattle.reader.specs.Frame.{leadingDiffers, lengthAt, frameAt}
-use Rattle.reader.specs.Reading.{parseWhole, parse, settled, reading}
+use Rattle.reader.specs.Reading.{parseWhole, parse, accepting, reading}
 use Rattle.reader.specs.Starred.{answered, expected, starred}
 
 pub starred-set : map answered starred ≡ map expected starred
-unfolding all any part integerIn byteAt integerAt booleanAt textAt afterLength stringAt largestBody stepOf headersAt attributeAt attributesAt codeKind kindAt stringFieldAt stringAfter booleanFieldAt booleanAfter byteAfter integerAfter endAt getAt sizedAt bodyAt chunkOf chunkAt headersAfter attributesBehind listsAt forwardAt sendHeadersAt leadingDiffers lengthAt frameAt parseWhole parse settled reading
+unfolding all any part integerIn byteAt integerAt booleanAt textAt afterLength stringAt largestBody stepOf headersAt attributeAt attributesAt codeKind kindAt stringFieldAt stringAfter booleanFieldAt booleanAfter byteAfter integerAfter endAt getAt sizedAt bodyAt chunkOf chunkAt headersAfter attributesBehind listsAt forwardAt sendHeadersAt leadingDiffers lengthAt frameAt parseWhole parse accepting reading
 starred-set = refl

@@ -12,7 +12,7 @@ use Rattle.wire.specs.Field.{integerAt}
 use Rattle.wire.specs.declared.read.NumberRead.{NumberRead}
 use Rattle.names.specs.Header.{beginsCode}
 use Rattle.reader.specs.declared.view.HeaderName.{HeaderName}
-use Rattle.reader.specs.View.{numberIn, isNullIn, textIn, nameIn}
+use Rattle.reader.specs.View.{integerView, nullView, textView, nameView}
 
 -- a number as read, 0 where it is refused
 abbrev pub numberOf : NumberRead → ℕ
@@ -20,8 +20,8 @@ numberOf (NumberRead.Refused n) = 0
 numberOf (NumberRead.Number value next) = value
 
 -- the number at a place, by what is read there
-pub number-is : (s : List ℕ) (at : ℕ) (r : NumberRead) → integerAt s at ≡ r → numberOf r ≡ numberIn s at
-unfolding integerAt numberIn
+pub number-is : (s : List ℕ) (at : ℕ) (r : NumberRead) → integerAt s at ≡ r → numberOf r ≡ integerView s at
+unfolding integerAt integerView
 number-is s at r e = ap numberOf (sym e) ∙ go (leb (at + 2) (length s))
   where
     go : (there : Bool) → numberOf (pick there (NumberRead.Number (integerIn s at) (at + 2)) (NumberRead.Refused 3)) ≡ pick there (integerIn s at) 0
@@ -29,21 +29,21 @@ number-is s at r e = ap numberOf (sym e) ∙ go (leb (at + 2) (length s))
     go false = refl
 
 -- whether it is null, by the number
-pub null-is : (s : List ℕ) (at n : ℕ) → n ≡ numberIn s at → eqb n 65535 ≡ isNullIn s at
-unfolding isNullIn
+pub null-is : (s : List ℕ) (at n : ℕ) → n ≡ integerView s at → eqb n 65535 ≡ nullView s at
+unfolding nullView
 null-is s at n e = ap (λ (k : ℕ). eqb k 65535) e
 
 -- the text, where it is null and where it is not
-pub text-null : (s : List ℕ) (at n : ℕ) → n ≡ numberIn s at → eqb n 65535 ≡ true → part s 0 0 ≡ textIn s at
-unfolding textIn part
+pub text-null : (s : List ℕ) (at n : ℕ) → n ≡ integerView s at → eqb n 65535 ≡ true → part s 0 0 ≡ textView s at
+unfolding textView part
 text-null s at n e q = rw (sym (null-is s at n e) ∙ q)
 
-pub text-is : (s : List ℕ) (at n : ℕ) → n ≡ numberIn s at → eqb n 65535 ≡ false → part s (at + 2) n ≡ textIn s at
-unfolding textIn
+pub text-is : (s : List ℕ) (at n : ℕ) → n ≡ integerView s at → eqb n 65535 ≡ false → part s (at + 2) n ≡ textView s at
+unfolding textView
 text-is s at n e q = rw (sym (null-is s at n e) ∙ q, e)
 
 -- a header's name, by its first byte
-pub name-is : (s : List ℕ) (at n : ℕ) (there code : Bool) → leb (at + 1) (length s) ≡ there → beginsCode (getD s at 0) ≡ code → n ≡ numberIn s at
-    → pick (both there code) (HeaderName.Code n) HeaderName.Spelled ≡ nameIn s at
-unfolding nameIn
+pub name-is : (s : List ℕ) (at n : ℕ) (there code : Bool) → leb (at + 1) (length s) ≡ there → beginsCode (getD s at 0) ≡ code → n ≡ integerView s at
+    → pick (both there code) (HeaderName.Code n) HeaderName.Spelled ≡ nameView s at
+unfolding nameView
 name-is s at n there code p q e = rw (p, q, e)

@@ -3,3 +3,4 @@ pub mod Meaning
 pub mod Reading
 pub mod View
 pub mod Starred
+pub mod Private

@@ -77,8 +77,8 @@ told (Packet.BodyChunk p) = parted Kind.BodyChunk (p .start .0) (p .len)
 told (Packet.End reuse) = numbered Kind.End (booleanNumber reuse ∷ [])
 
 -- how many places the table needs: 2 × (headers + attributes)
-abbrev pub placesIn : Told → ℕ
-placesIn t = 2 * (t .headers + t .attributes)
+abbrev pub placesNeeded : Told → ℕ
+placesNeeded t = 2 * (t .headers + t .attributes)
 
 -- an answer: so many bytes are needed; refused with this number; or accepted, with what the packet tells, the bytes taken and the
 -- connection after it

@@ -24,7 +24,7 @@ use Rattle.payload.specs.declared.Packet.{Packet}
 use Rattle.payload.specs.declared.PacketRead.{PacketRead}
 use Rattle.reader.specs.declared.frame.FrameRead.{FrameRead}
 use Rattle.reader.specs.Frame.{frameAt}
-use Rattle.reader.specs.Meaning.{Told, Meaning, needs, refused, accepted, told, placesIn}
+use Rattle.reader.specs.Meaning.{Meaning, needs, refused, accepted, told, placesNeeded}
 
 -- what bytes are, with no connection in it: too few, wrong, or a whole packet of a kind, with its length and what its fields say
 pub data Parsed : Type 0 where
@@ -47,6 +47,7 @@ parseFrame direction body s (FrameRead.Needs n) = short n
 parseFrame direction body s (FrameRead.Refused n) = wrong n
 parseFrame direction body s (FrameRead.Whole n) = parseWhole direction body (part s 0 n)
 
+-- what the first packet of the bytes is
 unfoldable pub parse : Direction → Bool → List ℕ → Parsed
 parse direction body s = parseFrame direction body s (frameAt direction s)
 
@@ -55,38 +56,31 @@ abbrev pub readAsBody : Direction → Connection → Bool
 readAsBody Direction.ToContainer c = bodyDue c
 readAsBody Direction.ToServer c = false
 
--- the step that a packet makes: 14, or the connection after it
+-- the step that a packet makes: refused (14), or the connection after it
 abbrev pub stepped : Packet → ℕ → Step → Meaning
 stepped packet taken (Step.Refused n) = refused n
 stepped packet taken (Step.Next after) = accepted (told packet) taken after
 
-unfoldable pub settled : Connection → ℕ → PacketRead → Meaning
-settled c taken (PacketRead.Refused n) = refused n
-settled c taken (PacketRead.Packet packet) = stepped packet taken (stepOf c (moveIn packet))
+-- a packet whose fields were read, 12 among them, and then the step
+unfoldable pub accepting : Connection → ℕ → PacketRead → Meaning
+accepting c taken (PacketRead.Refused n) = refused n
+accepting c taken (PacketRead.Packet packet) = stepped packet taken (stepOf c (moveIn packet))
 
--- where the table has too little room: 15
-abbrev pub lending : ℕ → Meaning → Meaning
-lending room (needs n) = needs n
-lending room (refused n) = refused n
-lending room (accepted t taken after) = pick (leb (placesIn t) room) (accepted t taken after) (refused lentTooShort)
+-- what bytes are answered with, the table aside: 13 comes behind the code and before the fields
+abbrev pub judging : Connection → Parsed → Meaning
+judging c (short n) = needs n
+judging c (wrong n) = refused n
+judging c (whole kind taken found) = pick (inState c kind) (accepting c taken (found .end)) (refused notNow)
 
--- a packet of a kind that is allowed: its fields, 12 among them, then 14, then 15
-unfoldable pub judged : Connection → ℕ → Kind → List ℕ → Meaning
-judged c room kind s = lending room (settled c (length s) (packetAt kind s .end))
-
--- what bytes are answered with: 13 comes behind the code and before the fields
-abbrev pub received : Connection → ℕ → Parsed → Meaning
-received c room (short n) = needs n
-received c room (wrong n) = refused n
-received c room (whole kind taken found) = pick (inState c kind) (lending room (settled c taken (found .end))) (refused notNow)
+-- an answer where the table has so much room: too little is 15, which comes last
+abbrev pub withRoom : ℕ → Meaning → Meaning
+withRoom room (needs n) = needs n
+withRoom room (refused n) = refused n
+withRoom room (accepted t taken after) = pick (leb (placesNeeded t) room) (accepted t taken after) (refused lentTooShort)
 
 -- the answer of reading, at the end to which packets of this direction go
 unfoldable pub reading : Direction → Connection → List ℕ → ℕ → Meaning
-reading direction c s room = received c room (parse direction (readAsBody direction c) s)
-
--- the answer for a packet that is a list of its own bytes
-unfoldable pub wholeOf : Direction → Connection → List ℕ → ℕ → Meaning
-wholeOf direction c s room = received c room (parseWhole direction (readAsBody direction c) s)
+reading direction c s room = withRoom room (judging c (parse direction (readAsBody direction c) s))
 
 -- the places that a packet has for the table: for each header its name's and its value's, then for each attribute its code's and its
 -- value's
@@ -95,21 +89,13 @@ placesOf (short n) = []
 placesOf (wrong n) = []
 placesOf (whole kind taken found) = found .places
 
-unfoldable pub placesAt : Direction → Connection → List ℕ → List ℕ
-placesAt direction c s = placesOf (parseWhole direction (readAsBody direction c) s)
-
--- how many places an answer asks of the table
-abbrev pub needed : Meaning → ℕ
-needed (needs n) = 0
-needed (refused n) = 0
-needed (accepted t taken after) = placesIn t
-
 -- the table then: where the packet is accepted, its places from the table's start on and the rest as it was; else all as it was
 abbrev pub filled : Meaning → List ℕ → List ℕ → List ℕ
 filled (needs n) places table = table
 filled (refused n) places table = table
 filled (accepted t taken after) places table = over table 0 places
 
+-- the table after reading
 unfoldable pub tableAfter : Direction → Connection → List ℕ → List ℕ → List ℕ
 tableAfter direction c s table =
     filled (reading direction c s (length table)) (placesOf (parse direction (readAsBody direction c) s)) table

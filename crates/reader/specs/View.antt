@@ -14,18 +14,18 @@ use Rattle.names.specs.Header.{beginsCode}
 use Rattle.reader.specs.declared.view.HeaderName.{HeaderName}
 
 -- the integer at a place, 0 where it is not there
-unfoldable pub numberIn : List ℕ → ℕ → ℕ
-numberIn s at = pick (leb (at + 2) (length s)) (integerIn s at) 0
+unfoldable pub integerView : List ℕ → ℕ → ℕ
+integerView s at = pick (leb (at + 2) (length s)) (integerIn s at) 0
 
 -- the string at a place is null
-unfoldable pub isNullIn : List ℕ → ℕ → Bool
-isNullIn s at = eqb (numberIn s at) nullLength
+unfoldable pub nullView : List ℕ → ℕ → Bool
+nullView s at = eqb (integerView s at) nullLength
 
 -- the bytes of the string at a place
-unfoldable pub textIn : List ℕ → ℕ → List ℕ
-textIn s at = pick (isNullIn s at) [] (part s (at + 2) (numberIn s at))
+unfoldable pub textView : List ℕ → ℕ → List ℕ
+textView s at = pick (nullView s at) [] (part s (at + 2) (integerView s at))
 
 -- the header's name at a place: a code where its first byte says so, else a string
-unfoldable pub nameIn : List ℕ → ℕ → HeaderName
-nameIn s at =
-    pick (both (leb (at + 1) (length s)) (beginsCode (getD s at 0))) (HeaderName.Code (numberIn s at)) HeaderName.Spelled
+unfoldable pub nameView : List ℕ → ℕ → HeaderName
+nameView s at =
+    pick (both (leb (at + 1) (length s)) (beginsCode (getD s at 0))) (HeaderName.Code (integerView s at)) HeaderName.Spelled

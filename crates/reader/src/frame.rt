@@ -34,7 +34,7 @@ fn is_other(bytes: &[u8], at: usize, byte: u8) -> bool
 }
 
 // Whether a leading byte is there and is not the direction's.
-fn is_misled(bytes: &[u8], direction: Direction) -> bool
+fn leading_differs(bytes: &[u8], direction: Direction) -> bool
     ensures { λ r. ⌜ r ≡ leadingDiffers direction (now (bytes .entry)) ⌝ }
 {
     let leading = leading_bytes(direction);
@@ -45,7 +45,7 @@ fn is_misled(bytes: &[u8], direction: Direction) -> bool
 pub fn frame(bytes: &[u8], direction: Direction) -> FrameRead
     ensures { λ r. ⌜ r ≡ frameAt direction (now (bytes .entry)) ⌝ }
 {
-    if is_misled(bytes, direction) {
+    if leading_differs(bytes, direction) {
         return FrameRead::Refused(refusal::LEADING_WRONG);
     }
     match read::integer(bytes, LENGTH_PLACE) {

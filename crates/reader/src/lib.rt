@@ -2,11 +2,12 @@
 // `read_at_container` and `read_at_server` answer for any connection, any bytes and any table. `view` shows the fields of what was read.
 ghost use mathlib.Core.Path.{_≡_};
 ghost use Prim.Native.Nat.{_≤_};
-ghost use lib.ListN.{length, take};
-ghost use Rattle.payload.specs.Parse.{moveIn, packetAt};
-ghost use Rattle.payload.specs.Listed.{forwardAt, sendHeadersAt};
-ghost use Rattle.reader.specs.Meaning.{meaning, told, placesIn};
-ghost use Rattle.reader.specs.Reading.{readAsBody, settled, lending, needed, filled, judged, wholeOf, reading, placesAt, tableAfter};
+ghost use lib.ListN.{length};
+ghost use Rattle.connection.specs.Connection.{maxPacket};
+ghost use Rattle.payload.specs.Parse.{moveIn};
+ghost use Rattle.reader.specs.Meaning.{meaning, told, placesNeeded};
+ghost use Rattle.reader.specs.Reading.{readAsBody, accepting, withRoom, reading, tableAfter};
+ghost use Rattle.reader.specs.Private.{needed, tableGiven, fieldsOf, tableFields, wholeOf, tableWhole};
 use connection::Connection;
 use connection::Kind;
 use connection::Move;
@@ -23,7 +24,7 @@ use wire::Direction;
 use wire::part_of;
 use wire::refusal;
 
-pub mod frame;
+mod frame;
 pub mod view;
 
 use crate::frame::FrameRead;
@@ -81,9 +82,9 @@ fn reads_body(direction: Direction, connection: Connection) -> bool
 
 // A whole packet: its kind, whether that is allowed now, then its fields.
 fn whole(direction: Direction, connection: Connection, packet: &[u8], table: &mut [u16]) -> Received
-    requires { ⌜ length (now packet) ≤ 8192 ⌝ }
+    requires { ⌜ length (now packet) ≤ maxPacket ⌝ }
     ensures { λ r. ⌜ meaning r ≡ wholeOf direction connection (now (packet .entry)) (length (now (table .entry))) ⌝ }
-    ensures { λ r. ⌜ now (table .exit) ≡ filled (wholeOf direction connection (now (packet .entry)) (length (now (table .entry)))) (placesAt direction connection (now (packet .entry))) (now (table .entry)) ⌝ }
+    ensures { λ r. ⌜ now (table .exit) ≡ tableWhole direction connection (now (packet .entry)) (now (table .entry)) ⌝ }
 {
     match payload::kind_of(packet, direction, reads_body(direction, connection)) {
         KindRead::Refused(n) => Received::Refused(n),
@@ -98,43 +99,43 @@ fn whole(direction: Direction, connection: Connection, packet: &[u8], table: &mu
 
 // A packet of a kind: its fields, then the step, then the table.
 fn fields(connection: Connection, kind: Kind, packet: &[u8], table: &mut [u16]) -> Received
-    requires { ⌜ length (now packet) ≤ 8192 ⌝ }
-    ensures { λ r. ⌜ meaning r ≡ judged connection (length (now (table .entry))) kind (now (packet .entry)) ⌝ }
-    ensures { λ r. ⌜ now (table .exit) ≡ filled (judged connection (length (now (table .entry))) kind (now (packet .entry))) (packetAt kind (now (packet .entry)) .places) (now (table .entry)) ⌝ }
+    requires { ⌜ length (now packet) ≤ maxPacket ⌝ }
+    ensures { λ r. ⌜ meaning r ≡ fieldsOf connection kind (now (packet .entry)) (length (now (table .entry))) ⌝ }
+    ensures { λ r. ⌜ now (table .exit) ≡ tableFields connection kind (now (packet .entry)) (now (table .entry)) ⌝ }
 {
     let size = packet.len();
     match kind {
-        Kind::CPing => settle(connection, plain::bare(packet, Packet::CPing), size),
-        Kind::CPong => settle(connection, plain::bare(packet, Packet::CPong), size),
+        Kind::CPing => accept(connection, plain::bare(packet, Packet::CPing), size),
+        Kind::CPong => accept(connection, plain::bare(packet, Packet::CPong), size),
         Kind::Forward => forward(connection, packet, table),
-        Kind::Body => settle(connection, plain::body(packet), size),
-        Kind::GetBody => settle(connection, plain::get_body(packet), size),
+        Kind::Body => accept(connection, plain::body(packet), size),
+        Kind::GetBody => accept(connection, plain::get_body(packet), size),
         Kind::SendHeaders => send_headers(connection, packet, table),
-        Kind::BodyChunk => settle(connection, plain::body_chunk(packet), size),
-        Kind::End => settle(connection, plain::end(packet), size),
+        Kind::BodyChunk => accept(connection, plain::body_chunk(packet), size),
+        Kind::End => accept(connection, plain::end(packet), size),
     }
 }
 
 // A Forward; the table is filled from a list of our own at the very end, so that a refusal leaves it.
 fn forward(connection: Connection, packet: &[u8], table: &mut [u16]) -> Received
-    requires { ⌜ length (now packet) ≤ 8192 ⌝ }
-    ensures { λ r. ⌜ meaning r ≡ judged connection (length (now (table .entry))) Kind.Forward (now (packet .entry)) ⌝ }
-    ensures { λ r. ⌜ now (table .exit) ≡ filled (judged connection (length (now (table .entry))) Kind.Forward (now (packet .entry))) (forwardAt (now (packet .entry)) .places) (now (table .entry)) ⌝ }
+    requires { ⌜ length (now packet) ≤ maxPacket ⌝ }
+    ensures { λ r. ⌜ meaning r ≡ fieldsOf connection Kind.Forward (now (packet .entry)) (length (now (table .entry))) ⌝ }
+    ensures { λ r. ⌜ now (table .exit) ≡ tableFields connection Kind.Forward (now (packet .entry)) (now (table .entry)) ⌝ }
 {
     let mut places = [0u16; MAX_PLACES];
     let found = listed::forward(packet, &mut places);
-    lend(settle(connection, found, packet.len()), &places, table)
+    fill_table(accept(connection, found, packet.len()), &places, table)
 }
 
 // Send Headers, in the same way.
 fn send_headers(connection: Connection, packet: &[u8], table: &mut [u16]) -> Received
-    requires { ⌜ length (now packet) ≤ 8192 ⌝ }
-    ensures { λ r. ⌜ meaning r ≡ judged connection (length (now (table .entry))) Kind.SendHeaders (now (packet .entry)) ⌝ }
-    ensures { λ r. ⌜ now (table .exit) ≡ filled (judged connection (length (now (table .entry))) Kind.SendHeaders (now (packet .entry))) (sendHeadersAt (now (packet .entry)) .places) (now (table .entry)) ⌝ }
+    requires { ⌜ length (now packet) ≤ maxPacket ⌝ }
+    ensures { λ r. ⌜ meaning r ≡ fieldsOf connection Kind.SendHeaders (now (packet .entry)) (length (now (table .entry))) ⌝ }
+    ensures { λ r. ⌜ now (table .exit) ≡ tableFields connection Kind.SendHeaders (now (packet .entry)) (now (table .entry)) ⌝ }
 {
     let mut places = [0u16; MAX_PLACES];
     let found = listed::send_headers(packet, &mut places);
-    lend(settle(connection, found, packet.len()), &places, table)
+    fill_table(accept(connection, found, packet.len()), &places, table)
 }
 
 // The move that a packet makes in the cycle.
@@ -157,8 +158,8 @@ pub fn move_of(packet: Packet) -> Move
 }
 
 // Steps the connection by a packet that was read; the table aside.
-fn settle(connection: Connection, found: PacketRead, taken: usize) -> Received
-    ensures { λ r. ⌜ meaning r ≡ settled connection taken found ⌝ }
+fn accept(connection: Connection, found: PacketRead, taken: usize) -> Received
+    ensures { λ r. ⌜ meaning r ≡ accepting connection taken found ⌝ }
 {
     match found {
         PacketRead::Refused(n) => Received::Refused(n),
@@ -174,8 +175,8 @@ fn settle(connection: Connection, found: PacketRead, taken: usize) -> Received
 }
 
 // How many places a packet needs: two for each header and each attribute.
-pub fn places_of(packet: Packet) -> usize
-    ensures { λ r. ⌜ r ≡ placesIn (told packet) ⌝ }
+pub fn places_needed(packet: Packet) -> usize
+    ensures { λ r. ⌜ r ≡ placesNeeded (told packet) ⌝ }
 {
     match packet {
         Packet::CPing => 0,
@@ -200,14 +201,14 @@ fn needed_by(answer: Received) -> usize
             packet,
             taken,
             connection,
-        } => places_of(packet),
+        } => places_needed(packet),
     }
 }
 
 // Fills the table from a list of places where the packet is accepted and the table is long enough.
-fn lend(answer: Received, places: &[u16], table: &mut [u16]) -> Received
-    ensures { λ r. ⌜ meaning r ≡ lending (length (now (table .entry))) (meaning answer) ⌝ }
-    ensures { λ r. ⌜ now (table .exit) ≡ filled (lending (length (now (table .entry))) (meaning answer)) (take (needed (meaning answer)) (now (places .entry))) (now (table .entry)) ⌝ }
+fn fill_table(answer: Received, places: &[u16], table: &mut [u16]) -> Received
+    ensures { λ r. ⌜ meaning r ≡ withRoom (length (now (table .entry))) (meaning answer) ⌝ }
+    ensures { λ r. ⌜ now (table .exit) ≡ tableGiven (meaning answer) (now (places .entry)) (now (table .entry)) ⌝ }
 {
     let count = needed_by(answer);
     if table.len() < count {

@@ -3,7 +3,7 @@
 ghost use mathlib.Core.Path.{_≡_};
 ghost use lib.ListN.{getD};
 ghost use Rattle.wire.specs.Bytes.{part};
-ghost use Rattle.reader.specs.View.{isNullIn, textIn, nameIn, numberIn};
+ghost use Rattle.reader.specs.View.{nullView, textView, nameView, integerView};
 ghost use Rattle.names.specs.Header.{headerNames};
 ghost use Rattle.names.specs.Names.{nameFor};
 ghost use Rattle.names.specs.Row.{padded};
@@ -30,7 +30,7 @@ pub enum HeaderName {
 
 // The integer at a place: an integer attribute's value, a string's length. 0 where it is not there.
 pub fn integer_at(packet: &[u8], place: Place) -> u16
-    ensures { λ r. ⌜ r ≡ numberIn (now (packet .entry)) (place .0) ⌝ }
+    ensures { λ r. ⌜ r ≡ integerView (now (packet .entry)) (place .0) ⌝ }
 {
     match read::integer(packet, place.index()) {
         NumberRead::Refused(n) => 0,
@@ -40,14 +40,14 @@ pub fn integer_at(packet: &[u8], place: Place) -> u16
 
 // Whether the string at a place is null; an empty string is not.
 pub fn is_null_at(packet: &[u8], place: Place) -> bool
-    ensures { λ r. ⌜ r ≡ isNullIn (now (packet .entry)) (place .0) ⌝ }
+    ensures { λ r. ⌜ r ≡ nullView (now (packet .entry)) (place .0) ⌝ }
 {
     integer_at(packet, place) == NULL_LENGTH
 }
 
 // The bytes of the string at a place; none where it is null.
 pub fn text_at(packet: &[u8], place: Place) -> &[u8]
-    ensures { λ r. ⌜ now r ≡ textIn (now (packet .entry)) (place .0) ⌝ }
+    ensures { λ r. ⌜ now r ≡ textView (now (packet .entry)) (place .0) ⌝ }
 {
     let n = integer_at(packet, place);
     if n == NULL_LENGTH {
@@ -58,7 +58,7 @@ pub fn text_at(packet: &[u8], place: Place) -> &[u8]
 
 // The header's name at a place.
 pub fn name_at(packet: &[u8], place: Place) -> HeaderName
-    ensures { λ r. ⌜ r ≡ nameIn (now (packet .entry)) (place .0) ⌝ }
+    ensures { λ r. ⌜ r ≡ nameView (now (packet .entry)) (place .0) ⌝ }
 {
     if has_room(packet.len(), place.index(), 1) {
         if header::begins_code(packet[place.index()]) {

@@ -13,8 +13,8 @@ enum-told c = search needs
 bare-requires : tie.Need-bare-requires
 bare-requires c κs = search needs
 
-settle-requires : tie.Need-settle-requires
-settle-requires c κs = search needs
+accept-requires : tie.Need-accept-requires
+accept-requires c κs = search needs
 
 enum-told-2 : tie.Need-enum-told-2
 enum-told-2 c = search needs
@@ -22,8 +22,8 @@ enum-told-2 c = search needs
 bare-requires-2 : tie.Need-bare-requires-2
 bare-requires-2 c κs = search needs
 
-settle-requires-2 : tie.Need-settle-requires-2
-settle-requires-2 c κs = search needs
+accept-requires-2 : tie.Need-accept-requires-2
+accept-requires-2 c κs = search needs
 
 enum-told-3 : tie.Need-enum-told-3
 enum-told-3 c = search needs
@@ -37,8 +37,8 @@ enum-told-4 c = search needs
 body-requires : tie.Need-body-requires
 body-requires c κs = search needs
 
-settle-requires-3 : tie.Need-settle-requires-3
-settle-requires-3 c κs = search needs
+accept-requires-3 : tie.Need-accept-requires-3
+accept-requires-3 c κs = search needs
 
 enum-told-5 : tie.Need-enum-told-5
 enum-told-5 c = search needs
@@ -46,8 +46,8 @@ enum-told-5 c = search needs
 get-body-requires : tie.Need-get-body-requires
 get-body-requires c κs = search needs
 
-settle-requires-4 : tie.Need-settle-requires-4
-settle-requires-4 c κs = search needs
+accept-requires-4 : tie.Need-accept-requires-4
+accept-requires-4 c κs = search needs
 
 enum-told-6 : tie.Need-enum-told-6
 enum-told-6 c = search needs
@@ -61,8 +61,8 @@ enum-told-7 c = search needs
 body-chunk-requires : tie.Need-body-chunk-requires
 body-chunk-requires c κs = search needs
 
-settle-requires-5 : tie.Need-settle-requires-5
-settle-requires-5 c κs = search needs
+accept-requires-5 : tie.Need-accept-requires-5
+accept-requires-5 c κs = search needs
 
 enum-told-8 : tie.Need-enum-told-8
 enum-told-8 c = search needs
@@ -70,18 +70,18 @@ enum-told-8 c = search needs
 end-requires : tie.Need-end-requires
 end-requires c κs = search needs
 
-settle-requires-6 : tie.Need-settle-requires-6
-settle-requires-6 c κs = search needs
+accept-requires-6 : tie.Need-accept-requires-6
+accept-requires-6 c κs = search needs
 
 returns : tie.Need-returns
 returns c =
     let a = c .before .before .before .before .before .before .args in
-    plain-is (a .connection) (a .kind) Kind.CPing (a .packet .now) (a .table .now) _ _ _ (c .before .before .enum-told .given .1) refl (c .before .bare .ensures) (c .settle .ensures)
+    plain-is (a .connection) (a .kind) Kind.CPing (a .packet .now) (a .table .now) _ _ _ (c .before .before .enum-told .given .1) refl (c .before .bare .ensures) (c .accept .ensures)
 
 returns-2 : tie.Need-returns-2
 returns-2 c =
     let a = c .before .before .before .before .before .before .args in
-    plain-is (a .connection) (a .kind) Kind.CPong (a .packet .now) (a .table .now) _ _ _ (c .before .before .enum-told2 .given .1) refl (c .before .bare2 .ensures) (c .settle2 .ensures)
+    plain-is (a .connection) (a .kind) Kind.CPong (a .packet .now) (a .table .now) _ _ _ (c .before .before .enum-told2 .given .1) refl (c .before .bare2 .ensures) (c .accept2 .ensures)
 
 same-length : tie.Need-same-length
 same-length c = search needs
@@ -92,12 +92,12 @@ returns-3 c = rw (c .before .before .before .before .enum-told3 .given .1) (c .b
 returns-4 : tie.Need-returns-4
 returns-4 c =
     let a = c .before .before .before .before .before .before .args in
-    plain-is (a .connection) (a .kind) Kind.Body (a .packet .now) (a .table .now) _ _ _ (c .before .before .enum-told4 .given .1) refl (c .before .body .ensures) (c .settle3 .ensures)
+    plain-is (a .connection) (a .kind) Kind.Body (a .packet .now) (a .table .now) _ _ _ (c .before .before .enum-told4 .given .1) refl (c .before .body .ensures) (c .accept3 .ensures)
 
 returns-5 : tie.Need-returns-5
 returns-5 c =
     let a = c .before .before .before .before .before .before .args in
-    plain-is (a .connection) (a .kind) Kind.GetBody (a .packet .now) (a .table .now) _ _ _ (c .before .before .enum-told5 .given .1) refl (c .before .get-body .ensures) (c .settle4 .ensures)
+    plain-is (a .connection) (a .kind) Kind.GetBody (a .packet .now) (a .table .now) _ _ _ (c .before .before .enum-told5 .given .1) refl (c .before .get-body .ensures) (c .accept4 .ensures)
 
 same-length-2 : tie.Need-same-length-2
 same-length-2 c = search needs
@@ -108,12 +108,12 @@ returns-6 c = rw (c .before .before .before .before .enum-told6 .given .1) (c .b
 returns-7 : tie.Need-returns-7
 returns-7 c =
     let a = c .before .before .before .before .before .before .args in
-    plain-is (a .connection) (a .kind) Kind.BodyChunk (a .packet .now) (a .table .now) _ _ _ (c .before .before .enum-told7 .given .1) refl (c .before .body-chunk .ensures) (c .settle5 .ensures)
+    plain-is (a .connection) (a .kind) Kind.BodyChunk (a .packet .now) (a .table .now) _ _ _ (c .before .before .enum-told7 .given .1) refl (c .before .body-chunk .ensures) (c .accept5 .ensures)
 
 returns-8 : tie.Need-returns-8
 returns-8 c =
     let a = c .before .before .before .before .before .before .args in
-    plain-is (a .connection) (a .kind) Kind.End (a .packet .now) (a .table .now) _ _ _ (c .before .before .enum-told8 .given .1) refl (c .before .end .ensures) (c .settle6 .ensures)
+    plain-is (a .connection) (a .kind) Kind.End (a .packet .now) (a .table .now) _ _ _ (c .before .before .enum-told8 .given .1) refl (c .before .end .ensures) (c .accept6 .ensures)
 
 pub fields-spec : {M : Type 1} → statement M
 fields-spec =
@@ -121,26 +121,26 @@ fields-spec =
     (tie.spec
     enum-told
     bare-requires
-    settle-requires
+    accept-requires
     enum-told-2
     bare-requires-2
-    settle-requires-2
+    accept-requires-2
     enum-told-3
     forward-requires
     enum-told-4
     body-requires
-    settle-requires-3
+    accept-requires-3
     enum-told-5
     get-body-requires
-    settle-requires-4
+    accept-requires-4
     enum-told-6
     send-headers-requires
     enum-told-7
     body-chunk-requires
-    settle-requires-5
+    accept-requires-5
     enum-told-8
     end-requires
-    settle-requires-6
+    accept-requires-6
     returns
     returns-2
     same-length

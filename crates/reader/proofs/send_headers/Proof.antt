@@ -1,4 +1,4 @@
--- `reader::send_headers` meets its contract: the packet is settled, then its places are lent.
+-- `reader::send_headers` meets its contract: the packet is accepting, then its places are lent.
 -- Assumes nothing.
 use Rattle.connection.specs.declared.Kind.{Kind}
 use Rattle.reader.proofs.Laws.{listed-is}
@@ -12,14 +12,14 @@ slice-aggregate-send-headers c = search needs
 send-headers-requires : tie.Need-send-headers-requires
 send-headers-requires c κs = search needs
 
-settle-requires : tie.Need-settle-requires
-settle-requires c κs = search needs
+accept-requires : tie.Need-accept-requires
+accept-requires c κs = search needs
 
-slice-aggregate-lend : tie.Need-slice-aggregate-lend
-slice-aggregate-lend c = search needs
+slice-aggregate-fill-table : tie.Need-slice-aggregate-fill-table
+slice-aggregate-fill-table c = search needs
 
-lend-requires : tie.Need-lend-requires
-lend-requires c κs = search needs
+fill-table-requires : tie.Need-fill-table-requires
+fill-table-requires c κs = search needs
 
 same-length : tie.Need-same-length
 same-length c = search needs
@@ -28,7 +28,7 @@ returns : tie.Need-returns
 returns c =
     let a = c .before .before .before .before .before .before .before .before .before .before .before .args in
     listed-is (a .connection) Kind.SendHeaders (a .packet .now) _ (a .table .now) _ _ _ _ _
-    (c .before .before .before .before .before .before .before .send-headers .ensures .0) (c .before .before .before .before .before .before .before .send-headers .ensures .1) (c .before .before .before .before .before .settle .ensures) (c .before .before .lend .ensures)
+    (c .before .before .before .before .before .before .before .send-headers .ensures .0) (c .before .before .before .before .before .before .before .send-headers .ensures .1) (c .before .before .before .before .before .accept .ensures) (c .before .before .fill-table .ensures)
 
 pub send-headers-spec : {M : Type 1} → statement M
 send-headers-spec =
@@ -36,8 +36,8 @@ send-headers-spec =
     (tie.spec
     slice-aggregate-send-headers
     send-headers-requires
-    settle-requires
-    slice-aggregate-lend
-    lend-requires
+    accept-requires
+    slice-aggregate-fill-table
+    fill-table-requires
     same-length
     returns)

@@ -1,15 +1,15 @@
--- `reader::lend` meets its contract: the table is filled where it has room for what the answer asks for.
+-- `reader::fill_table` meets its contract: the table is filled where it has room for what the answer asks for.
 -- Assumes nothing.
 use mathlib.Core.Path.{_≡_, sym, ap, _∙_}
 use Prim.Native.Nat.{_≤_, _<_}
 use lib.ListN.{length}
 use borrow.Author.Tests.{le-leb, lt-leb}
 use Rattle.reader.specs.Meaning.{meaning}
-use Rattle.reader.specs.Reading.{needed}
-use Rattle.reader.proofs.Laws.{lent-short, lent-filled, laid-first}
+use Rattle.reader.specs.Private.{needed}
+use Rattle.reader.proofs.Laws.{room-short, room-filled, laid-first}
 use borrow.Author.Needs.{needs}
-use Rattle.reader.proofs.lend.Statement.{statement}
-use Rattle.reader.proofs.lend.Tie as tie
+use Rattle.reader.proofs.fill_table.Statement.{statement}
+use Rattle.reader.proofs.fill_table.Tie as tie
 
 needed-by-requires : tie.Need-needed-by-requires
 needed-by-requires c κs = search needs
@@ -18,7 +18,7 @@ returns : tie.Need-returns
 returns c =
     let a = c .before .before .before .before .args in
     let short : length (a .table .now) < needed (meaning (a .answer)) = rw (c .before .needed-by .ensures) at (c .if1 .taken) in
-    lent-short (meaning (a .answer)) (a .places .now) (a .table .now) (lt-leb _ _ short)
+    room-short (meaning (a .answer)) (a .places .now) (a .table .now) (lt-leb _ _ short)
 
 first-requires : tie.Need-first-requires
 first-requires c κs = search needs
@@ -33,10 +33,10 @@ returns-2 : tie.Need-returns-2
 returns-2 c =
     let a = c .before .before .before .before .before .before .before .before .before .args in
     let enough : needed (meaning (a .answer)) ≤ length (a .table .now) = rw (c .before .before .before .before .before .before .needed-by .ensures) at (c .before .before .before .before .before .if1 .left) in
-    lent-filled (meaning (a .answer)) (a .places .now) (a .table .now) _ (le-leb _ _ enough)
+    room-filled (meaning (a .answer)) (a .places .now) (a .table .now) _ (le-leb _ _ enough)
     (laid-first (a .places .now) (a .table .now) _ _ _ (needed (meaning (a .answer))) (c .before .before .fill .ensures) (c .before .before .before .first .ensures) (c .before .before .before .before .before .before .needed-by .ensures) enough)
 
-pub lend-spec : {M : Type 1} → statement M
-lend-spec =
+pub fill-table-spec : {M : Type 1} → statement M
+fill-table-spec =
     tie.close
     (tie.spec needed-by-requires returns first-requires fill-requires same-length returns-2)

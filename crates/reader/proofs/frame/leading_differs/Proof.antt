@@ -1,12 +1,12 @@
--- `reader::frame::is_misled` meets its contract: the two leading bytes, one after the other.
+-- `reader::frame::leading_differs` meets its contract: the two leading bytes, one after the other.
 -- Assumes nothing.
 use mathlib.Core.Path.{refl}
 use Rattle.reader.specs.Frame.{leadingDiffers}
 use borrow.Author.Needs.{needs}
-use Rattle.reader.proofs.frame.is_misled.Statement.{statement}
-use Rattle.reader.proofs.frame.is_misled.Tie as tie
-use Rattle.reader.proofs.frame.is_misled.Reads as reads
-use Rattle.reader.proofs.frame.is_misled.Lts as lts
+use Rattle.reader.proofs.frame.leading_differs.Statement.{statement}
+use Rattle.reader.proofs.frame.leading_differs.Tie as tie
+use Rattle.reader.proofs.frame.leading_differs.Reads as reads
+use Rattle.reader.proofs.frame.leading_differs.Lts as lts
 use Rattle.reader.proofs.frame.is_other.Reads as is-other-reads
 use Rattle.wire.proofs.leading_bytes.Reads as leading-bytes-reads
 
@@ -36,8 +36,8 @@ unfolding leadingDiffers
 returns c =
     rw (← c .before .before .leading-bytes .ensures, c .before .is-other .ensures, c .is-other2 .ensures) refl
 
-pub is-misled-spec : {M : Type 1} → statement M
-is-misled-spec =
+pub leading-differs-spec : {M : Type 1} → statement M
+leading-differs-spec =
     tie.close
     (tie.spec
     leading-bytes-requires

@@ -1,0 +1,36 @@
+-- What the reader's own functions promise to one another: the answer and the table at each stage on the way. Whoever reads the promises of
+-- the public calls needs none of these.
+-- Assumes nothing.
+use mathlib.Core.List.{List}
+use Prim.Native.Nat.{ℕ}
+use lib.ListN.{length, take}
+use Rattle.wire.specs.declared.Direction.{Direction}
+use Rattle.connection.specs.declared.Kind.{Kind}
+use Rattle.connection.specs.declared.Connection.{Connection}
+use Rattle.payload.specs.Parse.{packetAt}
+use Rattle.reader.specs.Meaning.{Meaning, needs, refused, accepted, placesNeeded}
+use Rattle.reader.specs.Reading.{parseWhole, readAsBody, accepting, judging, withRoom, placesOf, filled}
+
+-- how many places an answer asks of the table
+abbrev pub needed : Meaning → ℕ
+needed (needs n) = 0
+needed (refused n) = 0
+needed (accepted t taken after) = placesNeeded t
+
+-- the table after an answer, filled with the first of these places
+unfoldable pub tableGiven : Meaning → List ℕ → List ℕ → List ℕ
+tableGiven answer places table = filled (withRoom (length table) answer) (take (needed answer) places) table
+
+-- a packet of a kind that is allowed: the answer, and the table
+unfoldable pub fieldsOf : Connection → Kind → List ℕ → ℕ → Meaning
+fieldsOf c kind s room = withRoom room (accepting c (length s) (packetAt kind s .end))
+
+unfoldable pub tableFields : Connection → Kind → List ℕ → List ℕ → List ℕ
+tableFields c kind s table = filled (fieldsOf c kind s (length table)) (packetAt kind s .places) table
+
+-- a packet that is a list of its own bytes: the answer, and the table
+unfoldable pub wholeOf : Direction → Connection → List ℕ → ℕ → Meaning
+wholeOf direction c s room = withRoom room (judging c (parseWhole direction (readAsBody direction c) s))
+
+unfoldable pub tableWhole : Direction → Connection → List ℕ → List ℕ → List ℕ
+tableWhole direction c s table = filled (wholeOf direction c s (length table)) (placesOf (parseWhole direction (readAsBody direction c) s)) table

@@ -1,0 +1,10 @@
+// Writes to standard output.
+use libc::STDOUT_FILENO;
+
+pub fn text(s: &[u8]) {
+    io::write_all(STDOUT_FILENO, s);
+}
+
+pub fn decimal(n: u64) {
+    io::print_decimal(STDOUT_FILENO, n);
+}
