@@ -7,8 +7,8 @@ use Prim.Native.Nat.{ℕ, _+_, _≤_}
 use native.Mathlib.Omega.{arith}
 use lib.ListN.{length, length-append}
 use Rattle.wire.specs.Bytes.{over, put}
-use Rattle.wire.proofs.Bytes.{over-none, over-over, length-put, put-fits, length-over}
-use Rattle.places.specs.Entries.{Entries, ended, front, followed}
+use Rattle.wire.proofs.Bytes.{over-none, over-over, length-put, put-fits}
+use Rattle.places.specs.Entries.{Entries, ended, front}
 
 -- Of all the entries, `later` are still to be read; `count` were, and the table has their places from an index on.
 pub record Filling {A : Type 0} (whole later : Entries A) (entry table : List ℕ) (from count : ℕ) : Type 0 where

@@ -4,14 +4,13 @@
 use mathlib.Core.Path.{_≡_, refl, sym, ap, _∙_, subst}
 use mathlib.Core.Bool.{Bool, true, false}
 use mathlib.Core.List.{List}
-use Prim.Native.Nat.{ℕ, _+_, _≤_, _<_}
-use native.Mathlib.Omega.{arith}
+use Prim.Native.Nat.{ℕ, _≤_, _<_}
 use native.Mathlib.Nat.{zero-add}
 use borrow.Author.Tests.{leb-true, le-leb}
 use lib.Dec.{leb}
 use lib.ListN.{length}
-use Rattle.wire.specs.Pick.{pick, both}
-use Rattle.wire.specs.Bytes.{part}
+use Rattle.wire.specs.Pick.{pick}
+use Rattle.wire.specs.Bytes.{part, over}
 use Rattle.wire.specs.declared.Direction.{Direction}
 use Rattle.wire.proofs.Tests.{both-first, both-second}
 use Rattle.wire.proofs.Bytes.{length-part}
@@ -21,7 +20,7 @@ use Rattle.connection.specs.declared.Connection.{Connection}
 use Rattle.connection.specs.declared.Step.{Step}
 use Rattle.connection.proofs.Laws.{step-by}
 use Rattle.payload.specs.Code.{kindAt}
-use Rattle.payload.specs.Parse.{packetAt, kindIn, moveIn}
+use Rattle.payload.specs.Parse.{packetAt, moveIn}
 use Rattle.payload.specs.declared.KindRead.{KindRead}
 use Rattle.payload.specs.declared.Packet.{Packet}
 use Rattle.payload.specs.declared.PacketRead.{PacketRead}
@@ -31,6 +30,7 @@ use Rattle.reader.specs.Frame.{frameAt}
 use Rattle.reader.specs.Meaning.{Told, Meaning, needs, refused, accepted, told, placesNeeded}
 use Rattle.reader.specs.Reading.{parsedOf, parseWhole, parseFrame, parse, readAsBody, stepped, accepting, judging, withRoom, reading, tableAfter}
 use Rattle.reader.proofs.Framing.{frame-inside}
+use Rattle.reader.proofs.Below.{places-fit}
 
 -- what is behind an accepted packet
 pub record Acceptance (direction : Direction) (c : Connection) (s : List ℕ) (room : ℕ) (t : Told) (taken : ℕ) (next : Connection) : Type 0 where
@@ -161,6 +161,19 @@ same-told direction c e s room more t u taken used next other b p q =
     ∙ ap (λ (m : ℕ). packetAt (o .kind) (part s 0 m) .end) n ∙ o .fields-are in
     let same : a .packet ≡ o .packet = cc in
     (a .tells ∙ ap told same ∙ sym (o .tells), n)
+
+-- an accepted packet fills the table with its own places, as many as it asks for
+pub accepted-fills : (direction : Direction) (c : Connection) (s table : List ℕ) (t : Told) (taken : ℕ) (next : Connection)
+    (e : reading direction c s (length table) ≡ accepted t taken next) → let a = accepted-is direction c s (length table) t taken next e in
+    let places = packetAt (a .kind) (part s 0 taken) .places in
+    (tableAfter direction c s table ≡ over table 0 places) × ((length places ≡ placesNeeded t) × (placesNeeded t ≤ 328))
+unfolding tableAfter parse parseWhole
+accepted-fills direction c s table t taken next e =
+    let a = accepted-is direction c s (length table) t taken next e in
+    let fit = rw (a .fields-are) at (places-fit (part s 0 taken) (a .kind)) in
+    let same : placesNeeded (told (a .packet)) ≡ placesNeeded t = ap placesNeeded (sym (a .tells)) in
+    let many : length (packetAt (a .kind) (part s 0 taken) .places) ≡ placesNeeded t = fit .0 ∙ same in
+    (rw (e, a .whole-is, a .kind-is), (many, rw (sym many) (fit .1)))
 
 -- a refusal and a "needs" leave the table
 pub refused-keeps : (direction : Direction) (c : Connection) (s table : List ℕ) (n : ℕ) → reading direction c s (length table) ≡ refused n

@@ -1,7 +1,7 @@
 -- Later bytes are the next packet's: bytes that have an answer other than "needs" have the same answer, and the same table, whatever
 -- follows them.
 -- Assumes nothing.
-use mathlib.Core.Path.{_≡_, refl, sym, ap, _∙_, subst}
+use mathlib.Core.Path.{_≡_, refl, ap, _∙_}
 use mathlib.Core.Bool.{Bool, true, false, not, false≢true}
 use mathlib.Core.List.{List, _++_}
 use Prim.Native.Nat.{ℕ, _+_, _≤_}
@@ -10,7 +10,7 @@ use borrow.Author.Tests.{le-leb, leb-true, le-ltb, ltb-false}
 use lib.Dec.{leb, ltb, eqb}
 use lib.ListN.{length, getD, length-append, List·getD-append}
 use lib.Seq.{take-append-le}
-use Rattle.wire.specs.Pick.{pick, both, either}
+use Rattle.wire.specs.Pick.{pick, either}
 use Rattle.wire.specs.Bytes.{part, integerIn}
 use Rattle.wire.specs.Field.{integerAt}
 use Rattle.wire.specs.Packet.{leading}

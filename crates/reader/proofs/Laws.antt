@@ -104,13 +104,12 @@ unfolding fieldsOf tableFields tableGiven
 listed-is c kind s blank table found answer r places exit p q e h =
     let own = accepting c (length s) (packetAt kind s .end) in
     let m : answer ≡ own = e ∙ ap (accepting c (length s)) p in
-    let fit = accepting-places c (length s) (length (packetAt kind s .places)) (packetAt kind s .end) (places-fit s kind) in
-    (
+    let fit = accepting-places c (length s) (length (packetAt kind s .places)) (packetAt kind s .end) (places-fit s kind) in (
       h .0 ∙ ap (withRoom (length table)) m,
       h .1
-      ∙ ap (λ (a : Meaning). filled (withRoom (length table) a) (take (needed a) places) table) m
-      ∙ ap (λ (l : List ℕ). filled (withRoom (length table) own) (take (needed own) l) table) q
-      ∙ fill-own own (length table) (packetAt kind s .places) blank table fit,
+          ∙ ap (λ (a : Meaning). filled (withRoom (length table) a) (take (needed a) places) table) m
+          ∙ ap (λ (l : List ℕ). filled (withRoom (length table) own) (take (needed own) l) table) q
+          ∙ fill-own own (length table) (packetAt kind s .places) blank table fit,
     )
 
 -- an answer that asks for no places is not refused for the table, and leaves it

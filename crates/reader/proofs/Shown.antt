@@ -159,3 +159,19 @@ text-lent s n at optional start len next e =
     let fits : at + 2 + integerView packet at ≤ length packet = omega (arith, r .starts, r .ends, r .fits) in
     ap (λ (l : List ℕ). textView l at) (sym (lent-is s n)) ∙ text-more packet (drop n s) at there (λ _. fits)
     ∙ text-shown packet at optional start len next e .1
+
+module _ (s : List ℕ) (n at : ℕ) (there : at + 2 ≤ length (part s 0 n)) where
+  -- and they show an integer, null and a header's name as the packet does
+  pub number-lent : integerView s at ≡ integerView (part s 0 n) at
+  number-lent = ap (λ (l : List ℕ). integerView l at) (sym (lent-is s n)) ∙ number-more (part s 0 n) (drop n s) at there
+
+  pub null-lent : nullView s at ≡ nullView (part s 0 n) at
+  null-lent = ap (λ (l : List ℕ). nullView l at) (sym (lent-is s n)) ∙ null-more (part s 0 n) (drop n s) at there
+
+  pub name-lent : nameView s at ≡ nameView (part s 0 n) at
+  name-lent = ap (λ (l : List ℕ). nameView l at) (sym (lent-is s n)) ∙ name-more (part s 0 n) (drop n s) at there
+
+-- and a body or a chunk is the same part of both
+pub bytes-lent : (s : List ℕ) (n start len : ℕ) → start + len ≤ length (part s 0 n) → part s start len ≡ part (part s 0 n) start len
+bytes-lent s n start len h =
+    ap (λ (l : List ℕ). part l start len) (sym (lent-is s n)) ∙ part-more (part s 0 n) (drop n s) start len h

@@ -2,13 +2,15 @@
 -- Assumes nothing.
 use mathlib.Core.Path.{_≡_, refl, sym, ap, _∙_}
 use mathlib.Core.Bool.{Bool, true, false}
-use mathlib.Core.List.{List, []}
-use Prim.Native.Nat.{ℕ, _+_}
+use mathlib.Core.List.{List}
+use Prim.Native.Nat.{ℕ, _+_, _<_}
+use native.Mathlib.Omega.{arith}
+use borrow.Author.Tests.{leb-false, lt-leb}
 use lib.Dec.{leb, eqb}
-use lib.ListN.{length, getD}
+use lib.ListN.{length, getD, List·getD-eq-default}
 use Rattle.wire.specs.Pick.{pick, both}
 use Rattle.wire.specs.Bytes.{part, integerIn}
-use Rattle.wire.specs.Field.{integerAt}
+use Rattle.wire.specs.Field.{byteAt, integerAt}
 use Rattle.wire.specs.declared.read.NumberRead.{NumberRead}
 use Rattle.names.specs.Header.{beginsCode}
 use Rattle.reader.specs.declared.view.HeaderName.{HeaderName}
@@ -28,6 +30,18 @@ number-is s at r e = ap numberOf (sym e) ∙ go (leb (at + 2) (length s))
     go true = refl
     go false = refl
 
+-- the byte at a place, by what is read there
+pub byte-is : (s : List ℕ) (at : ℕ) (r : NumberRead) → byteAt s at ≡ r → numberOf r ≡ getD s at 0
+unfolding byteAt
+byte-is s at r e = ap numberOf (sym e) ∙ go (leb (at + 1) (length s)) refl
+  where
+    go : (there : Bool) → leb (at + 1) (length s) ≡ there
+        → numberOf (pick there (NumberRead.Number (getD s at 0) (at + 1)) (NumberRead.Refused 3)) ≡ getD s at 0
+    go true q = refl
+    go false q =
+        let past : length s < at + 1 = leb-false (at + 1) (length s) q in
+        sym (List·getD-eq-default s 0 (omega arith))
+
 -- whether it is null, by the number
 pub null-is : (s : List ℕ) (at n : ℕ) → n ≡ integerView s at → eqb n 65535 ≡ nullView s at
 unfolding nullView
@@ -37,6 +51,11 @@ null-is s at n e = ap (λ (k : ℕ). eqb k 65535) e
 pub text-null : (s : List ℕ) (at n : ℕ) → n ≡ integerView s at → eqb n 65535 ≡ true → part s 0 0 ≡ textView s at
 unfolding textView part
 text-null s at n e q = rw (sym (null-is s at n e) ∙ q)
+
+-- where the length is not there, no bytes are shown
+pub text-gone : (s : List ℕ) (at : ℕ) → length s < at + 2 → part s 0 0 ≡ textView s at
+unfolding textView nullView integerView part
+text-gone s at h = rw (lt-leb (at + 2) (length s) h)
 
 pub text-is : (s : List ℕ) (at n : ℕ) → n ≡ integerView s at → eqb n 65535 ≡ false → part s (at + 2) n ≡ textView s at
 unfolding textView

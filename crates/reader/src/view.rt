@@ -1,6 +1,7 @@
 // Views of the fields of a packet, at the places that reading gives: parts of the lent bytes, not copies. Each answers for any bytes and
 // any place.
 ghost use mathlib.Core.Path.{_≡_};
+ghost use Prim.Native.Nat.{_+_};
 ghost use lib.ListN.{getD};
 ghost use Rattle.wire.specs.Bytes.{part};
 ghost use Rattle.reader.specs.View.{nullView, textView, nameView, integerView};
@@ -28,14 +29,35 @@ pub enum HeaderName {
     Spelled,
 }
 
+// The integer at an index, 0 where it is not there.
+fn integer_from(packet: &[u8], at: usize) -> u16
+    ensures { λ r. ⌜ r ≡ integerView (now (packet .entry)) at ⌝ }
+{
+    match read::integer(packet, at) {
+        NumberRead::Refused(n) => 0,
+        NumberRead::Number { value, next } => value,
+    }
+}
+
+// The bytes of the string at an index; none where it is null, or where its length is not there.
+fn text_from(packet: &[u8], at: usize) -> &[u8]
+    ensures { λ r. ⌜ now r ≡ textView (now (packet .entry)) at ⌝ }
+{
+    if !has_room(packet.len(), at, 2) {
+        return part_of(packet, 0, 0);
+    }
+    let n = integer_from(packet, at);
+    if n == NULL_LENGTH {
+        return part_of(packet, 0, 0);
+    }
+    part_of(packet, at + 2, n as usize)
+}
+
 // The integer at a place: an integer attribute's value, a string's length. 0 where it is not there.
 pub fn integer_at(packet: &[u8], place: Place) -> u16
     ensures { λ r. ⌜ r ≡ integerView (now (packet .entry)) (place .0) ⌝ }
 {
-    match read::integer(packet, place.index()) {
-        NumberRead::Refused(n) => 0,
-        NumberRead::Number { value, next } => value,
-    }
+    integer_from(packet, place.index())
 }
 
 // Whether the string at a place is null; an empty string is not.
@@ -49,11 +71,7 @@ pub fn is_null_at(packet: &[u8], place: Place) -> bool
 pub fn text_at(packet: &[u8], place: Place) -> &[u8]
     ensures { λ r. ⌜ now r ≡ textView (now (packet .entry)) (place .0) ⌝ }
 {
-    let n = integer_at(packet, place);
-    if n == NULL_LENGTH {
-        return part_of(packet, 0, 0);
-    }
-    part_of(packet, place.index() + 2, n as usize)
+    text_from(packet, place.index())
 }
 
 // The header's name at a place.
@@ -66,6 +84,23 @@ pub fn name_at(packet: &[u8], place: Place) -> HeaderName
         }
     }
     HeaderName::Spelled
+}
+
+// The attribute's code at a place, 0 where nothing is there.
+pub fn attribute_code_at(packet: &[u8], place: Place) -> u16
+    ensures { λ r. ⌜ r ≡ getD (now (packet .entry)) (place .0) 0 ⌝ }
+{
+    match read::byte(packet, place.index()) {
+        NumberRead::Refused(n) => 0,
+        NumberRead::Number { value, next } => value,
+    }
+}
+
+// The name that an attribute with code 0A brings with it, by the code's place.
+pub fn attribute_name_at(packet: &[u8], place: Place) -> &[u8]
+    ensures { λ r. ⌜ now r ≡ textView (now (packet .entry)) (place .0 + 1) ⌝ }
+{
+    text_from(packet, place.index() + 1)
 }
 
 // A part of the packet: a delivered body or chunk.
@@ -99,4 +134,11 @@ pub fn method_name(method: u16) -> Name
     ensures { λ r. ⌜ r ≡ padded (nameFor NameList.Methods method) ⌝ }
 {
     table::name_of(NameList::Methods, method)
+}
+
+// The name of an attribute by its code; none where the code is not served.
+pub fn attribute_name(code: u16) -> Name
+    ensures { λ r. ⌜ r ≡ padded (nameFor NameList.Attributes code) ⌝ }
+{
+    table::name_of(NameList::Attributes, code)
 }

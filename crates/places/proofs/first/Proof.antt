@@ -1,6 +1,5 @@
 -- `places::first` meets its contract: a list that is no longer than asked for is its own first part.
 -- Assumes nothing.
-use native.Mathlib.Omega.{arith}
 use mathlib.Core.Path.{sym}
 use borrow.Author.Needs.{needs}
 use lib.Seq.{take-all, length-take-le}

@@ -1,6 +1,5 @@
 -- `reader::fill_table` meets its contract: the table is filled where it has room for what the answer asks for.
 -- Assumes nothing.
-use mathlib.Core.Path.{_≡_, sym, ap, _∙_}
 use Prim.Native.Nat.{_≤_, _<_}
 use lib.ListN.{length}
 use borrow.Author.Tests.{le-leb, lt-leb}

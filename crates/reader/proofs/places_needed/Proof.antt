@@ -8,97 +8,73 @@ use Rattle.reader.specs.Meaning.{told, placesNeeded}
 use borrow.Author.Needs.{needs}
 use Rattle.reader.proofs.places_needed.Statement.{statement}
 use Rattle.reader.proofs.places_needed.Tie as tie
-use Rattle.reader.proofs.places_needed.Reads as reads
-use Rattle.reader.proofs.places_needed.Lts as lts
 
--- src/lib.rt:188:26
 enum-told : tie.Need-enum-told
 enum-told c = search needs
 
--- src/lib.rt:189:26
 enum-told-2 : tie.Need-enum-told-2
 enum-told-2 c = search needs
 
--- src/lib.rt:190:25
 enum-known-packet : tie.Need-enum-known-packet
 enum-known-packet c = search needs
 
--- src/lib.rt:190:36
 cast-result : tie.Need-cast-result
 cast-result c = search needs
 
--- src/lib.rt:190:57
 cast-result-2 : tie.Need-cast-result-2
 cast-result-2 c = search needs
 
--- src/lib.rt:190:36
 add-result : tie.Need-add-result
 add-result c = search needs
 
--- src/lib.rt:190:31
 mul-result : tie.Need-mul-result
 mul-result c = search needs
 
--- src/lib.rt:191:22
 enum-known-packet-2 : tie.Need-enum-known-packet-2
 enum-known-packet-2 c = search needs
 
--- src/lib.rt:192:25
 enum-known-packet-3 : tie.Need-enum-known-packet-3
 enum-known-packet-3 c = search needs
 
--- src/lib.rt:193:29
 enum-known-packet-4 : tie.Need-enum-known-packet-4
 enum-known-packet-4 c = search needs
 
--- src/lib.rt:193:39
 cast-result-3 : tie.Need-cast-result-3
 cast-result-3 c = search needs
 
--- src/lib.rt:193:35
 mul-result-2 : tie.Need-mul-result-2
 mul-result-2 c = search needs
 
--- src/lib.rt:194:27
 enum-known-packet-5 : tie.Need-enum-known-packet-5
 enum-known-packet-5 c = search needs
 
--- src/lib.rt:195:21
 enum-known-packet-6 : tie.Need-enum-known-packet-6
 enum-known-packet-6 c = search needs
 
--- src/lib.rt:184:1
 returns : tie.Need-returns
 returns c = sym (ap (λ (p : Packet). placesNeeded (told p)) (c .enum-told .given .1))
 
--- src/lib.rt:184:1
 returns-2 : tie.Need-returns-2
 returns-2 c = sym (ap (λ (p : Packet). placesNeeded (told p)) (c .enum-told2 .given .1))
 
--- src/lib.rt:184:1
 returns-3 : tie.Need-returns-3
 returns-3 c = sym (ap (λ (p : Packet). placesNeeded (told p)) (c .before .before .before .packet .given .1))
 
--- src/lib.rt:184:1
 returns-4 : tie.Need-returns-4
 returns-4 c = sym (ap (λ (p : Packet). placesNeeded (told p)) (c .before .packet2 .given .1))
 
--- src/lib.rt:184:1
 returns-5 : tie.Need-returns-5
 returns-5 c = sym (ap (λ (p : Packet). placesNeeded (told p)) (c .before .packet3 .given .1))
 
--- src/lib.rt:184:1
 returns-6 : tie.Need-returns-6
 returns-6 c =
     let h = c .before .before .packet4 .given .0 .0 .headers in
     let e : 2 * h ≡ 2 * (h + 0) = omega arith in
     e ∙ sym (ap (λ (p : Packet). placesNeeded (told p)) (c .before .before .packet4 .given .1))
 
--- src/lib.rt:184:1
 returns-7 : tie.Need-returns-7
 returns-7 c = sym (ap (λ (p : Packet). placesNeeded (told p)) (c .before .packet5 .given .1))
 
--- src/lib.rt:184:1
 returns-8 : tie.Need-returns-8
 returns-8 c = sym (ap (λ (p : Packet). placesNeeded (told p)) (c .before .packet6 .given .1))
 

@@ -1,7 +1,6 @@
 -- `reader::read` meets its contract, by the first packet's frame.
 -- Assumes nothing.
-use native.Mathlib.Omega.{arith}
-use mathlib.Core.Path.{_≡_, sym, ap, _∙_}
+use mathlib.Core.Path.{sym, _∙_}
 use Rattle.reader.proofs.Framing.{whole-fits}
 use Rattle.reader.proofs.Laws.{read-needs, read-refused, read-whole}
 use borrow.Author.Needs.{needs}

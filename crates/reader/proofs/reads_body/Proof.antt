@@ -6,27 +6,19 @@ use Rattle.reader.specs.Reading.{readAsBody}
 use borrow.Author.Needs.{needs}
 use Rattle.reader.proofs.reads_body.Statement.{statement}
 use Rattle.reader.proofs.reads_body.Tie as tie
-use Rattle.reader.proofs.reads_body.Reads as reads
-use Rattle.reader.proofs.reads_body.Lts as lts
-use Rattle.connection.proofs.Connection.is_body_due.Reads as is-body-due-reads
 
--- src/lib.rt:82:35
 enum-told : tie.Need-enum-told
 enum-told c = search needs
 
--- src/lib.rt:82:35
 is-body-due-requires : tie.Need-is-body-due-requires
 is-body-due-requires c κs = search needs
 
--- src/lib.rt:83:32
 enum-told-2 : tie.Need-enum-told-2
 enum-told-2 c = search needs
 
--- src/lib.rt:78:1
 returns : tie.Need-returns
 returns c = c .is-body-due .ensures ∙ sym (ap (λ (d : Direction). readAsBody d (c .before .before .before .args .connection)) (c .before .enum-told .given .1))
 
--- src/lib.rt:78:1
 returns-2 : tie.Need-returns-2
 returns-2 c = search needs
 

@@ -1,6 +1,6 @@
 -- `reader::whole` meets its contract, by the kind and by whether it is allowed.
 -- Assumes nothing.
-use mathlib.Core.Path.{_≡_, sym, ap, _∙_}
+use mathlib.Core.Path.{sym, _∙_}
 use borrow.Author.Tests.{not-true, not-false}
 use Rattle.reader.proofs.Laws.{whole-refused, whole-not, whole-kind}
 use borrow.Author.Needs.{needs}

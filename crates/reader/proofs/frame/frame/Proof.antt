@@ -1,6 +1,6 @@
 -- `reader::frame::frame` meets its contract, by the leading bytes and the length as read.
 -- Assumes nothing.
-use mathlib.Core.Path.{refl, sym, ap, _∙_}
+use mathlib.Core.Path.{refl, sym, _∙_}
 use mathlib.Core.Bool.{true, false}
 use borrow.Author.Needs.{needs}
 use Rattle.reader.proofs.Framing.{frame-is}
