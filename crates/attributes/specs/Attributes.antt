@@ -29,23 +29,26 @@ textValueOf at (StringRead.Refused n) = ValueRead.Refused n
 textValueOf at (StringRead.Null next) = ValueRead.Value at next
 textValueOf at (StringRead.Text start len next) = ValueRead.Value at next
 
+-- the string value at a place
 unfoldable pub textValueAt : List ℕ → ℕ → ValueRead
 textValueAt s at = textValueOf at (stringAt s at (isOptional StringField.AttributeValue))
 
--- a value that is an integer
+-- a value that is an integer, as read at a place
 abbrev pub integerValueOf : ℕ → NumberRead → ValueRead
 integerValueOf at (NumberRead.Refused n) = ValueRead.Refused n
 integerValueOf at (NumberRead.Number value next) = ValueRead.Value at next
 
+-- the integer value at a place
 unfoldable pub integerValueAt : List ℕ → ℕ → ValueRead
 integerValueAt s at = integerValueOf at (integerAt s at)
 
--- a name string and then a value string, whose place is the second one's
+-- a value behind its name, by the name's string as read
 abbrev pub pairValueOf : List ℕ → StringRead → ValueRead
 pairValueOf s (StringRead.Refused n) = ValueRead.Refused n
 pairValueOf s (StringRead.Null next) = ValueRead.Refused stringWrong
 pairValueOf s (StringRead.Text start len next) = textValueAt s next
 
+-- a name string and then a value string, whose place is the value's
 unfoldable pub pairValueAt : List ℕ → ℕ → ValueRead
 pairValueAt s at = pairValueOf s (stringAt s at (isOptional StringField.AttributeName))
 
@@ -82,7 +85,8 @@ andThen at count (AttributeRead.Refused n) later = ended (AttributesRead.Refused
 andThen at count (AttributeRead.Last next) later = ended (AttributesRead.Attributes count next)
 andThen at count (AttributeRead.Attribute code value next) later = front at value (later code next)
 
--- attributes from a place on, up to FF, at most `most`; the codes that came before are listed
+-- attributes from a place on, up to FF, at most `most`; the codes that came before are listed. Where no more may come, an attribute is
+-- never answered (the law `full-none`), so what would follow it is not looked at
 unfoldable pub attributesAt : List ℕ → ℕ → ℕ → List ℕ → Entries AttributesRead
 attributesAt s at zero codes =
     andThen at (length codes) (attributeAt s at true (oneOf codes)) (λ code next. ended (AttributesRead.Refused tooMany))

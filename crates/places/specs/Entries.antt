@@ -4,13 +4,15 @@
 use mathlib.Core.List.{List, [], _∷_, _++_}
 use Prim.Native.Nat.{ℕ}
 
--- the most headers, attributes and places
+-- the most headers of a packet
 abbrev pub maxHeaders : ℕ
 maxHeaders = 100
 
+-- the most attributes of a Forward
 abbrev pub maxAttributes : ℕ
 maxAttributes = 64
 
+-- the most places that a packet needs: two for each
 abbrev pub maxPlaces : ℕ
 maxPlaces = 328
 

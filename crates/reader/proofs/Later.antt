@@ -36,7 +36,7 @@ Framed (FrameRead.Needs n) = ⊥
 Framed (FrameRead.Refused n) = Unit
 Framed (FrameRead.Whole n) = Unit
 
--- two constructors are never equal
+-- false is not true, and so anything follows
 never : {A : Type 0} → false ≡ true → A
 never e = absurd (false≢true e)
 

@@ -15,6 +15,13 @@ use Rattle.wire.specs.declared.read.NumberRead.{NumberRead}
 use Rattle.connection.specs.Connection.{maxPayload}
 use Rattle.reader.specs.declared.frame.FrameRead.{FrameRead}
 
+-- the bytes before a payload: two leading bytes and the length, which is at place 2
+abbrev pub headSize : ℕ
+headSize = 4
+
+abbrev pub lengthPlace : ℕ
+lengthPlace = 2
+
 -- a byte is there and is another one than this
 abbrev pub differs : List ℕ → ℕ → ℕ → Bool
 differs s at byte = both (leb (at + 1) (length s)) (not (eqb (getD s at 0) byte))
@@ -27,14 +34,14 @@ leadingDiffers direction s = either (differs s 0 (getD (leading direction) 0 0))
 unfoldable pub lengthAt : ℕ → ℕ → FrameRead
 lengthAt there payload =
     pick (leb payload maxPayload)
-    (pick (ltb there (4 + payload)) (FrameRead.Needs (4 + payload)) (FrameRead.Whole (4 + payload)))
+    (pick (ltb there (headSize + payload)) (FrameRead.Needs (headSize + payload)) (FrameRead.Whole (headSize + payload)))
     (FrameRead.Refused tooLong)
 
 -- by the length as read: where it is not there, 4 bytes are needed
 abbrev pub frameOf : ℕ → NumberRead → FrameRead
-frameOf there (NumberRead.Refused n) = FrameRead.Needs 4
+frameOf there (NumberRead.Refused n) = FrameRead.Needs headSize
 frameOf there (NumberRead.Number payload next) = lengthAt there payload
 
 -- the first packet of the bytes: 1, "needs 4", 2, "needs 4 + length", or how many bytes it has
 unfoldable pub frameAt : Direction → List ℕ → FrameRead
-frameAt direction s = pick (leadingDiffers direction s) (FrameRead.Refused leadingWrong) (frameOf (length s) (integerAt s 2))
+frameAt direction s = pick (leadingDiffers direction s) (FrameRead.Refused leadingWrong) (frameOf (length s) (integerAt s lengthPlace))

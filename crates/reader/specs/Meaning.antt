@@ -87,6 +87,7 @@ pub data Meaning : Type 0 where
   refused : ℕ → Meaning
   accepted : Told → ℕ → Connection → Meaning
 
+-- what each case of the answer says
 abbrev pub meaning : Received → Meaning
 meaning (Received.Needs n) = needs n
 meaning (Received.Refused n) = refused n
