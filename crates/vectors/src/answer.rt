@@ -1,6 +1,6 @@
 // What reading answered, in the words of the list.
-use crate::put;
-use crate::text;
+use cases::put;
+use cases::text;
 use connection::Connection;
 use payload::Forward;
 use payload::Packet;

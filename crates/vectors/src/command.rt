@@ -1,8 +1,8 @@
 // The commands of the cases: what each is called, and what the library answers.
 use crate::print;
-use crate::put;
 use crate::read;
-use crate::text;
+use cases::put;
+use cases::text;
 use wire::Direction;
 
 // The commands by number; behind them, what stands for no command.

@@ -1,6 +1,6 @@
 // Standard input, by way of a buffer.
 use crate::print;
-use crate::text;
+use cases::text;
 use libc::STDIN_FILENO;
 use wire::part_of;
 use wire::write;

@@ -1,9 +1,9 @@
 // A line of the list: a case and the answer that is expected.
 use crate::command;
-use crate::expand;
 use crate::print;
 use crate::tally::Tallies;
-use crate::text;
+use cases::expand;
+use cases::text;
 use wire::part_of;
 
 // The tallies with the case of a line. A comment and an empty line have none.

@@ -2,18 +2,15 @@
 // that differs, and at the end how many there were. The list itself says how a case is written.
 mod answer;
 mod command;
-mod expand;
 mod input;
 mod line;
-mod parse;
 mod print;
-mod put;
 mod read;
 mod tally;
-mod text;
 
 use crate::input::Unread;
 use crate::tally::Tallies;
+use cases::text;
 
 // How long the buffers are: a line as it is listed fits the first, a line that is written out and an answer are shorter than the others.
 const LISTED: usize = 65536;

@@ -1,9 +1,9 @@
 // The command `read`: read END CONNECTION TABLE BYTES.
 use crate::answer;
 use crate::command;
-use crate::parse;
-use crate::put;
-use crate::text;
+use cases::parse;
+use cases::put;
+use cases::text;
 use connection::Connection;
 use reader::Received;
 use wire::Direction;

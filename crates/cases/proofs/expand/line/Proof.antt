@@ -4,8 +4,8 @@ use borrow.Author.Needs.{needs}
 use Prim.Native.Nat.{_≤_, _-_}
 use lib.ListN.{length}
 use mathlib.Core.Path.{_≡_}
-use Rattle.vectors.proofs.expand.line.Statement.{statement}
-use Rattle.vectors.proofs.expand.line.Tie as tie
+use Rattle.cases.proofs.expand.line.Statement.{statement}
+use Rattle.cases.proofs.expand.line.Tie as tie
 
 abbrev Inv-loop : tie.InvT-loop
 Inv-loop listed out₀ done₀ i₀ i-end out done i = ((i ≤ i-end) × (i-end ≡ length listed)) × (length out ≡ length out₀)

@@ -1,17 +1,17 @@
--- `put::places` ends and reads no place past the table.
+-- `parse::places` ends and writes no place past the table.
 -- Assumes nothing.
 use borrow.Author.Needs.{needs}
 use Prim.Native.Nat.{_≤_, _-_}
 use lib.ListN.{length}
 use mathlib.Core.Path.{_≡_}
-use Rattle.vectors.proofs.put.places.Statement.{statement}
-use Rattle.vectors.proofs.put.places.Tie as tie
+use Rattle.cases.proofs.parse.places.Statement.{statement}
+use Rattle.cases.proofs.parse.places.Tie as tie
 
 abbrev Inv-loop : tie.InvT-loop
-Inv-loop out₀ at table next₀ i₀ i-end out next i = ((i ≤ i-end) × (i-end ≡ length table)) × (length out ≡ length out₀)
+Inv-loop s into₀ count i₀ into i = (i ≤ count) × (length into ≡ length into₀)
 
 abbrev μ-loop : tie.MeasureT-loop
-μ-loop out₀ at table next₀ i₀ i-end out next i = i-end - i
+μ-loop s into₀ count i₀ into i = count - i
 
 pub places-spec : {M : Type 1} → statement M
 places-spec =
@@ -27,8 +27,6 @@ places-spec =
     (search needs)
     (search needs)
     (search needs)
-    (search needs)
-    (search needs)
-    (search needs)
+    (λ c. search needs)
     (search needs)
     (search needs))

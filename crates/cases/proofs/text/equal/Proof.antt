@@ -1,23 +1,25 @@
--- `text::find` ends and reads no byte past the text.
+-- `text::equal` ends and reads no byte past either text.
 -- Assumes nothing.
 use borrow.Author.Needs.{needs}
 use Prim.Native.Nat.{_-_}
 use lib.ListN.{length}
-use Rattle.vectors.proofs.text.find.Statement.{statement}
-use Rattle.vectors.proofs.text.find.Tie as tie
+use Rattle.cases.proofs.text.equal.Statement.{statement}
+use Rattle.cases.proofs.text.equal.Tie as tie
 
 abbrev Inv-loop : tie.InvT-loop
-Inv-loop s from byte at₀ at = Unit {0}
+Inv-loop a b i₀ i = Unit {0}
 
 abbrev μ-loop : tie.MeasureT-loop
-μ-loop s from byte at₀ at = length s - at
+μ-loop a b i₀ i = length a - i
 
-pub find-spec : {M : Type 1} → statement M
-find-spec =
+pub equal-spec : {M : Type 1} → statement M
+equal-spec =
     tie.close
     (tie.spec
     Inv-loop
     μ-loop
+    (search needs)
+    (search needs)
     (search needs)
     (search needs)
     (search needs)

@@ -2,8 +2,8 @@
 -- Assumes nothing.
 use borrow.Author.Needs.{needs}
 use Prim.Native.Nat.{_-_}
-use Rattle.vectors.proofs.text.field.Statement.{statement}
-use Rattle.vectors.proofs.text.field.Tie as tie
+use Rattle.cases.proofs.text.field.Statement.{statement}
+use Rattle.cases.proofs.text.field.Tie as tie
 
 abbrev Inv-loop : tie.InvT-loop
 Inv-loop s separator index start₀ i₀ start i = Unit {0}

@@ -1,17 +1,17 @@
--- `parse::bytes` ends and writes no byte past the slice.
+-- `put::bytes` ends and reads no byte past the slice.
 -- Assumes nothing.
 use borrow.Author.Needs.{needs}
 use Prim.Native.Nat.{_≤_, _-_}
 use lib.ListN.{length}
 use mathlib.Core.Path.{_≡_}
-use Rattle.vectors.proofs.parse.bytes.Statement.{statement}
-use Rattle.vectors.proofs.parse.bytes.Tie as tie
+use Rattle.cases.proofs.put.bytes.Statement.{statement}
+use Rattle.cases.proofs.put.bytes.Tie as tie
 
 abbrev Inv-loop : tie.InvT-loop
-Inv-loop s into₀ count i₀ into i = (i ≤ count) × (length into ≡ length into₀)
+Inv-loop out₀ at s next₀ i₀ i-end out next i = ((i ≤ i-end) × (i-end ≡ length s)) × (length out ≡ length out₀)
 
 abbrev μ-loop : tie.MeasureT-loop
-μ-loop s into₀ count i₀ into i = count - i
+μ-loop out₀ at s next₀ i₀ i-end out next i = i-end - i
 
 pub bytes-spec : {M : Type 1} → statement M
 bytes-spec =
@@ -26,6 +26,8 @@ bytes-spec =
     (search needs)
     (search needs)
     (search needs)
-    (λ c. search needs)
+    (search needs)
+    (search needs)
+    (search needs)
     (search needs)
     (search needs))

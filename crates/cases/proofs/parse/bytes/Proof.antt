@@ -1,11 +1,11 @@
--- `parse::places` ends and writes no place past the table.
+-- `parse::bytes` ends and writes no byte past the slice.
 -- Assumes nothing.
 use borrow.Author.Needs.{needs}
 use Prim.Native.Nat.{_≤_, _-_}
 use lib.ListN.{length}
 use mathlib.Core.Path.{_≡_}
-use Rattle.vectors.proofs.parse.places.Statement.{statement}
-use Rattle.vectors.proofs.parse.places.Tie as tie
+use Rattle.cases.proofs.parse.bytes.Statement.{statement}
+use Rattle.cases.proofs.parse.bytes.Tie as tie
 
 abbrev Inv-loop : tie.InvT-loop
 Inv-loop s into₀ count i₀ into i = (i ≤ count) × (length into ≡ length into₀)
@@ -13,13 +13,12 @@ Inv-loop s into₀ count i₀ into i = (i ≤ count) × (length into ≡ length 
 abbrev μ-loop : tie.MeasureT-loop
 μ-loop s into₀ count i₀ into i = count - i
 
-pub places-spec : {M : Type 1} → statement M
-places-spec =
+pub bytes-spec : {M : Type 1} → statement M
+bytes-spec =
     tie.close
     (tie.spec
     Inv-loop
     μ-loop
-    (search needs)
     (search needs)
     (search needs)
     (search needs)

@@ -4,8 +4,8 @@ use borrow.Author.Needs.{needs}
 use Prim.Native.Nat.{_-_}
 use lib.ListN.{length}
 use mathlib.Core.Path.{_≡_}
-use Rattle.vectors.proofs.expand.group.Statement.{statement}
-use Rattle.vectors.proofs.expand.group.Tie as tie
+use Rattle.cases.proofs.expand.group.Statement.{statement}
+use Rattle.cases.proofs.expand.group.Tie as tie
 
 abbrev Inv-loop : tie.InvT-loop
 Inv-loop out₀ at inside unit times next₀ i₀ out next i = length out ≡ length out₀

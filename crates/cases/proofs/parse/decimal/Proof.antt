@@ -4,8 +4,8 @@ use borrow.Author.Needs.{needs}
 use Prim.Native.Nat.{_≤_, _-_}
 use lib.ListN.{length}
 use mathlib.Core.Path.{_≡_}
-use Rattle.vectors.proofs.parse.decimal.Statement.{statement}
-use Rattle.vectors.proofs.parse.decimal.Tie as tie
+use Rattle.cases.proofs.parse.decimal.Statement.{statement}
+use Rattle.cases.proofs.parse.decimal.Tie as tie
 
 abbrev Inv-loop : tie.InvT-loop
 Inv-loop s n₀ i₀ i-end n i = (i ≤ i-end) × (i-end ≡ length s)
