@@ -16,8 +16,9 @@ use Rattle.wire.specs.declared.read.BooleanRead.{BooleanRead}
 use Rattle.wire.specs.declared.read.StringRead.{StringRead}
 use Rattle.wire.proofs.Tests.{both-second}
 use Rattle.wire.proofs.Field.{NumberInside, BooleanInside, StringInside, byte-inside, integer-inside, boolean-inside, string-inside}
+use Rattle.connection.specs.Connection.{maxPacket}
 use Rattle.payload.specs.declared.field.FieldRead.{FieldRead}
-use Rattle.payload.specs.Sequence.{behind, stringField, stringFieldAt, stringAfter, booleanField, booleanFieldAt, booleanAfter, bounded, byteAfter, integerAfter, valueOf, Within, Counts}
+use Rattle.payload.specs.Sequence.{behind, stringField, stringFieldAt, stringAfter, booleanField, booleanFieldAt, booleanAfter, numberField, anyIntegerAfter, bounded, byteAfter, integerAfter, valueOf, Within, Counts}
 
 -- a field that lies inside a packet of `size` bytes: its place is before the end, and the place after it is the end or before it
 abbrev pub FieldInside : ℕ → FieldRead → Type 0
@@ -54,7 +55,19 @@ boolean-after-inside s before =
     behind-inside (length s) (booleanFieldAt s) before
     (λ at. boolean-field-inside (length s) at (booleanAt s at) (boolean-inside s at (booleanAt s at) refl))
 
--- a number that is read as a field lies inside
+-- a number that may be any lies inside, read as a field
+number-field-inside : (size at width : ℕ) (r : NumberRead) → 0 < width → NumberInside size at width r → FieldInside size (numberField at r)
+number-field-inside size at width (NumberRead.Refused n) some h = tt
+number-field-inside size at width (NumberRead.Number value next) some h = (omega arith, h .1)
+
+-- an integer that may be any, behind a field, lies inside
+pub any-integer-after-inside : (s : List ℕ) (before : FieldRead) → FieldInside (length s) (anyIntegerAfter s before)
+unfolding anyIntegerAfter
+any-integer-after-inside s before =
+    behind-inside (length s) (λ at. numberField at (integerAt s at)) before
+    (λ at. number-field-inside (length s) at 2 (integerAt s at) (omega arith) (integer-inside s at (integerAt s at) refl))
+
+-- a number from `low` to `high` lies inside, read as a field
 bounded-inside : (size at width low high fault : ℕ) (r : NumberRead) → 0 < width → NumberInside size at width r
     → FieldInside size (bounded at low high fault r)
 bounded-inside size at width low high fault (NumberRead.Refused n) some h = tt
@@ -83,10 +96,11 @@ pub inside-within : (size most : ℕ) (f : FieldRead) → size ≤ most → Fiel
 inside-within size most (FieldRead.Refused n) h i = tt
 inside-within size most (FieldRead.Field at value next) h i = omega arith
 
--- the place of a string behind a field, in a packet of at most 8192 bytes, is at most 65535
-pub string-within : (s : List ℕ) (field : StringField) (before r : FieldRead) → length s ≤ 8192 → r ≡ stringAfter s field before → Within 65535 r
+-- the place of a string behind a field, in a packet of at most 8192 bytes, is at most that
+pub string-within : (s : List ℕ) (field : StringField) (before r : FieldRead) → length s ≤ maxPacket → r ≡ stringAfter s field before
+    → Within maxPacket r
 string-within s field before r h e =
-    subst (Within 65535) (sym e) (inside-within (length s) 65535 (stringAfter s field before) (omega arith) (string-after-inside s field before))
+    subst (Within maxPacket) (sym e) (inside-within (length s) maxPacket (stringAfter s field before) h (string-after-inside s field before))
 
 -- a number as a field is at most `high`
 bounded-counts : (at low high fault : ℕ) (r : NumberRead) → Counts high (bounded at low high fault r)

@@ -1,5 +1,5 @@
 -- Laws of the definitions of what a packet says: each outcome by the values of its tests, that a body packet and a chunk have no bytes
--- but those that they tell of, and that a code's kind goes the way that the packet goes.
+-- but those that they tell of, that a code's kind goes the way that the packet goes, and that each kind's code is of that kind.
 -- Assumes nothing.
 use mathlib.Core.Path.{_≡_, refl, sym, ap, subst, _∙_}
 use mathlib.Core.Bool.{Bool, true, false}
@@ -10,25 +10,29 @@ use borrow.Author.Tests.{le-leb, lt-leb, ltb-false, ne-eqb, eqb-true}
 use lib.Dec.{leb, ltb, eqb}
 use lib.ListN.{length, getD}
 use Rattle.wire.specs.Pick.{pick, both, either}
+use Rattle.wire.specs.Refusal.{cutShort, codeWrong, codeNotServed, stringWrong, leftOver, sizeWrong}
 use Rattle.wire.specs.Field.{byteAt, integerAt, booleanAt, stringAt, isOptional}
 use Rattle.wire.specs.declared.Direction.{Direction}
 use Rattle.wire.specs.declared.StringField.{StringField}
 use Rattle.wire.specs.declared.read.NumberRead.{NumberRead}
 use Rattle.wire.specs.declared.read.BooleanRead.{BooleanRead}
 use Rattle.wire.specs.declared.read.StringRead.{StringRead}
-use Rattle.wire.proofs.Field.{NumberInside, integer-inside}
 use Rattle.connection.specs.declared.Kind.{Kind}
 use Rattle.connection.specs.Cycle.{directionOf}
 use Rattle.payload.specs.declared.KindRead.{KindRead}
-use Rattle.payload.specs.declared.Packet.{Packet}
-use Rattle.payload.specs.declared.PacketRead.{PacketRead}
+use Rattle.payload.specs.declared.packet.Packet.{Packet}
+use Rattle.payload.specs.declared.packet.PacketRead.{PacketRead}
 use Rattle.payload.specs.declared.field.FieldRead.{FieldRead}
-use Rattle.payload.specs.Code.{codeKind, kindOfCode, kindAt}
-use Rattle.payload.specs.Sequence.{bounded, byteAfter, integerAfter, stringField, stringFieldAt, booleanField, booleanFieldAt}
-use Rattle.payload.specs.Plain.{partFrom, finished, endOf, endAt, getOf, getAt, sizedAt, sizedOf, bodyAt, chunkOf, chunkBy, chunkAt}
+use Rattle.payload.specs.Code.{payloadPlace, codePlace, afterCodePlace, codeOf, shutdownCode, pingCode, codeKind, kindOfCode, kindAt}
+use Rattle.payload.specs.Sequence.{numberField, anyIntegerAfter, bounded, byteAfter, integerAfter, stringField, stringFieldAt, booleanField, booleanFieldAt}
+use Rattle.payload.specs.Packet.{partFrom, finished}
+use Rattle.payload.specs.End.{endOf, endAt}
+use Rattle.payload.specs.GetBody.{getOf, getAt}
+use Rattle.payload.specs.Body.{bodyStart, sizedAt, sizedOf, bodyAt}
+use Rattle.payload.specs.BodyChunk.{chunkStart, chunkOf, chunkBy, chunkAt}
 
 -- the kind of a packet, by whether it is read as a body packet and by what its code reads as
-pub kind-is : (d : Direction) (body t : Bool) (s : List ℕ) (r : NumberRead) → body ≡ t → byteAt s 4 ≡ r
+pub kind-is : (d : Direction) (body t : Bool) (s : List ℕ) (r : NumberRead) → body ≡ t → byteAt s codePlace ≡ r
     → kindAt d body s ≡ pick t (KindRead.Kind Kind.Body) (kindOfCode d r)
 unfolding kindAt
 kind-is d body t s r p q = rw (p, q)
@@ -52,58 +56,69 @@ bounded-by at low high fault number value next a b e p q = rw (e, p, q)
 
 -- the byte and the integer behind a field that was read, by what they read as
 module _ (s : List ℕ) (low high fault at value next : ℕ) (before : FieldRead) (r : NumberRead) where
+  -- the byte from `low` to `high`
   pub byte-after-is : before ≡ FieldRead.Field at value next → byteAt s next ≡ r
       → byteAfter s low high fault before ≡ bounded next low high fault r
   unfolding byteAfter
   byte-after-is p q = rw (p, q)
 
+  -- the integer from `low` to `high`
   pub integer-after-is : before ≡ FieldRead.Field at value next → integerAt s next ≡ r
       → integerAfter s low high fault before ≡ bounded next low high fault r
   unfolding integerAfter
   integer-after-is p q = rw (p, q)
 
--- End, Get Body Chunk and Send Body Chunk, by what their first field reads as
-pub end-is : (s : List ℕ) (r : BooleanRead) → booleanAt s 5 ≡ r → endAt s ≡ endOf (length s) r
+-- the integer behind a field that was read, which may be any, by what it reads as
+pub any-integer-after-is : (s : List ℕ) (at value next : ℕ) (before : FieldRead) (r : NumberRead) → before ≡ FieldRead.Field at value next
+    → integerAt s next ≡ r → anyIntegerAfter s before ≡ numberField next r
+unfolding anyIntegerAfter
+any-integer-after-is s at value next before r p q = rw (p, q)
+
+-- End, by what its boolean reads as
+pub end-is : (s : List ℕ) (r : BooleanRead) → booleanAt s afterCodePlace ≡ r → endAt s ≡ endOf (length s) r
 unfolding endAt
 end-is s r e = ap (endOf (length s)) e
 
-pub get-is : (s : List ℕ) (r : NumberRead) → integerAt s 5 ≡ r → getAt s ≡ getOf (length s) r
+-- Get Body Chunk, by what its integer reads as
+pub get-is : (s : List ℕ) (r : NumberRead) → integerAt s afterCodePlace ≡ r → getAt s ≡ getOf (length s) r
 unfolding getAt
 get-is s r e = ap (getOf (length s)) e
 
-pub chunk-is : (s : List ℕ) (r : NumberRead) → integerAt s 5 ≡ r → chunkAt s ≡ chunkBy s r
+-- Send Body Chunk, by what its length reads as
+pub chunk-is : (s : List ℕ) (r : NumberRead) → integerAt s afterCodePlace ≡ r → chunkAt s ≡ chunkBy s r
 unfolding chunkAt
 chunk-is s r e = ap (chunkBy s) e
 
 -- a body packet, by whether anything follows its length and by what its size reads as
-pub body-is : (s : List ℕ) (t : Bool) (r : NumberRead) → eqb (length s) 4 ≡ t → integerAt s 4 ≡ r
-    → bodyAt s ≡ pick t (PacketRead.Packet (Packet.Body (partFrom 4 0))) (sizedOf (length s) r)
+pub body-is : (s : List ℕ) (t : Bool) (r : NumberRead) → eqb (length s) payloadPlace ≡ t → integerAt s payloadPlace ≡ r
+    → bodyAt s ≡ pick t (PacketRead.Packet (Packet.Body (partFrom payloadPlace 0))) (sizedOf (length s) r)
 unfolding bodyAt
 body-is s t r p q = rw (p, q)
 
 -- a body packet that tells its size, by its three tests; a return that does not reach a test says `refl`
-pub sized-by : (size start len : ℕ) (a b c : Bool) → ltb size (start + len) ≡ a → ltb (start + len) size ≡ b → eqb len 0 ≡ c
-    → pick a (PacketRead.Refused 3)
-    (pick b (PacketRead.Refused 12) (pick c (PacketRead.Refused 14) (PacketRead.Packet (Packet.Body (partFrom start len)))))
-    ≡ sizedAt size start len
+pub sized-by : (size len : ℕ) (a b c : Bool) → ltb size (bodyStart + len) ≡ a → ltb (bodyStart + len) size ≡ b → eqb len 0 ≡ c
+    → pick a (PacketRead.Refused cutShort)
+    (pick b (PacketRead.Refused leftOver)
+    (pick c (PacketRead.Refused sizeWrong) (PacketRead.Packet (Packet.Body (partFrom bodyStart len)))))
+    ≡ sizedAt size len
 unfolding sizedAt
-sized-by size start len a b c p q r = rw (p, q, r)
+sized-by size len a b c p q r = rw (p, q, r)
 
 -- the outcomes of a chunk's bytes
-module _ (s : List ℕ) (start len : ℕ) where
+module _ (s : List ℕ) (len : ℕ) where
   -- they or the byte behind them are not there
-  pub chunk-short : length s < start + (len + 1) → PacketRead.Refused 3 ≡ chunkOf s start len
+  pub chunk-short : length s < chunkStart + (len + 1) → PacketRead.Refused cutShort ≡ chunkOf s len
   unfolding chunkOf
   chunk-short h = simp lt-leb
 
   -- the byte behind them is not zero
-  pub chunk-open : start + (len + 1) ≤ length s → (getD s (start + len) 0 ≡ 0 → ⊥) → PacketRead.Refused 6 ≡ chunkOf s start len
+  pub chunk-open : chunkStart + (len + 1) ≤ length s → (getD s (chunkStart + len) 0 ≡ 0 → ⊥) → PacketRead.Refused stringWrong ≡ chunkOf s len
   unfolding chunkOf
   chunk-open h z = simp (le-leb, ne-eqb)
 
   -- the byte behind them is zero
-  pub chunk-closed : start + (len + 1) ≤ length s → getD s (start + len) 0 ≡ 0
-      → finished (length s) (start + len + 1) (Packet.BodyChunk (partFrom start len)) ≡ chunkOf s start len
+  pub chunk-closed : chunkStart + (len + 1) ≤ length s → getD s (chunkStart + len) 0 ≡ 0
+      → finished (length s) (chunkStart + len + 1) (Packet.BodyChunk (partFrom chunkStart len)) ≡ chunkOf s len
   unfolding chunkOf
   chunk-closed h z = simp (le-leb, z)
 
@@ -117,63 +132,65 @@ PlainInside n (PacketRead.Packet (Packet.Forward f)) = Unit
 PlainInside n (PacketRead.Packet (Packet.Body p)) = p .start .0 + p .len ≡ n
 PlainInside n (PacketRead.Packet (Packet.GetBody k)) = Unit
 PlainInside n (PacketRead.Packet (Packet.SendHeaders h)) = Unit
-PlainInside n (PacketRead.Packet (Packet.BodyChunk p)) = (p .start .0 ≡ 7) × (p .start .0 + p .len + 1 ≡ n)
+PlainInside n (PacketRead.Packet (Packet.BodyChunk p)) = (p .start .0 ≡ chunkStart) × (p .start .0 + p .len + 1 ≡ n)
 PlainInside n (PacketRead.Packet (Packet.End reuse)) = Unit
 
 -- a body packet that tells its size
-sized-inside : (n start len : ℕ) → PlainInside n (sizedAt n start len)
+sized-inside : (n len : ℕ) → PlainInside n (sizedAt n len)
 unfolding sizedAt
-sized-inside n start len = go (ltb n (start + len)) (ltb (start + len) n) (eqb len 0) refl refl
+sized-inside n len = go (ltb n (bodyStart + len)) (ltb (bodyStart + len) n) (eqb len 0) refl refl
   where
-    go : (a b c : Bool) → ltb n (start + len) ≡ a → ltb (start + len) n ≡ b
+    go : (a b c : Bool) → ltb n (bodyStart + len) ≡ a → ltb (bodyStart + len) n ≡ b
         → PlainInside n
-        (pick a (PacketRead.Refused 3)
-        (pick b (PacketRead.Refused 12) (pick c (PacketRead.Refused 14) (PacketRead.Packet (Packet.Body (partFrom start len))))))
+        (pick a (PacketRead.Refused cutShort)
+        (pick b (PacketRead.Refused leftOver)
+        (pick c (PacketRead.Refused sizeWrong) (PacketRead.Packet (Packet.Body (partFrom bodyStart len))))))
     go true b c p q = tt
     go false true c p q = tt
     go false false true p q = tt
-    go false false false p q = omega (arith, ltb-false n (start + len) p, ltb-false (start + len) n q)
+    go false false false p q = omega (arith, ltb-false n (bodyStart + len) p, ltb-false (bodyStart + len) n q)
 
 -- a body packet, by what its size reads as
 sized-of-inside : (n : ℕ) (r : NumberRead) → PlainInside n (sizedOf n r)
 sized-of-inside n (NumberRead.Refused k) = tt
-sized-of-inside n (NumberRead.Number len start) = sized-inside n start len
+sized-of-inside n (NumberRead.Number len next) = sized-inside n len
 
 -- a body packet
 body-all : (s : List ℕ) → PlainInside (length s) (bodyAt s)
 unfolding bodyAt
-body-all s = go (eqb (length s) 4) refl
+body-all s = go (eqb (length s) payloadPlace) refl
   where
-    go : (t : Bool) → eqb (length s) 4 ≡ t
-        → PlainInside (length s) (pick t (PacketRead.Packet (Packet.Body (partFrom 4 0))) (sizedOf (length s) (integerAt s 4)))
-    go true e = sym (eqb-true (length s) 4 e)
-    go false e = sized-of-inside (length s) (integerAt s 4)
+    go : (t : Bool) → eqb (length s) payloadPlace ≡ t
+        → PlainInside (length s)
+        (pick t (PacketRead.Packet (Packet.Body (partFrom payloadPlace 0))) (sizedOf (length s) (integerAt s payloadPlace)))
+    go true e = sym (eqb-true (length s) payloadPlace e)
+    go false e = sized-of-inside (length s) (integerAt s payloadPlace)
 
--- a chunk whose bytes start at 7
-chunk-of-inside : (s : List ℕ) (start len : ℕ) → start ≡ 7 → PlainInside (length s) (chunkOf s start len)
+-- a chunk that tells its length
+chunk-of-inside : (s : List ℕ) (len : ℕ) → PlainInside (length s) (chunkOf s len)
 unfolding chunkOf
-chunk-of-inside s start len e =
-    go (leb (start + (len + 1)) (length s)) (eqb (getD s (start + len) 0) 0) (eqb (start + len + 1) (length s)) refl
+chunk-of-inside s len =
+    go (leb (chunkStart + (len + 1)) (length s)) (eqb (getD s (chunkStart + len) 0) 0) (eqb (chunkStart + len + 1) (length s)) refl
   where
-    go : (a b c : Bool) → eqb (start + len + 1) (length s) ≡ c
+    go : (a b c : Bool) → eqb (chunkStart + len + 1) (length s) ≡ c
         → PlainInside (length s)
         (pick a
-        (pick b (pick c (PacketRead.Packet (Packet.BodyChunk (partFrom start len))) (PacketRead.Refused 12)) (PacketRead.Refused 6))
-        (PacketRead.Refused 3))
-    go true true true p = (e, eqb-true (start + len + 1) (length s) p)
+        (pick b (pick c (PacketRead.Packet (Packet.BodyChunk (partFrom chunkStart len))) (PacketRead.Refused leftOver)) (PacketRead.Refused stringWrong))
+        (PacketRead.Refused cutShort))
+    go true true true p = (refl, eqb-true (chunkStart + len + 1) (length s) p)
     go true true false p = tt
     go true false c p = tt
     go false b c p = tt
 
 -- a chunk, by what its length reads as
-chunk-by-inside : (s : List ℕ) (r : NumberRead) → NumberInside (length s) 5 2 r → PlainInside (length s) (chunkBy s r)
-chunk-by-inside s (NumberRead.Refused k) h = tt
-chunk-by-inside s (NumberRead.Number len start) h = chunk-of-inside s start len (h .0)
+chunk-by-inside : (s : List ℕ) (r : NumberRead) → PlainInside (length s) (chunkBy s r)
+chunk-by-inside s (NumberRead.Refused k) = tt
+chunk-by-inside s (NumberRead.Number len next) = chunk-of-inside s len
 
 -- a chunk
 chunk-all : (s : List ℕ) → PlainInside (length s) (chunkAt s)
 unfolding chunkAt
-chunk-all s = chunk-by-inside s (integerAt s 5) (integer-inside s 5 (integerAt s 5) refl)
+chunk-all s = chunk-by-inside s (integerAt s afterCodePlace)
 
 -- body packets and chunks have no bytes but those that they tell of
 pub plain-inside : (s : List ℕ) → PlainInside (length s) (bodyAt s) × PlainInside (length s) (chunkAt s)
@@ -195,30 +212,45 @@ Goes d (KindRead.Kind k) = directionOf k ≡ d
 -- the kind that has a code goes the way in which the code was read
 code-goes : (d : Direction) (code : ℕ) → Goes d (codeKind d code)
 unfolding codeKind
-code-goes Direction.ToContainer code = go (eqb code 2) (eqb code 10) (either (eqb code 7) (eqb code 8))
+code-goes Direction.ToContainer code =
+    go (eqb code (codeOf Kind.Forward)) (eqb code (codeOf Kind.CPing)) (either (eqb code shutdownCode) (eqb code pingCode))
   where
     go : (a b c : Bool)
         → Goes Direction.ToContainer
         (pick a (KindRead.Kind Kind.Forward)
-        (pick b (KindRead.Kind Kind.CPing) (pick c (KindRead.Refused 5) (KindRead.Refused 4))))
+        (pick b (KindRead.Kind Kind.CPing) (pick c (KindRead.Refused codeNotServed) (KindRead.Refused codeWrong))))
     go true b c = refl
     go false true c = refl
     go false false true = tt
     go false false false = tt
-code-goes Direction.ToServer code = go (eqb code 3) (eqb code 4) (eqb code 5) (eqb code 6) (eqb code 9)
+code-goes Direction.ToServer code =
+    go (eqb code (codeOf Kind.BodyChunk)) (eqb code (codeOf Kind.SendHeaders)) (eqb code (codeOf Kind.End)) (eqb code (codeOf Kind.GetBody))
+    (eqb code (codeOf Kind.CPong))
   where
     go : (a b c d e : Bool)
         → Goes Direction.ToServer
         (pick a (KindRead.Kind Kind.BodyChunk)
         (pick b (KindRead.Kind Kind.SendHeaders)
         (pick c (KindRead.Kind Kind.End)
-        (pick d (KindRead.Kind Kind.GetBody) (pick e (KindRead.Kind Kind.CPong) (KindRead.Refused 4))))))
+        (pick d (KindRead.Kind Kind.GetBody) (pick e (KindRead.Kind Kind.CPong) (KindRead.Refused codeWrong))))))
     go true b c d e = refl
     go false true c d e = refl
     go false false true d e = refl
     go false false false true e = refl
     go false false false false true = refl
     go false false false false false = tt
+
+-- a kind's code, read the way that the kind goes, is the code of that kind; a body packet has no code
+pub code-found : (k : Kind) → (k ≡ Kind.Body → ⊥) → codeKind (directionOf k) (codeOf k) ≡ KindRead.Kind k
+unfolding codeKind
+code-found Kind.CPing h = refl
+code-found Kind.CPong h = refl
+code-found Kind.Forward h = refl
+code-found Kind.Body h = absurd (h refl)
+code-found Kind.GetBody h = refl
+code-found Kind.SendHeaders h = refl
+code-found Kind.BodyChunk h = refl
+code-found Kind.End h = refl
 
 -- and so does the kind by the code as read
 code-read-goes : (d : Direction) (r : NumberRead) → Goes d (kindOfCode d r)
@@ -229,4 +261,4 @@ code-read-goes d (NumberRead.Number code next) = code-goes d code
 pub kind-direction : (d : Direction) (body : Bool) (s : List ℕ) (k : Kind) → kindAt d body s ≡ KindRead.Kind k → body ≡ false
     → directionOf k ≡ d
 kind-direction d body s k e f =
-    subst (Goes d) (sym (kind-is d body false s (byteAt s 4) f refl) ∙ e) (code-read-goes d (byteAt s 4))
+    subst (Goes d) (sym (kind-is d body false s (byteAt s codePlace) f refl) ∙ e) (code-read-goes d (byteAt s codePlace))

@@ -1,5 +1,5 @@
 pub mod Laws
 pub mod Fields
 pub mod Below
-pub mod Lists
+pub mod Listing
 pub mod Parsed

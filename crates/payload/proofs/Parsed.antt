@@ -8,7 +8,7 @@ use native.Mathlib.Omega.{arith}
 use lib.Dec.{leb, ltb, eqb}
 use lib.ListN.{length, getD, length-append}
 use Rattle.wire.specs.Pick.{pick}
-use Rattle.wire.specs.Refusal.{none, outOfRange, tooMany, leftOver, cutShort, stringWrong, sizeWrong}
+use Rattle.wire.specs.Refusal.{outOfRange, tooMany, leftOver, cutShort, stringWrong, sizeWrong}
 use Rattle.wire.specs.Field.{integerAt, booleanAt}
 use Rattle.wire.specs.declared.Direction.{Direction}
 use Rattle.wire.specs.declared.StringField.{StringField}
@@ -23,19 +23,25 @@ use Rattle.headers.specs.declared.HeadersRead.{HeadersRead}
 use Rattle.attributes.specs.Attributes.{attributesAt}
 use Rattle.attributes.specs.declared.AttributesRead.{AttributesRead}
 use Rattle.payload.specs.declared.field.FieldRead.{FieldRead}
-use Rattle.payload.specs.declared.listed.ListsRead.{ListsRead}
-use Rattle.payload.specs.declared.Forward.{Forward}
-use Rattle.payload.specs.declared.Head.{Head}
-use Rattle.payload.specs.declared.Packet.{Packet}
-use Rattle.payload.specs.declared.PacketRead.{PacketRead}
-use Rattle.payload.specs.Code.{codePlace}
-use Rattle.payload.specs.Sequence.{afterCode, stringAfter, booleanAfter, byteAfter, integerAfter, valueOf}
-use Rattle.payload.specs.Plain.{partFrom, finished, endOf, endAt, getOf, getAt, sizedAt, sizedOf, bodyAt, chunkOf, chunkBy, chunkAt}
-use Rattle.payload.specs.Listed.{headersAfter, listsOf, attributesBehind, behindHeaders, listsAt, forwardOf, forwardAt, sendHeadersOf, sendHeadersAt}
-use Rattle.payload.specs.Parse.{packetAt, kindIn, moveIn}
+use Rattle.payload.specs.declared.lists.ListsRead.{ListsRead}
+use Rattle.payload.specs.declared.packet.Forward.{Forward}
+use Rattle.payload.specs.declared.packet.SendHeaders.{SendHeaders}
+use Rattle.payload.specs.declared.packet.Packet.{Packet}
+use Rattle.payload.specs.declared.packet.PacketRead.{PacketRead}
+use Rattle.payload.specs.Code.{payloadPlace, afterCodePlace}
+use Rattle.payload.specs.Sequence.{afterCode, stringAfter, booleanAfter, byteAfter, anyIntegerAfter, integerAfter, valueOf}
+use Rattle.payload.specs.Packet.{partFrom, finished}
+use Rattle.payload.specs.End.{endOf, endAt}
+use Rattle.payload.specs.GetBody.{getOf, getAt}
+use Rattle.payload.specs.Body.{bodyStart, sizedAt, sizedOf, bodyAt}
+use Rattle.payload.specs.BodyChunk.{chunkStart, chunkOf, chunkBy, chunkAt}
+use Rattle.payload.specs.Lists.{headersAfter, listsOf, attributesBehind, behindHeaders, listsAt}
+use Rattle.payload.specs.Forward.{firstMethod, lastMethod, forwardOf, forwardAt}
+use Rattle.payload.specs.SendHeaders.{leastStatus, greatestStatus, sendHeadersOf, sendHeadersAt}
+use Rattle.payload.specs.Kinds.{packetAt, kindIn, moveIn}
 use Rattle.payload.proofs.Fields.{integer-most}
 use Rattle.payload.proofs.Below.{attributes-many, attributes-few}
-use Rattle.payload.proofs.Lists.{HeadersPlaces, headers-places}
+use Rattle.payload.proofs.Listing.{HeadersPlaces, headers-places}
 
 -- the places of lists that are read: two for each of `count` headers and for each attribute, of which there are at most 64
 abbrev ListsPlaces : ℕ → ℕ → ListsRead → Type 0
@@ -55,7 +61,7 @@ attributes-places s declared at = go (attributesAt s at maxAttributes [] .end) r
     go (AttributesRead.Attributes count next) e = by (eqb next (length s))
       where
         by : (t : Bool) → ListsPlaces 0 (length (attributesAt s at maxAttributes [] .places))
-            (pick t (ListsRead.Lists (declaredLength declared) count) (ListsRead.Refused leftOver))
+            (pick t (ListsRead.Lists (record { 0 = declaredLength declared }) count) (ListsRead.Refused leftOver))
         by true = (omega (arith, attributes-many s at count next e), attributes-few s at count next e)
         by false = tt
 
@@ -109,13 +115,13 @@ forward-by : (s : List ℕ) (P : PacketRead → List ℕ → Type 0)
     → P (forwardAt s .end) (forwardAt s .places)
 unfolding forwardAt
 forward-by s P h =
-    let method = byteAfter s 1 27 outOfRange afterCode in
+    let method = byteAfter s firstMethod lastMethod outOfRange afterCode in
     let protocol = stringAfter s StringField.Protocol method in
     let uri = stringAfter s StringField.ReqUri protocol in
     let addr = stringAfter s StringField.RemoteAddr uri in
     let host = stringAfter s StringField.RemoteHost addr in
     let name = stringAfter s StringField.ServerName host in
-    let port = integerAfter s 0 65535 none name in
+    let port = anyIntegerAfter s name in
     let ssl = booleanAfter s port in
     h method protocol uri addr host name port ssl (integerAfter s 0 maxHeaders tooMany ssl) (integer-most s 0 maxHeaders tooMany ssl)
 
@@ -128,7 +134,7 @@ forward-places s forward =
     forward-found method protocol uri addr host name port ssl headers (listsAt s headers .end) (listsAt s headers .places) forward few (lists-places s headers))
 
 -- the places of Send Headers: two for each header, of which there are at most 100
-pub record HeadPlaces (head : Head) (places : List ℕ) : Type 0 where
+pub record HeadPlaces (head : SendHeaders) (places : List ℕ) : Type 0 where
   pub many : length places ≡ head .headers + head .headers
   pub headers-most : head .headers ≤ 100
 
@@ -141,7 +147,7 @@ finished-packet size next found p = go (eqb next size)
     go false e = cc
 
 -- a Send Headers that is found has the places of its headers
-head-found : (size : ℕ) (status message headers : FieldRead) (r : HeadersRead) (places : List ℕ) (head : Head)
+head-found : (size : ℕ) (status message headers : FieldRead) (r : HeadersRead) (places : List ℕ) (head : SendHeaders)
     → valueOf headers ≤ 100 → HeadersPlaces (valueOf headers) (length places) r
     → sendHeadersOf size status message headers r ≡ PacketRead.Packet (Packet.SendHeaders head) → HeadPlaces head places
 head-found size status message headers (HeadersRead.Refused n) places head few h e =
@@ -161,12 +167,12 @@ head-by : (s : List ℕ) (P : PacketRead → List ℕ → Type 0)
     → P (sendHeadersAt s .end) (sendHeadersAt s .places)
 unfolding sendHeadersAt
 head-by s P h =
-    let status = integerAfter s 100 599 outOfRange afterCode in
+    let status = integerAfter s leastStatus greatestStatus outOfRange afterCode in
     let message = stringAfter s StringField.Message status in
     h status message (integerAfter s 0 maxHeaders tooMany message) (integer-most s 0 maxHeaders tooMany message)
 
 -- a Send Headers that was read has two places for each header
-pub send-headers-places : (s : List ℕ) (head : Head) → sendHeadersAt s .end ≡ PacketRead.Packet (Packet.SendHeaders head)
+pub send-headers-places : (s : List ℕ) (head : SendHeaders) → sendHeadersAt s .end ≡ PacketRead.Packet (Packet.SendHeaders head)
     → HeadPlaces head (sendHeadersAt s .places)
 send-headers-places s head =
     head-by s (λ r places. r ≡ PacketRead.Packet (Packet.SendHeaders head) → HeadPlaces head places)
@@ -190,7 +196,7 @@ finished-kind size next found = go (eqb next size)
 -- what is read as an End is one
 end-kind : (s : List ℕ) → KindIs Kind.End (endAt s)
 unfolding endAt
-end-kind s = go (booleanAt s 5)
+end-kind s = go (booleanAt s afterCodePlace)
   where
     go : (r : BooleanRead) → KindIs Kind.End (endOf (length s) r)
     go (BooleanRead.Refused n) = tt
@@ -199,21 +205,21 @@ end-kind s = go (booleanAt s 5)
 -- what is read as a Get Body Chunk is one
 get-kind : (s : List ℕ) → KindIs Kind.GetBody (getAt s)
 unfolding getAt
-get-kind s = go (integerAt s 5)
+get-kind s = go (integerAt s afterCodePlace)
   where
     go : (r : NumberRead) → KindIs Kind.GetBody (getOf (length s) r)
     go (NumberRead.Refused n) = tt
     go (NumberRead.Number asked next) = finished-kind (length s) next (Packet.GetBody asked)
 
 -- what is read as a body packet with a size is a body packet
-sized-kind : (size start len : ℕ) → KindIs Kind.Body (sizedAt size start len)
+sized-kind : (size len : ℕ) → KindIs Kind.Body (sizedAt size len)
 unfolding sizedAt
-sized-kind size start len = go (ltb size (start + len)) (ltb (start + len) size) (eqb len 0)
+sized-kind size len = go (ltb size (bodyStart + len)) (ltb (bodyStart + len) size) (eqb len 0)
   where
     go : (t u v : Bool) → KindIs Kind.Body
         (pick t (PacketRead.Refused cutShort)
         (pick u (PacketRead.Refused leftOver)
-        (pick v (PacketRead.Refused sizeWrong) (PacketRead.Packet (Packet.Body (partFrom start len))))))
+        (pick v (PacketRead.Refused sizeWrong) (PacketRead.Packet (Packet.Body (partFrom bodyStart len))))))
     go true u v = tt
     go false true v = tt
     go false false true = tt
@@ -222,29 +228,30 @@ sized-kind size start len = go (ltb size (start + len)) (ltb (start + len) size)
 -- what is read as a body packet is one
 body-kind : (s : List ℕ) → KindIs Kind.Body (bodyAt s)
 unfolding bodyAt
-body-kind s = go (eqb (length s) codePlace) (integerAt s codePlace)
+body-kind s = go (eqb (length s) payloadPlace) (integerAt s payloadPlace)
   where
     go : (t : Bool) (r : NumberRead) → KindIs Kind.Body
-        (pick t (PacketRead.Packet (Packet.Body (partFrom codePlace 0))) (sizedOf (length s) r))
+        (pick t (PacketRead.Packet (Packet.Body (partFrom payloadPlace 0))) (sizedOf (length s) r))
     go true r = refl
     go false (NumberRead.Refused n) = tt
-    go false (NumberRead.Number len start) = sized-kind (length s) start len
+    go false (NumberRead.Number len next) = sized-kind (length s) len
 
 -- what is read as a Send Body Chunk is one
 chunk-kind : (s : List ℕ) → KindIs Kind.BodyChunk (chunkAt s)
 unfolding chunkAt chunkOf
-chunk-kind s = go (integerAt s 5)
+chunk-kind s = go (integerAt s afterCodePlace)
   where
-    by : (start len : ℕ) (t u : Bool) → KindIs Kind.BodyChunk
-        (pick t (pick u (finished (length s) (start + len + 1) (Packet.BodyChunk (partFrom start len))) (PacketRead.Refused stringWrong))
+    by : (len : ℕ) (t u : Bool) → KindIs Kind.BodyChunk
+        (pick t
+        (pick u (finished (length s) (chunkStart + len + 1) (Packet.BodyChunk (partFrom chunkStart len))) (PacketRead.Refused stringWrong))
         (PacketRead.Refused cutShort))
-    by start len true true = finished-kind (length s) (start + len + 1) (Packet.BodyChunk (partFrom start len))
-    by start len true false = tt
-    by start len false u = tt
+    by len true true = finished-kind (length s) (chunkStart + len + 1) (Packet.BodyChunk (partFrom chunkStart len))
+    by len true false = tt
+    by len false u = tt
 
     go : (r : NumberRead) → KindIs Kind.BodyChunk (chunkBy s r)
     go (NumberRead.Refused n) = tt
-    go (NumberRead.Number len start) = by start len (leb (start + (len + 1)) (length s)) (eqb (getD s (start + len) 0) 0)
+    go (NumberRead.Number len next) = by len (leb (chunkStart + (len + 1)) (length s)) (eqb (getD s (chunkStart + len) 0) 0)
 
 -- what is read as a Forward is one
 forward-kind : (method protocol uri addr host name port ssl headers : FieldRead) (r : ListsRead)
@@ -259,8 +266,8 @@ head-kind size status message headers (HeadersRead.Headers declared next) = fini
 
 -- what is read as a kind is of that kind
 packet-kind : (kind : Kind) (s : List ℕ) → KindIs kind (packetAt kind s .end)
-packet-kind Kind.CPing s = finished-kind (length s) 5 Packet.CPing
-packet-kind Kind.CPong s = finished-kind (length s) 5 Packet.CPong
+packet-kind Kind.CPing s = finished-kind (length s) afterCodePlace Packet.CPing
+packet-kind Kind.CPong s = finished-kind (length s) afterCodePlace Packet.CPong
 packet-kind Kind.Forward s =
     forward-by s (λ r places. KindIs Kind.Forward r)
     (λ method protocol uri addr host name port ssl headers few.

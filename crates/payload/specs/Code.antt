@@ -1,5 +1,5 @@
 -- What kind a packet is: by its code, or a body packet where it is read as one.
--- Document 01, 'Server to container', 'Container to server' and rows 3, 4 and 5 of its refusals.
+-- Document 01, 'Server to container', 'Container to server' and rows 3, 4 and 5 of 'Refusal numbers'.
 -- Assumes nothing.
 use mathlib.Core.Bool.{Bool}
 use mathlib.Core.List.{List}
@@ -13,22 +13,49 @@ use Rattle.wire.specs.declared.read.NumberRead.{NumberRead}
 use Rattle.connection.specs.declared.Kind.{Kind}
 use Rattle.payload.specs.declared.KindRead.{KindRead}
 
--- where a packet's code is: behind the leading bytes and the length
+-- where a packet's payload is: behind the two leading bytes and the two bytes of its length
+abbrev pub payloadPlace : ℕ
+payloadPlace = 4
+
+-- where a packet's code is: it is the payload's first byte
 abbrev pub codePlace : ℕ
-codePlace = 4
+codePlace = payloadPlace
+
+-- where the first field behind the code is
+abbrev pub afterCodePlace : ℕ
+afterCodePlace = 5
+
+-- the code of a kind; a body packet has none, and 0, which is no kind's code, stands for that
+abbrev pub codeOf : Kind → ℕ
+codeOf Kind.CPing = 10
+codeOf Kind.CPong = 9
+codeOf Kind.Forward = 2
+codeOf Kind.Body = 0
+codeOf Kind.GetBody = 6
+codeOf Kind.SendHeaders = 4
+codeOf Kind.BodyChunk = 3
+codeOf Kind.End = 5
+
+-- Shutdown, which is not served
+abbrev pub shutdownCode : ℕ
+shutdownCode = 7
+
+-- Ping, which is not served
+abbrev pub pingCode : ℕ
+pingCode = 8
 
 -- the kind that has a code, in each direction; of the codes from the server, 7 and 8 are 5, and every other one is 4
 unfoldable pub codeKind : Direction → ℕ → KindRead
 codeKind Direction.ToContainer code =
-    pick (eqb code 2) (KindRead.Kind Kind.Forward)
-    (pick (eqb code 10) (KindRead.Kind Kind.CPing)
-    (pick (either (eqb code 7) (eqb code 8)) (KindRead.Refused codeNotServed) (KindRead.Refused codeWrong)))
+    pick (eqb code (codeOf Kind.Forward)) (KindRead.Kind Kind.Forward)
+    (pick (eqb code (codeOf Kind.CPing)) (KindRead.Kind Kind.CPing)
+    (pick (either (eqb code shutdownCode) (eqb code pingCode)) (KindRead.Refused codeNotServed) (KindRead.Refused codeWrong)))
 codeKind Direction.ToServer code =
-    pick (eqb code 3) (KindRead.Kind Kind.BodyChunk)
-    (pick (eqb code 4) (KindRead.Kind Kind.SendHeaders)
-    (pick (eqb code 5) (KindRead.Kind Kind.End)
-    (pick (eqb code 6) (KindRead.Kind Kind.GetBody)
-    (pick (eqb code 9) (KindRead.Kind Kind.CPong) (KindRead.Refused codeWrong)))))
+    pick (eqb code (codeOf Kind.BodyChunk)) (KindRead.Kind Kind.BodyChunk)
+    (pick (eqb code (codeOf Kind.SendHeaders)) (KindRead.Kind Kind.SendHeaders)
+    (pick (eqb code (codeOf Kind.End)) (KindRead.Kind Kind.End)
+    (pick (eqb code (codeOf Kind.GetBody)) (KindRead.Kind Kind.GetBody)
+    (pick (eqb code (codeOf Kind.CPong)) (KindRead.Kind Kind.CPong) (KindRead.Refused codeWrong)))))
 
 -- the kind, by the code as read: a payload without one is 3
 abbrev pub kindOfCode : Direction → NumberRead → KindRead

@@ -1,5 +1,12 @@
 pub mod Code
 pub mod Sequence
-pub mod Plain
-pub mod Listed
-pub mod Parse
+pub mod Packet
+pub mod Bare
+pub mod End
+pub mod GetBody
+pub mod Body
+pub mod BodyChunk
+pub mod Lists
+pub mod Forward
+pub mod SendHeaders
+pub mod Kinds

@@ -12,71 +12,88 @@ use Rattle.wire.specs.declared.read.BooleanRead.{BooleanRead}
 use Rattle.wire.specs.declared.read.StringRead.{StringRead}
 use Rattle.connection.specs.declared.Place.{Place}
 use Rattle.payload.specs.declared.field.FieldRead.{FieldRead}
-use Rattle.payload.specs.Code.{codePlace}
+use Rattle.payload.specs.Code.{codePlace, afterCodePlace}
 
 -- the code, which was judged before: the first field is behind it
 abbrev pub afterCode : FieldRead
-afterCode = FieldRead.Field codePlace 0 5
+afterCode = FieldRead.Field codePlace 0 afterCodePlace
 
 -- a field behind another
 abbrev pub behind : (ℕ → FieldRead) → FieldRead → FieldRead
 behind read (FieldRead.Refused n) = FieldRead.Refused n
 behind read (FieldRead.Field at value next) = read next
 
--- a string as a field
+-- a string as a field; it has no number, and 0 stands for that
 abbrev pub stringField : ℕ → StringRead → FieldRead
 stringField at (StringRead.Refused n) = FieldRead.Refused n
 stringField at (StringRead.Null next) = FieldRead.Field at 0 next
 stringField at (StringRead.Text start len next) = FieldRead.Field at 0 next
 
+-- the string at a place, as a field
 unfoldable pub stringFieldAt : List ℕ → StringField → ℕ → FieldRead
 stringFieldAt s field at = stringField at (stringAt s at (isOptional field))
 
+-- the string behind a field
 unfoldable pub stringAfter : List ℕ → StringField → FieldRead → FieldRead
 stringAfter s field = behind (stringFieldAt s field)
 
--- a boolean as a field: its number is 1 for true, 0 for false
+-- a boolean as a number: 1 for true, 0 for false
 abbrev pub booleanNumber : Bool → ℕ
 booleanNumber true = 1
 booleanNumber false = 0
 
+-- a boolean as a field
 abbrev pub booleanField : ℕ → BooleanRead → FieldRead
 booleanField at (BooleanRead.Refused n) = FieldRead.Refused n
 booleanField at (BooleanRead.Boolean value next) = FieldRead.Field at (booleanNumber value) next
 
+-- the boolean at a place, as a field
 unfoldable pub booleanFieldAt : List ℕ → ℕ → FieldRead
 booleanFieldAt s at = booleanField at (booleanAt s at)
 
+-- the boolean behind a field
 unfoldable pub booleanAfter : List ℕ → FieldRead → FieldRead
 booleanAfter s = behind (booleanFieldAt s)
 
--- a number as a field, from `low` to `high`
+-- a number as a field
+abbrev pub numberField : ℕ → NumberRead → FieldRead
+numberField at (NumberRead.Refused n) = FieldRead.Refused n
+numberField at (NumberRead.Number value next) = FieldRead.Field at value next
+
+-- the integer behind a field, which may be any
+unfoldable pub anyIntegerAfter : List ℕ → FieldRead → FieldRead
+anyIntegerAfter s = behind (λ at. numberField at (integerAt s at))
+
+-- a number as a field, from `low` to `high`, else it is refused with `fault`
 abbrev pub bounded : ℕ → ℕ → ℕ → ℕ → NumberRead → FieldRead
 bounded at low high fault (NumberRead.Refused n) = FieldRead.Refused n
 bounded at low high fault (NumberRead.Number value next) =
     pick (between low high value) (FieldRead.Field at value next) (FieldRead.Refused fault)
 
+-- the byte behind a field, from `low` to `high`
 unfoldable pub byteAfter : List ℕ → ℕ → ℕ → ℕ → FieldRead → FieldRead
 byteAfter s low high fault = behind (λ at. bounded at low high fault (byteAt s at))
 
+-- the integer behind a field, from `low` to `high`
 unfoldable pub integerAfter : List ℕ → ℕ → ℕ → ℕ → FieldRead → FieldRead
 integerAfter s low high fault = behind (λ at. bounded at low high fault (integerAt s at))
 
--- a field's place and its number; 0 for a refused one, of which nothing is told
+-- a field's place; 0 for a refused one, of which nothing is told
 abbrev pub placeOf : FieldRead → Place
 placeOf (FieldRead.Refused n) = record { 0 = 0 }
 placeOf (FieldRead.Field at value next) = record { 0 = at }
 
+-- a field's number; 0 for a refused one, of which nothing is told
 abbrev pub valueOf : FieldRead → ℕ
 valueOf (FieldRead.Refused n) = 0
 valueOf (FieldRead.Field at value next) = value
 
--- a field whose place is at most this
+-- a field whose place is at most this, or refused
 abbrev pub Within : ℕ → FieldRead → Type 0
 Within most (FieldRead.Refused n) = Unit
 Within most (FieldRead.Field at value next) = at ≤ most
 
--- a field whose number is at most this
+-- a field whose number is at most this, or refused
 abbrev pub Counts : ℕ → FieldRead → Type 0
 Counts most (FieldRead.Refused n) = Unit
 Counts most (FieldRead.Field at value next) = value ≤ most

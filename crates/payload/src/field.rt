@@ -1,6 +1,7 @@
 // The fixed fields of a packet, one after the other: each is read where the one before it ends, and a refusal stays.
 ghost use mathlib.Core.Path.{_≡_};
-ghost use Rattle.payload.specs.Sequence.{afterCode, bounded, stringFieldAt, stringAfter, booleanFieldAt, booleanAfter, byteAfter, integerAfter, placeOf, valueOf, Within};
+ghost use Rattle.connection.specs.Connection.{maxPacket};
+ghost use Rattle.payload.specs.Sequence.{afterCode, bounded, stringFieldAt, stringAfter, booleanFieldAt, booleanAfter, byteAfter, numberField, anyIntegerAfter, integerAfter, placeOf, valueOf, Within};
 use crate::AFTER_CODE;
 use crate::CODE_PLACE;
 use connection::Place;
@@ -93,6 +94,26 @@ pub fn byte_after(packet: &[u8], before: FieldRead, low: u16, high: u16, fault: 
     }
 }
 
+// The integer behind a field, which may be any.
+pub fn any_integer_after(packet: &[u8], before: FieldRead) -> FieldRead
+    ensures { λ r. ⌜ r ≡ anyIntegerAfter (now (packet .entry)) before ⌝ }
+{
+    match before {
+        FieldRead::Refused(n) => FieldRead::Refused(n),
+        FieldRead::Field { at, value, next } => number_field(next, read::integer(packet, next)),
+    }
+}
+
+// A number as read at a place, as a field.
+fn number_field(at: usize, number: NumberRead) -> FieldRead
+    ensures { λ r. ⌜ r ≡ numberField at number ⌝ }
+{
+    match number {
+        NumberRead::Refused(n) => FieldRead::Refused(n),
+        NumberRead::Number { value, next } => FieldRead::Field { at, value, next },
+    }
+}
+
 // The integer behind a field, which is from `low` to `high`, else it is refused with `fault`.
 pub fn integer_after(packet: &[u8], before: FieldRead, low: u16, high: u16, fault: u8) -> FieldRead
     ensures { λ r. ⌜ r ≡ integerAfter (now (packet .entry)) low high fault before ⌝ }
@@ -125,7 +146,7 @@ fn bounded(at: usize, number: NumberRead, low: u16, high: u16, fault: u8) -> Fie
 
 // A field's place, 0 for a refused one.
 pub fn place_of(field: FieldRead) -> Place
-    requires { ⌜ Within 65535 field ⌝ }
+    requires { ⌜ Within maxPacket field ⌝ }
     ensures { λ r. ⌜ r ≡ placeOf field ⌝ }
 {
     match field {

@@ -1,95 +1,71 @@
 // What a packet says, from its own bytes alone: no connection is looked at. An inner crate: the layers above call it; what it hands out,
-// `Packet`, goes on to the user of the library.
+// `Packet`, goes on to the user of the library. A file for each kind of packet, with a function `read`; here is what kind a packet is.
 ghost use mathlib.Core.Path.{_≡_};
-ghost use Rattle.wire.specs.Field.{byteAt};
-ghost use Rattle.payload.specs.Code.{codeKind, kindOfCode, kindAt};
-use connection::BodyLeft;
+ghost use Rattle.payload.specs.Code.{codeOf, codeKind, kindOfCode, kindAt};
 use connection::Kind;
-use connection::Place;
 use wire::Direction;
 use wire::read;
 use wire::read::NumberRead;
 use wire::refusal;
 
+pub mod bare;
+pub mod body;
+pub mod body_chunk;
+pub mod end;
 pub mod field;
-pub mod listed;
-pub mod plain;
+pub mod forward;
+pub mod get_body;
+pub mod lists;
+pub mod packet;
+pub mod send_headers;
 
-// The place of a packet's code, and the place behind it. A body packet has no code and begins with its size there.
-pub const CODE_PLACE: usize = 4;
+// The place of a packet's payload: behind the leading bytes and the length.
+pub const PAYLOAD_PLACE: usize = 4;
+
+// The place of a packet's code, which is the payload's first byte, and the place behind it. A body packet has no code.
+pub const CODE_PLACE: usize = PAYLOAD_PLACE;
 
 pub const AFTER_CODE: usize = 5;
 
 // The codes of the kinds of packet, and the two that a server may send and nobody serves.
-const FORWARD: u16 = 2;
+pub const FORWARD: u16 = 2;
 
-const BODY_CHUNK: u16 = 3;
+pub const BODY_CHUNK: u16 = 3;
 
-const SEND_HEADERS: u16 = 4;
+pub const SEND_HEADERS: u16 = 4;
 
-const END: u16 = 5;
+pub const END: u16 = 5;
 
-const GET_BODY: u16 = 6;
+pub const GET_BODY: u16 = 6;
 
-const SHUTDOWN: u16 = 7;
+pub const SHUTDOWN: u16 = 7;
 
-const PING: u16 = 8;
+pub const PING: u16 = 8;
 
-const CPONG: u16 = 9;
+pub const CPONG: u16 = 9;
 
-const CPING: u16 = 10;
-
-// A part of a packet: where it starts and how many bytes it has.
-pub struct Part {
-    pub start: Place,
-    pub len: u16,
-}
-
-// A Forward: its fixed numbers, the places of its fixed strings, how many headers and attributes it has, and the declared length of
-// the body, 0 where none is declared.
-pub struct Forward {
-    pub method: u16,
-    pub protocol: Place,
-    pub req_uri: Place,
-    pub remote_addr: Place,
-    pub remote_host: Place,
-    pub server_name: Place,
-    pub server_port: u16,
-    pub is_ssl: bool,
-    pub headers: u16,
-    pub attributes: u16,
-    pub declared: BodyLeft,
-}
-
-// Send Headers: the status, the message's place and how many headers it has.
-pub struct Head {
-    pub status: u16,
-    pub message: Place,
-    pub headers: u16,
-}
-
-// A packet, by its kind.
-pub enum Packet {
-    CPing,
-    CPong,
-    Forward(Forward),
-    Body(Part),
-    GetBody(u16),
-    SendHeaders(Head),
-    BodyChunk(Part),
-    End(bool),
-}
-
-// What reading a packet finds: refused, or the packet.
-pub enum PacketRead {
-    Refused(u8),
-    Packet(Packet),
-}
+pub const CPING: u16 = 10;
 
 // What kind a packet is: refused, or the kind.
 pub enum KindRead {
     Refused(u8),
     Kind(Kind),
+}
+
+// The code of a kind of packet; a body packet has none, and 0 stands for that.
+pub fn code_of(kind: Kind) -> u16
+    ensures { λ r. ⌜ r ≡ codeOf kind ⌝ }
+{
+    match kind {
+        Kind::CPing => CPING,
+        Kind::CPong => CPONG,
+        Kind::Forward => FORWARD,
+        Kind::Body => 0,
+        Kind::GetBody => GET_BODY,
+        Kind::SendHeaders => SEND_HEADERS,
+        Kind::BodyChunk => BODY_CHUNK,
+        Kind::End => END,
+    }
 }
 
 // The kind of a packet that goes to the container, by its code.

@@ -20,10 +20,10 @@ use Rattle.connection.specs.declared.Connection.{Connection}
 use Rattle.connection.specs.declared.Step.{Step}
 use Rattle.connection.proofs.Laws.{step-by}
 use Rattle.payload.specs.Code.{kindAt}
-use Rattle.payload.specs.Parse.{packetAt, moveIn}
+use Rattle.payload.specs.Kinds.{packetAt, moveIn}
 use Rattle.payload.specs.declared.KindRead.{KindRead}
-use Rattle.payload.specs.declared.Packet.{Packet}
-use Rattle.payload.specs.declared.PacketRead.{PacketRead}
+use Rattle.payload.specs.declared.packet.Packet.{Packet}
+use Rattle.payload.specs.declared.packet.PacketRead.{PacketRead}
 use Rattle.payload.proofs.Parsed.{parsed-kind, move-kind}
 use Rattle.reader.specs.declared.frame.FrameRead.{FrameRead}
 use Rattle.reader.specs.Frame.{frameAt}

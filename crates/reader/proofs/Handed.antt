@@ -36,16 +36,18 @@ use Rattle.attributes.specs.declared.AttributeRead.{AttributeRead}
 use Rattle.attributes.specs.declared.AttributesRead.{AttributesRead}
 use Rattle.connection.specs.declared.Connection.{Connection}
 use Rattle.connection.specs.declared.Kind.{Kind}
-use Rattle.payload.specs.Sequence.{afterCode, stringField, stringFieldAt, stringAfter, booleanField, booleanFieldAt, booleanAfter, bounded, byteAfter, integerAfter, placeOf, valueOf}
-use Rattle.payload.specs.Listed.{headersAfter, listsOf, attributesBehind, behindHeaders, listsAt, forwardOf, forwardAt, sendHeadersOf, sendHeadersAt}
-use Rattle.payload.specs.Parse.{packetAt, kindIn}
+use Rattle.payload.specs.Sequence.{afterCode, stringField, stringFieldAt, stringAfter, booleanField, booleanFieldAt, booleanAfter, numberField, anyIntegerAfter, bounded, byteAfter, integerAfter, placeOf, valueOf}
+use Rattle.payload.specs.Lists.{headersAfter, listsOf, attributesBehind, behindHeaders, listsAt}
+use Rattle.payload.specs.Forward.{forwardOf, forwardAt}
+use Rattle.payload.specs.SendHeaders.{sendHeadersOf, sendHeadersAt}
+use Rattle.payload.specs.Kinds.{packetAt, kindIn}
 use Rattle.payload.specs.declared.field.FieldRead.{FieldRead}
-use Rattle.payload.specs.declared.listed.ListsRead.{ListsRead}
-use Rattle.payload.specs.declared.Forward.{Forward}
-use Rattle.payload.specs.declared.Head.{Head}
-use Rattle.payload.specs.declared.Packet.{Packet}
-use Rattle.payload.specs.declared.PacketRead.{PacketRead}
-use Rattle.payload.proofs.Lists.{headers-places}
+use Rattle.payload.specs.declared.lists.ListsRead.{ListsRead}
+use Rattle.payload.specs.declared.packet.Forward.{Forward}
+use Rattle.payload.specs.declared.packet.SendHeaders.{SendHeaders}
+use Rattle.payload.specs.declared.packet.Packet.{Packet}
+use Rattle.payload.specs.declared.packet.PacketRead.{PacketRead}
+use Rattle.payload.proofs.Listing.{headers-places}
 use Rattle.payload.proofs.Parsed.{parsed-kind}
 use Rattle.reader.specs.Meaning.{Told, accepted, told}
 use Rattle.reader.specs.Reading.{parse, parseWhole, placesOf, readAsBody, reading}
@@ -314,6 +316,18 @@ integer-behind s low high fault (FieldRead.Refused n) end h = absurd h
 integer-behind s low high fault (FieldRead.Field from value at) end h =
     bounded-ends (length s) at 2 low high fault end (integerAt s at) (integer-inside s at (integerAt s at) refl) h
 
+-- so is an integer that may be any
+any-integer-behind : (s : List ℕ) (before : FieldRead) (end : ℕ) → FieldEnds end (anyIntegerAfter s before)
+    → FieldEnds (placeOf (anyIntegerAfter s before) .0) before × (end ≡ placeOf (anyIntegerAfter s before) .0 + 2)
+unfolding anyIntegerAfter
+any-integer-behind s (FieldRead.Refused n) end h = absurd h
+any-integer-behind s (FieldRead.Field from value at) end h = go (integerAt s at) (integer-inside s at (integerAt s at) refl) h
+  where
+    go : (r : NumberRead) → NumberInside (length s) at 2 r → FieldEnds end (numberField at r)
+        → (at ≡ placeOf (numberField at r) .0) × (end ≡ placeOf (numberField at r) .0 + 2)
+    go (NumberRead.Refused n) i q = absurd q
+    go (NumberRead.Number number next) i q = (refl, sym q ∙ i .0)
+
 -- so is a boolean
 boolean-behind : (s : List ℕ) (before : FieldRead) (end : ℕ) → FieldEnds end (booleanAfter s before)
     → FieldEnds (placeOf (booleanAfter s before) .0) before × (end ≡ placeOf (booleanAfter s before) .0 + 1)
@@ -360,7 +374,7 @@ attributes-last s declared at = go (attributesAt s at maxAttributes [] .end) (at
     go (AttributesRead.Attributes count end) h = by (eqb end (length s)) refl
       where
         by : (t : Bool) → eqb end (length s) ≡ t → LastOnes s at (attributesAt s at maxAttributes [] .places)
-            (pick t (ListsRead.Lists (declaredLength declared) count) (ListsRead.Refused leftOver))
+            (pick t (ListsRead.Lists (record { 0 = declaredLength declared }) count) (ListsRead.Refused leftOver))
         by true q = subst (AttributesHanded s at (attributesAt s at maxAttributes [] .places)) (eqb-true end (length s) q) h
         by false q = tt
 
@@ -452,7 +466,7 @@ module _ (s : List ℕ) where
 
   -- server_port, behind server_name
   abbrev portRead : FieldRead
-  portRead = integerAfter s 0 65535 none nameRead
+  portRead = anyIntegerAfter s nameRead
 
   -- is_ssl, behind server_port
   abbrev sslRead : FieldRead
@@ -470,7 +484,7 @@ module _ (s : List ℕ) where
   forward-found f places (ListsRead.Lists declared attributes) h e =
       let count = integer-behind s 0 maxHeaders tooMany sslRead (h .0) (h .1) in
       let ssl = boolean-behind s portRead (placeOf countRead .0) (count .0) in
-      let port = integer-behind s 0 65535 none nameRead (placeOf sslRead .0) (ssl .0) in
+      let port = any-integer-behind s nameRead (placeOf sslRead .0) (ssl .0) in
       let name = string-behind s StringField.ServerName hostRead (placeOf portRead .0) (port .0) in
       let host = string-behind s StringField.RemoteHost addrRead (placeOf nameRead .0) (name .0) in
       let addr = string-behind s StringField.RemoteAddr uriRead (placeOf hostRead .0) (host .0) in
@@ -497,14 +511,14 @@ module _ (s : List ℕ) where
 
 -- the places of a Send Headers: the message's, behind the status; the count, where the message ends; then those of its headers, behind the
 -- count, which end with the packet
-pub record HeadHanded (s : List ℕ) (h : Head) (places : List ℕ) : Type 0 where
+pub record HeadHanded (s : List ℕ) (h : SendHeaders) (places : List ℕ) : Type 0 where
   pub message-place : h .message .0 ≡ 7
   pub count : ℕ
   pub message-there : StringThere s StringField.Message (h .message .0) count
   pub headers-there : HeadersHanded Direction.ToServer s (count + 2) places (length s)
 
 -- two Send Headers that are found to be the same packet are the same
-head-same : (g h : Head) → PacketRead.Packet (Packet.SendHeaders g) ≡ PacketRead.Packet (Packet.SendHeaders h) → g ≡ h
+head-same : (g h : SendHeaders) → PacketRead.Packet (Packet.SendHeaders g) ≡ PacketRead.Packet (Packet.SendHeaders h) → g ≡ h
 head-same g h e = cc
 
 -- a Send Headers, by its fixed fields
@@ -522,12 +536,12 @@ module _ (s : List ℕ) where
   headCountRead = integerAfter s 0 maxHeaders tooMany messageRead
 
   -- a Send Headers that is found by how its headers end
-  head-found : (h : Head) (places : List ℕ) (r : HeadersRead) → HeadersBehind Direction.ToServer s headCountRead places r
+  head-found : (h : SendHeaders) (places : List ℕ) (r : HeadersRead) → HeadersBehind Direction.ToServer s headCountRead places r
       → sendHeadersOf (length s) statusRead messageRead headCountRead r ≡ PacketRead.Packet (Packet.SendHeaders h) → HeadHanded s h places
   head-found h places (HeadersRead.Refused n) b e = let z : _≡_ {A = ℕ} 0 1 = cc in absurd (omega arith)
   head-found h places (HeadersRead.Headers declared end) b e = go (eqb end (length s)) refl e
     where
-      found : Head
+      found : SendHeaders
       found = record {
         status = valueOf statusRead;
         message = placeOf messageRead;
@@ -541,7 +555,7 @@ module _ (s : List ℕ) where
           let count = integer-behind s 0 maxHeaders tooMany messageRead (b .0) (b .1) in
           let message = string-behind s StringField.Message statusRead (placeOf headCountRead .0) (count .0) in
           let status = integer-behind s 100 599 outOfRange afterCode (placeOf messageRead .0) (message .0) in
-          subst (λ (g : Head). HeadHanded s g places) (head-same found h f)
+          subst (λ (g : SendHeaders). HeadHanded s g places) (head-same found h f)
           (record {
             message-place = omega (arith, status .0, status .1);
             count = placeOf headCountRead .0;
@@ -553,7 +567,7 @@ module _ (s : List ℕ) where
       go false q f = let z : _≡_ {A = ℕ} 0 1 = cc in absurd (omega arith)
 
   -- every place of a Send Headers that was read is one where that very field was read
-  pub head-handed : (h : Head) → sendHeadersAt s .end ≡ PacketRead.Packet (Packet.SendHeaders h) → HeadHanded s h (sendHeadersAt s .places)
+  pub head-handed : (h : SendHeaders) → sendHeadersAt s .end ≡ PacketRead.Packet (Packet.SendHeaders h) → HeadHanded s h (sendHeadersAt s .places)
   unfolding sendHeadersAt
   head-handed h e =
       let headers = headersAfter Direction.ToServer s headCountRead in

@@ -10,7 +10,7 @@ use borrow.Author.Tests.{lt-ltb, leb-true}
 use lib.Dec.{leb, ltb, eqb}
 use lib.ListN.{length}
 use Rattle.wire.specs.Pick.{pick, all}
-use Rattle.wire.specs.Refusal.{none, outOfRange, tooMany, leftOver}
+use Rattle.wire.specs.Refusal.{outOfRange, tooMany, leftOver}
 use Rattle.wire.specs.declared.Direction.{Direction}
 use Rattle.wire.specs.declared.StringField.{StringField}
 use Rattle.wire.proofs.Tests.{both-first, both-second}
@@ -20,14 +20,16 @@ use Rattle.headers.specs.declared.HeadersRead.{HeadersRead}
 use Rattle.headers.proofs.Laws.{headers-within}
 use Rattle.attributes.proofs.Laws.{attributes-inside}
 use Rattle.connection.specs.declared.Kind.{Kind}
-use Rattle.payload.specs.Sequence.{afterCode, stringAfter, booleanAfter, byteAfter, integerAfter, placeOf}
-use Rattle.payload.specs.Listed.{headersAfter, attributesBehind, behindHeaders, listsAt, forwardOf, forwardAt, sendHeadersOf, sendHeadersAt}
-use Rattle.payload.specs.Parse.{packetAt, kindIn}
+use Rattle.payload.specs.Sequence.{afterCode, stringAfter, booleanAfter, byteAfter, anyIntegerAfter, integerAfter, placeOf}
+use Rattle.payload.specs.Lists.{headersAfter, attributesBehind, behindHeaders, listsAt}
+use Rattle.payload.specs.Forward.{forwardOf, forwardAt}
+use Rattle.payload.specs.SendHeaders.{sendHeadersOf, sendHeadersAt}
+use Rattle.payload.specs.Kinds.{packetAt, kindIn}
 use Rattle.payload.specs.declared.field.FieldRead.{FieldRead}
-use Rattle.payload.specs.declared.listed.ListsRead.{ListsRead}
-use Rattle.payload.specs.declared.Head.{Head}
-use Rattle.payload.specs.declared.Packet.{Packet}
-use Rattle.payload.specs.declared.PacketRead.{PacketRead}
+use Rattle.payload.specs.declared.lists.ListsRead.{ListsRead}
+use Rattle.payload.specs.declared.packet.SendHeaders.{SendHeaders}
+use Rattle.payload.specs.declared.packet.Packet.{Packet}
+use Rattle.payload.specs.declared.packet.PacketRead.{PacketRead}
 use Rattle.payload.proofs.Fields.{FieldInside, string-after-inside, integer-after-inside}
 use Rattle.payload.proofs.Laws.{body-inside, chunk-inside}
 use Rattle.payload.proofs.Parsed.{forward-places, send-headers-places, parsed-kind}
@@ -135,7 +137,7 @@ forward-in s =
     let addr = stringAfter s StringField.RemoteAddr uri in
     let host = stringAfter s StringField.RemoteHost addr in
     let name = stringAfter s StringField.ServerName host in
-    let port = integerAfter s 0 65535 none name in
+    let port = anyIntegerAfter s name in
     let ssl = booleanAfter s port in
     forward-strings s method protocol uri addr host name port ssl (integerAfter s 0 maxHeaders tooMany ssl)
     (string-after-inside s StringField.Protocol method) (string-after-inside s StringField.ReqUri protocol)
@@ -149,7 +151,7 @@ unfolding headersAfter all
 head-strings s status message (FieldRead.Refused n) h1 h = tt
 head-strings s status message (FieldRead.Field at value next) h1 h = go (headersAfter Direction.ToServer s (FieldRead.Field at value next) .end)
   where
-    by : (t : Bool) (head : Head) → AllBelow (length s) (head .message .0 ∷ [])
+    by : (t : Bool) (head : SendHeaders) → AllBelow (length s) (head .message .0 ∷ [])
         → StringsIn (length s) (pick t (PacketRead.Packet (Packet.SendHeaders head)) (PacketRead.Refused leftOver))
     by true head e = e
     by false head e = tt

@@ -20,10 +20,10 @@ use Rattle.connection.specs.declared.Kind.{Kind}
 use Rattle.connection.specs.declared.Connection.{Connection}
 use Rattle.connection.specs.declared.Step.{Step}
 use Rattle.payload.specs.Code.{kindAt}
-use Rattle.payload.specs.Parse.{packetAt, moveIn}
+use Rattle.payload.specs.Kinds.{packetAt, moveIn}
 use Rattle.payload.specs.declared.KindRead.{KindRead}
-use Rattle.payload.specs.declared.Packet.{Packet}
-use Rattle.payload.specs.declared.PacketRead.{PacketRead}
+use Rattle.payload.specs.declared.packet.Packet.{Packet}
+use Rattle.payload.specs.declared.packet.PacketRead.{PacketRead}
 use Rattle.reader.specs.declared.frame.FrameRead.{FrameRead}
 use Rattle.reader.specs.Frame.{frameAt}
 use Rattle.reader.specs.Meaning.{Meaning, needs, refused, accepted, placesNeeded}

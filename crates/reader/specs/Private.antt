@@ -7,7 +7,7 @@ use lib.ListN.{length, take}
 use Rattle.wire.specs.declared.Direction.{Direction}
 use Rattle.connection.specs.declared.Kind.{Kind}
 use Rattle.connection.specs.declared.Connection.{Connection}
-use Rattle.payload.specs.Parse.{packetAt}
+use Rattle.payload.specs.Kinds.{packetAt}
 use Rattle.reader.specs.Meaning.{Meaning, needs, refused, accepted, placesNeeded}
 use Rattle.reader.specs.Reading.{parseWhole, readAsBody, accepting, judging, withRoom, placesOf, filled}
 

@@ -4,7 +4,7 @@ ghost use mathlib.Core.Path.{_≡_};
 ghost use Prim.Native.Nat.{_≤_};
 ghost use lib.ListN.{length};
 ghost use Rattle.connection.specs.Connection.{maxPacket};
-ghost use Rattle.payload.specs.Parse.{moveIn};
+ghost use Rattle.payload.specs.Kinds.{moveIn};
 ghost use Rattle.reader.specs.Meaning.{meaning, told, placesNeeded};
 ghost use Rattle.reader.specs.Reading.{readAsBody, accepting, withRoom, reading, tableAfter};
 ghost use Rattle.reader.specs.Private.{needed, tableGiven, fieldsOf, tableFields, wholeOf, tableWhole};
@@ -13,10 +13,8 @@ use connection::Kind;
 use connection::Move;
 use connection::Step;
 use payload::KindRead;
-use payload::Packet;
-use payload::PacketRead;
-use payload::listed;
-use payload::plain;
+use payload::packet::Packet;
+use payload::packet::PacketRead;
 use places::MAX_PLACES;
 use places::fill;
 use places::first;
@@ -105,14 +103,14 @@ fn fields(connection: Connection, kind: Kind, packet: &[u8], table: &mut [u16]) 
 {
     let size = packet.len();
     match kind {
-        Kind::CPing => accept(connection, plain::bare(packet, Packet::CPing), size),
-        Kind::CPong => accept(connection, plain::bare(packet, Packet::CPong), size),
+        Kind::CPing => accept(connection, payload::bare::read(packet, Packet::CPing), size),
+        Kind::CPong => accept(connection, payload::bare::read(packet, Packet::CPong), size),
         Kind::Forward => forward(connection, packet, table),
-        Kind::Body => accept(connection, plain::body(packet), size),
-        Kind::GetBody => accept(connection, plain::get_body(packet), size),
+        Kind::Body => accept(connection, payload::body::read(packet), size),
+        Kind::GetBody => accept(connection, payload::get_body::read(packet), size),
         Kind::SendHeaders => send_headers(connection, packet, table),
-        Kind::BodyChunk => accept(connection, plain::body_chunk(packet), size),
-        Kind::End => accept(connection, plain::end(packet), size),
+        Kind::BodyChunk => accept(connection, payload::body_chunk::read(packet), size),
+        Kind::End => accept(connection, payload::end::read(packet), size),
     }
 }
 
@@ -123,7 +121,7 @@ fn forward(connection: Connection, packet: &[u8], table: &mut [u16]) -> Received
     ensures { λ r. ⌜ now (table .exit) ≡ tableFields connection Kind.Forward (now (packet .entry)) (now (table .entry)) ⌝ }
 {
     let mut places = [0u16; MAX_PLACES];
-    let found = listed::forward(packet, &mut places);
+    let found = payload::forward::read(packet, &mut places);
     fill_table(accept(connection, found, packet.len()), &places, table)
 }
 
@@ -134,7 +132,7 @@ fn send_headers(connection: Connection, packet: &[u8], table: &mut [u16]) -> Rec
     ensures { λ r. ⌜ now (table .exit) ≡ tableFields connection Kind.SendHeaders (now (packet .entry)) (now (table .entry)) ⌝ }
 {
     let mut places = [0u16; MAX_PLACES];
-    let found = listed::send_headers(packet, &mut places);
+    let found = payload::send_headers::read(packet, &mut places);
     fill_table(accept(connection, found, packet.len()), &places, table)
 }
 

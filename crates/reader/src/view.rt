@@ -13,7 +13,7 @@ use names::Name;
 use names::NameList;
 use names::header;
 use names::table;
-use payload::Part;
+use payload::packet::Part;
 use wire::Direction;
 use wire::has_room;
 use wire::part_of;

@@ -2,8 +2,8 @@
 use cases::put;
 use cases::text;
 use connection::Connection;
-use payload::Forward;
-use payload::Packet;
+use payload::packet::Forward;
+use payload::packet::Packet;
 use reader::Received;
 
 // The most fields of a packet.

@@ -10,8 +10,8 @@ use Rattle.reader.proofs.fields.Tie as tie
 enum-told : tie.Need-enum-told
 enum-told c = search needs
 
-bare-requires : tie.Need-bare-requires
-bare-requires c κs = search needs
+read-requires : tie.Need-read-requires
+read-requires c κs = search needs
 
 accept-requires : tie.Need-accept-requires
 accept-requires c κs = search needs
@@ -19,8 +19,8 @@ accept-requires c κs = search needs
 enum-told-2 : tie.Need-enum-told-2
 enum-told-2 c = search needs
 
-bare-requires-2 : tie.Need-bare-requires-2
-bare-requires-2 c κs = search needs
+read-requires-2 : tie.Need-read-requires-2
+read-requires-2 c κs = search needs
 
 accept-requires-2 : tie.Need-accept-requires-2
 accept-requires-2 c κs = search needs
@@ -34,8 +34,8 @@ forward-requires c κs = search needs
 enum-told-4 : tie.Need-enum-told-4
 enum-told-4 c = search needs
 
-body-requires : tie.Need-body-requires
-body-requires c κs = search needs
+read-requires-3 : tie.Need-read-requires-3
+read-requires-3 c κs = search needs
 
 accept-requires-3 : tie.Need-accept-requires-3
 accept-requires-3 c κs = search needs
@@ -43,8 +43,8 @@ accept-requires-3 c κs = search needs
 enum-told-5 : tie.Need-enum-told-5
 enum-told-5 c = search needs
 
-get-body-requires : tie.Need-get-body-requires
-get-body-requires c κs = search needs
+read-requires-4 : tie.Need-read-requires-4
+read-requires-4 c κs = search needs
 
 accept-requires-4 : tie.Need-accept-requires-4
 accept-requires-4 c κs = search needs
@@ -58,8 +58,8 @@ send-headers-requires c κs = search needs
 enum-told-7 : tie.Need-enum-told-7
 enum-told-7 c = search needs
 
-body-chunk-requires : tie.Need-body-chunk-requires
-body-chunk-requires c κs = search needs
+read-requires-5 : tie.Need-read-requires-5
+read-requires-5 c κs = search needs
 
 accept-requires-5 : tie.Need-accept-requires-5
 accept-requires-5 c κs = search needs
@@ -67,8 +67,8 @@ accept-requires-5 c κs = search needs
 enum-told-8 : tie.Need-enum-told-8
 enum-told-8 c = search needs
 
-end-requires : tie.Need-end-requires
-end-requires c κs = search needs
+read-requires-6 : tie.Need-read-requires-6
+read-requires-6 c κs = search needs
 
 accept-requires-6 : tie.Need-accept-requires-6
 accept-requires-6 c κs = search needs
@@ -76,12 +76,12 @@ accept-requires-6 c κs = search needs
 returns : tie.Need-returns
 returns c =
     let a = c .before .before .before .before .before .before .args in
-    plain-is (a .connection) (a .kind) Kind.CPing (a .packet .now) (a .table .now) _ _ _ (c .before .before .enum-told .given .1) refl (c .before .bare .ensures) (c .accept .ensures)
+    plain-is (a .connection) (a .kind) Kind.CPing (a .packet .now) (a .table .now) _ _ _ (c .before .before .enum-told .given .1) refl (c .before .read .ensures) (c .accept .ensures)
 
 returns-2 : tie.Need-returns-2
 returns-2 c =
     let a = c .before .before .before .before .before .before .args in
-    plain-is (a .connection) (a .kind) Kind.CPong (a .packet .now) (a .table .now) _ _ _ (c .before .before .enum-told2 .given .1) refl (c .before .bare2 .ensures) (c .accept2 .ensures)
+    plain-is (a .connection) (a .kind) Kind.CPong (a .packet .now) (a .table .now) _ _ _ (c .before .before .enum-told2 .given .1) refl (c .before .read2 .ensures) (c .accept2 .ensures)
 
 same-length : tie.Need-same-length
 same-length c = search needs
@@ -92,12 +92,12 @@ returns-3 c = rw (c .before .before .before .before .enum-told3 .given .1) (c .b
 returns-4 : tie.Need-returns-4
 returns-4 c =
     let a = c .before .before .before .before .before .before .args in
-    plain-is (a .connection) (a .kind) Kind.Body (a .packet .now) (a .table .now) _ _ _ (c .before .before .enum-told4 .given .1) refl (c .before .body .ensures) (c .accept3 .ensures)
+    plain-is (a .connection) (a .kind) Kind.Body (a .packet .now) (a .table .now) _ _ _ (c .before .before .enum-told4 .given .1) refl (c .before .read3 .ensures) (c .accept3 .ensures)
 
 returns-5 : tie.Need-returns-5
 returns-5 c =
     let a = c .before .before .before .before .before .before .args in
-    plain-is (a .connection) (a .kind) Kind.GetBody (a .packet .now) (a .table .now) _ _ _ (c .before .before .enum-told5 .given .1) refl (c .before .get-body .ensures) (c .accept4 .ensures)
+    plain-is (a .connection) (a .kind) Kind.GetBody (a .packet .now) (a .table .now) _ _ _ (c .before .before .enum-told5 .given .1) refl (c .before .read4 .ensures) (c .accept4 .ensures)
 
 same-length-2 : tie.Need-same-length-2
 same-length-2 c = search needs
@@ -108,38 +108,38 @@ returns-6 c = rw (c .before .before .before .before .enum-told6 .given .1) (c .b
 returns-7 : tie.Need-returns-7
 returns-7 c =
     let a = c .before .before .before .before .before .before .args in
-    plain-is (a .connection) (a .kind) Kind.BodyChunk (a .packet .now) (a .table .now) _ _ _ (c .before .before .enum-told7 .given .1) refl (c .before .body-chunk .ensures) (c .accept5 .ensures)
+    plain-is (a .connection) (a .kind) Kind.BodyChunk (a .packet .now) (a .table .now) _ _ _ (c .before .before .enum-told7 .given .1) refl (c .before .read5 .ensures) (c .accept5 .ensures)
 
 returns-8 : tie.Need-returns-8
 returns-8 c =
     let a = c .before .before .before .before .before .before .args in
-    plain-is (a .connection) (a .kind) Kind.End (a .packet .now) (a .table .now) _ _ _ (c .before .before .enum-told8 .given .1) refl (c .before .end .ensures) (c .accept6 .ensures)
+    plain-is (a .connection) (a .kind) Kind.End (a .packet .now) (a .table .now) _ _ _ (c .before .before .enum-told8 .given .1) refl (c .before .read6 .ensures) (c .accept6 .ensures)
 
 pub fields-spec : {M : Type 1} → statement M
 fields-spec =
     tie.close
     (tie.spec
     enum-told
-    bare-requires
+    read-requires
     accept-requires
     enum-told-2
-    bare-requires-2
+    read-requires-2
     accept-requires-2
     enum-told-3
     forward-requires
     enum-told-4
-    body-requires
+    read-requires-3
     accept-requires-3
     enum-told-5
-    get-body-requires
+    read-requires-4
     accept-requires-4
     enum-told-6
     send-headers-requires
     enum-told-7
-    body-chunk-requires
+    read-requires-5
     accept-requires-5
     enum-told-8
-    end-requires
+    read-requires-6
     accept-requires-6
     returns
     returns-2

@@ -1,7 +1,7 @@
 -- `reader::move_of` meets its contract, packet by packet.
 -- Assumes nothing.
 use mathlib.Core.Path.{sym, ap}
-use Rattle.payload.specs.Parse.{moveIn}
+use Rattle.payload.specs.Kinds.{moveIn}
 use borrow.Author.Needs.{needs}
 use Rattle.reader.proofs.move_of.Statement.{statement}
 use Rattle.reader.proofs.move_of.Tie as tie

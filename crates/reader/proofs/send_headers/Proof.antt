@@ -6,11 +6,11 @@ use borrow.Author.Needs.{needs}
 use Rattle.reader.proofs.send_headers.Statement.{statement}
 use Rattle.reader.proofs.send_headers.Tie as tie
 
-slice-aggregate-send-headers : tie.Need-slice-aggregate-send-headers
-slice-aggregate-send-headers c = search needs
+slice-aggregate-read : tie.Need-slice-aggregate-read
+slice-aggregate-read c = search needs
 
-send-headers-requires : tie.Need-send-headers-requires
-send-headers-requires c κs = search needs
+read-requires : tie.Need-read-requires
+read-requires c κs = search needs
 
 accept-requires : tie.Need-accept-requires
 accept-requires c κs = search needs
@@ -28,14 +28,14 @@ returns : tie.Need-returns
 returns c =
     let a = c .before .before .before .before .before .before .before .before .before .before .before .args in
     listed-is (a .connection) Kind.SendHeaders (a .packet .now) _ (a .table .now) _ _ _ _ _
-    (c .before .before .before .before .before .before .before .send-headers .ensures .0) (c .before .before .before .before .before .before .before .send-headers .ensures .1) (c .before .before .before .before .before .accept .ensures) (c .before .before .fill-table .ensures)
+    (c .before .before .before .before .before .before .before .read .ensures .0) (c .before .before .before .before .before .before .before .read .ensures .1) (c .before .before .before .before .before .accept .ensures) (c .before .before .fill-table .ensures)
 
 pub send-headers-spec : {M : Type 1} → statement M
 send-headers-spec =
     tie.close
     (tie.spec
-    slice-aggregate-send-headers
-    send-headers-requires
+    slice-aggregate-read
+    read-requires
     accept-requires
     slice-aggregate-fill-table
     fill-table-requires

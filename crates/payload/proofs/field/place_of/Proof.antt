@@ -1,9 +1,10 @@
--- `field::place_of` meets its contract: the place is at most 65535, so it is kept whole.
+-- `field::place_of` meets its contract: the place is at most 8192, so it is kept whole.
 -- Assumes nothing.
 use borrow.Author.Needs.{needs}
 use mathlib.Core.Path.{sym, ap, subst}
 use Prim.Native.Nat.{_≤_}
 use native.Mathlib.Omega.{arith}
+use Rattle.connection.specs.Connection.{maxPacket}
 use Rattle.payload.specs.Sequence.{placeOf, Within}
 use Rattle.payload.proofs.field.place_of.Statement.{statement}
 use Rattle.payload.proofs.field.place_of.Tie as tie
@@ -16,7 +17,7 @@ enum-known-field-2 c = search needs
 
 cast-t7 : tie.Need-cast-t7
 cast-t7 c =
-    let h : c .before .field2 .given .0 .0 ≤ 65535 = subst (Within 65535) (c .before .field2 .given .1) (c .before .before .before .pre) in
+    let h : c .before .field2 .given .0 .0 ≤ maxPacket = subst (Within maxPacket) (c .before .field2 .given .1) (c .before .before .before .pre) in
     omega arith
 
 returns : tie.Need-returns

@@ -1,0 +1,53 @@
+-- `body::read` meets its contract: by whether it has a payload, and by what its size reads as.
+-- Assumes nothing.
+use borrow.Author.Tests.{eq-eqb, ne-eqb}
+use borrow.Author.Needs.{needs}
+use mathlib.Core.Path.{refl, sym, _∙_}
+use mathlib.Core.Bool.{true, false}
+use Rattle.payload.proofs.Laws.{body-is}
+use Rattle.payload.proofs.body.read.Statement.{statement}
+use Rattle.payload.proofs.body.read.Tie as tie
+
+cast-t7 : tie.Need-cast-t7
+cast-t7 c = search needs
+
+returns : tie.Need-returns
+returns c = sym (body-is _ true _ (eq-eqb _ _ (c .if1 .taken)) refl)
+
+integer-requires : tie.Need-integer-requires
+integer-requires c κs = search needs
+
+enum-known-n : tie.Need-enum-known-n
+enum-known-n c = search needs
+
+enum-known-value : tie.Need-enum-known-value
+enum-known-value c = search needs
+
+sized-requires : tie.Need-sized-requires
+sized-requires c κs = search needs
+
+returns-2 : tie.Need-returns-2
+returns-2 c =
+    sym
+    (body-is _ false _ (ne-eqb _ _ (c .before .before .before .before .if1 .left))
+    (sym (c .before .before .before .integer .ensures) ∙ c .before .n .given .1))
+
+returns-3 : tie.Need-returns-3
+returns-3 c =
+    c .sized .ensures
+    ∙ sym
+    (body-is _ false _ (ne-eqb _ _ (c .before .before .before .before .before .if1 .left))
+    (sym (c .before .before .before .before .integer .ensures) ∙ c .before .before .value .given .1))
+
+pub read-spec : {M : Type 1} → statement M
+read-spec =
+    tie.close
+    (tie.spec
+    cast-t7
+    returns
+    integer-requires
+    enum-known-n
+    enum-known-value
+    sized-requires
+    returns-2
+    returns-3)

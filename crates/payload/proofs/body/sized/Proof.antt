@@ -1,0 +1,45 @@
+-- `body::sized` meets its contract, by its three tests.
+-- Assumes nothing.
+use borrow.Author.Tests.{lt-ltb, le-ltb, eq-eqb, ne-eqb}
+use borrow.Author.Needs.{needs}
+use mathlib.Core.Path.{refl}
+use mathlib.Core.Bool.{true, false}
+use Prim.Native.Nat.{_+_}
+use lib.Dec.{ltb, eqb}
+use Rattle.payload.specs.Body.{bodyStart}
+use Rattle.payload.proofs.Laws.{sized-by}
+use Rattle.payload.proofs.body.sized.Statement.{statement}
+use Rattle.payload.proofs.body.sized.Tie as tie
+
+cast-end : tie.Need-cast-end
+cast-end c = search needs
+
+add-end : tie.Need-add-end
+add-end c = search needs
+
+returns : tie.Need-returns
+returns c =
+    let a = c .before .args in
+    sized-by (a .size) (a .len) true (ltb (bodyStart + a .len) (a .size)) (eqb (a .len) 0)
+    (lt-ltb _ _ (c .if1 .taken)) refl refl
+
+returns-2 : tie.Need-returns-2
+returns-2 c =
+    let a = c .before .before .args in
+    sized-by (a .size) (a .len) false true (eqb (a .len) 0)
+    (le-ltb _ _ (c .before .if1 .left)) (lt-ltb _ _ (c .if2 .taken)) refl
+
+returns-3 : tie.Need-returns-3
+returns-3 c =
+    let a = c .before .before .before .args in
+    sized-by (a .size) (a .len) false false true
+    (le-ltb _ _ (c .before .before .if1 .left)) (le-ltb _ _ (c .before .if2 .left)) (eq-eqb _ _ (c .if3 .taken))
+
+returns-4 : tie.Need-returns-4
+returns-4 c =
+    let a = c .before .before .before .args in
+    sized-by (a .size) (a .len) false false false
+    (le-ltb _ _ (c .before .before .if1 .left)) (le-ltb _ _ (c .before .if2 .left)) (ne-eqb _ _ (c .if3 .left))
+
+pub sized-spec : {M : Type 1} → statement M
+sized-spec = tie.close (tie.spec cast-end add-end returns returns-2 returns-3 returns-4)

@@ -1,0 +1,38 @@
+-- A body packet.
+-- Document 01, 'Server to container', Body packet, and in 'Refusal numbers' what a body packet's size is held against.
+-- Assumes nothing.
+use mathlib.Core.List.{List}
+use Prim.Native.Nat.{ℕ, _+_}
+use lib.Dec.{ltb, eqb}
+use lib.ListN.{length}
+use Rattle.wire.specs.Pick.{pick}
+use Rattle.wire.specs.Refusal.{cutShort, leftOver, sizeWrong}
+use Rattle.wire.specs.Field.{integerAt}
+use Rattle.wire.specs.declared.read.NumberRead.{NumberRead}
+use Rattle.payload.specs.declared.packet.Packet.{Packet}
+use Rattle.payload.specs.declared.packet.PacketRead.{PacketRead}
+use Rattle.payload.specs.Code.{payloadPlace}
+use Rattle.payload.specs.Packet.{partFrom}
+
+-- where a body's bytes start: behind the size, which is the payload's first two bytes
+abbrev pub bodyStart : ℕ
+bodyStart = 6
+
+-- a body packet of `size` bytes in all that tells its own size: more than follows is 3, less is 12; none is 14, because an empty body
+-- packet has no size
+unfoldable pub sizedAt : ℕ → ℕ → PacketRead
+sizedAt size len =
+    pick (ltb size (bodyStart + len)) (PacketRead.Refused cutShort)
+    (pick (ltb (bodyStart + len) size) (PacketRead.Refused leftOver)
+    (pick (eqb len 0) (PacketRead.Refused sizeWrong) (PacketRead.Packet (Packet.Body (partFrom bodyStart len)))))
+
+-- a body packet of `size` bytes in all, by what its own size reads as
+abbrev pub sizedOf : ℕ → NumberRead → PacketRead
+sizedOf size (NumberRead.Refused n) = PacketRead.Refused n
+sizedOf size (NumberRead.Number len next) = sizedAt size len
+
+-- a body packet: empty where it has no payload, else a size and so many bytes
+unfoldable pub bodyAt : List ℕ → PacketRead
+bodyAt s =
+    pick (eqb (length s) payloadPlace) (PacketRead.Packet (Packet.Body (partFrom payloadPlace 0)))
+    (sizedOf (length s) (integerAt s payloadPlace))

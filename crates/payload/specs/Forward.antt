@@ -1,0 +1,60 @@
+-- Forward Request.
+-- Document 01, 'Server to container', Forward Request, and rows 7 and 11 of 'Refusal numbers'.
+-- Assumes nothing.
+use mathlib.Core.Bool.{true}
+use mathlib.Core.List.{List}
+use Prim.Native.Nat.{ℕ}
+use lib.Dec.{eqb}
+use Rattle.wire.specs.Refusal.{outOfRange, tooMany}
+use Rattle.wire.specs.declared.StringField.{StringField}
+use Rattle.places.specs.Entries.{Entries, ending, maxHeaders}
+use Rattle.payload.specs.declared.field.FieldRead.{FieldRead}
+use Rattle.payload.specs.declared.lists.ListsRead.{ListsRead}
+use Rattle.payload.specs.declared.packet.Packet.{Packet}
+use Rattle.payload.specs.declared.packet.PacketRead.{PacketRead}
+use Rattle.payload.specs.Sequence.{afterCode, stringAfter, booleanNumber, booleanAfter, byteAfter, anyIntegerAfter, integerAfter, placeOf, valueOf}
+use Rattle.payload.specs.Lists.{listsAt}
+
+-- the first method, OPTIONS
+abbrev pub firstMethod : ℕ
+firstMethod = 1
+
+-- the last method, MKACTIVITY
+abbrev pub lastMethod : ℕ
+lastMethod = 27
+
+-- a Forward, by its fixed fields and how its lists end
+abbrev pub forwardOf : FieldRead → FieldRead → FieldRead → FieldRead → FieldRead → FieldRead → FieldRead → FieldRead → FieldRead
+    → ListsRead → PacketRead
+forwardOf method protocol uri addr host name port ssl headers (ListsRead.Refused n) = PacketRead.Refused n
+forwardOf method protocol uri addr host name port ssl headers (ListsRead.Lists declared attributes) =
+    PacketRead.Packet
+    (Packet.Forward
+    (record {
+      method = valueOf method;
+      protocol = placeOf protocol;
+      «req_uri» = placeOf uri;
+      «remote_addr» = placeOf addr;
+      «remote_host» = placeOf host;
+      «server_name» = placeOf name;
+      «server_port» = valueOf port;
+      «is_ssl» = eqb (valueOf ssl) (booleanNumber true);
+      headers = valueOf headers;
+      attributes = attributes;
+      declared = declared;
+    }))
+
+-- Forward: method (1 to 27), protocol, req_uri, remote_addr, remote_host, server_name, server_port (any integer), is_ssl,
+-- num_headers (at most 100, else 11), headers, attributes
+unfoldable pub forwardAt : List ℕ → Entries PacketRead
+forwardAt s =
+    let method = byteAfter s firstMethod lastMethod outOfRange afterCode in
+    let protocol = stringAfter s StringField.Protocol method in
+    let uri = stringAfter s StringField.ReqUri protocol in
+    let addr = stringAfter s StringField.RemoteAddr uri in
+    let host = stringAfter s StringField.RemoteHost addr in
+    let name = stringAfter s StringField.ServerName host in
+    let port = anyIntegerAfter s name in
+    let ssl = booleanAfter s port in
+    let headers = integerAfter s 0 maxHeaders tooMany ssl in
+    ending (forwardOf method protocol uri addr host name port ssl headers) (listsAt s headers)

@@ -1,0 +1,50 @@
+-- What a packet of a kind says, from its bytes alone, with the places that it has for the table; and what a packet is for the cycle.
+-- Document 01, 'Server to container', 'Container to server', and 'The cycle'.
+-- Assumes nothing.
+use mathlib.Core.List.{List}
+use Prim.Native.Nat.{ℕ}
+use Rattle.places.specs.Entries.{Entries, ended}
+use Rattle.connection.specs.declared.Kind.{Kind}
+use Rattle.connection.specs.declared.Move.{Move}
+use Rattle.payload.specs.declared.packet.Packet.{Packet}
+use Rattle.payload.specs.declared.packet.PacketRead.{PacketRead}
+use Rattle.payload.specs.Bare.{bareAt}
+use Rattle.payload.specs.End.{endAt}
+use Rattle.payload.specs.GetBody.{getAt}
+use Rattle.payload.specs.Body.{bodyAt}
+use Rattle.payload.specs.BodyChunk.{chunkAt}
+use Rattle.payload.specs.Forward.{forwardAt}
+use Rattle.payload.specs.SendHeaders.{sendHeadersAt}
+
+-- a packet, by its kind; those without headers have no places
+abbrev pub packetAt : Kind → List ℕ → Entries PacketRead
+packetAt Kind.CPing s = ended (bareAt s Packet.CPing)
+packetAt Kind.CPong s = ended (bareAt s Packet.CPong)
+packetAt Kind.Forward s = forwardAt s
+packetAt Kind.Body s = ended (bodyAt s)
+packetAt Kind.GetBody s = ended (getAt s)
+packetAt Kind.SendHeaders s = sendHeadersAt s
+packetAt Kind.BodyChunk s = ended (chunkAt s)
+packetAt Kind.End s = ended (endAt s)
+
+-- a packet's kind
+abbrev pub kindIn : Packet → Kind
+kindIn Packet.CPing = Kind.CPing
+kindIn Packet.CPong = Kind.CPong
+kindIn (Packet.Forward forward) = Kind.Forward
+kindIn (Packet.Body part) = Kind.Body
+kindIn (Packet.GetBody asked) = Kind.GetBody
+kindIn (Packet.SendHeaders head) = Kind.SendHeaders
+kindIn (Packet.BodyChunk part) = Kind.BodyChunk
+kindIn (Packet.End reuse) = Kind.End
+
+-- what a packet is for the cycle: of a Forward what it declares, of a part its size
+abbrev pub moveIn : Packet → Move
+moveIn Packet.CPing = Move.CPing
+moveIn Packet.CPong = Move.CPong
+moveIn (Packet.Forward forward) = Move.Forward (forward .declared)
+moveIn (Packet.Body part) = Move.Body (part .len)
+moveIn (Packet.GetBody asked) = Move.GetBody asked
+moveIn (Packet.SendHeaders head) = Move.SendHeaders
+moveIn (Packet.BodyChunk part) = Move.BodyChunk (part .len)
+moveIn (Packet.End reuse) = Move.End reuse

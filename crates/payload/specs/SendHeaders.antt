@@ -1,0 +1,45 @@
+-- Send Headers.
+-- Document 01, 'Container to server', Send Headers, and rows 7 and 11 of 'Refusal numbers'.
+-- Assumes nothing.
+use mathlib.Core.List.{List}
+use Prim.Native.Nat.{ℕ}
+use lib.ListN.{length}
+use Rattle.wire.specs.Refusal.{outOfRange, tooMany}
+use Rattle.wire.specs.declared.Direction.{Direction}
+use Rattle.wire.specs.declared.StringField.{StringField}
+use Rattle.places.specs.Entries.{Entries, ending, maxHeaders}
+use Rattle.headers.specs.declared.HeadersRead.{HeadersRead}
+use Rattle.payload.specs.declared.field.FieldRead.{FieldRead}
+use Rattle.payload.specs.declared.packet.Packet.{Packet}
+use Rattle.payload.specs.declared.packet.PacketRead.{PacketRead}
+use Rattle.payload.specs.Sequence.{afterCode, stringAfter, integerAfter, placeOf, valueOf}
+use Rattle.payload.specs.Packet.{finished}
+use Rattle.payload.specs.Lists.{headersAfter}
+
+-- the least status
+abbrev pub leastStatus : ℕ
+leastStatus = 100
+
+-- the greatest status
+abbrev pub greatestStatus : ℕ
+greatestStatus = 599
+
+-- Send Headers, by its fixed fields and how its headers end
+abbrev pub sendHeadersOf : ℕ → FieldRead → FieldRead → FieldRead → HeadersRead → PacketRead
+sendHeadersOf size status message headers (HeadersRead.Refused n) = PacketRead.Refused n
+sendHeadersOf size status message headers (HeadersRead.Headers declared next) =
+    finished size next
+    (Packet.SendHeaders
+    (record {
+      status = valueOf status;
+      message = placeOf message;
+      headers = valueOf headers;
+    }))
+
+-- Send Headers: status (100 to 599), message, num_headers (at most 100, else 11), headers
+unfoldable pub sendHeadersAt : List ℕ → Entries PacketRead
+sendHeadersAt s =
+    let status = integerAfter s leastStatus greatestStatus outOfRange afterCode in
+    let message = stringAfter s StringField.Message status in
+    let headers = integerAfter s 0 maxHeaders tooMany message in
+    ending (sendHeadersOf (length s) status message headers) (headersAfter Direction.ToServer s headers)

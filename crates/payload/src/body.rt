@@ -1,0 +1,50 @@
+// A body packet: without payload it is empty, else it holds a size and so many bytes.
+ghost use mathlib.Core.Path.{_≡_};
+ghost use Rattle.payload.specs.Body.{bodyAt, sizedAt};
+use crate::PAYLOAD_PLACE;
+use crate::packet::Packet;
+use crate::packet::PacketRead;
+use crate::packet::Part;
+use connection::Place;
+use wire::read::NumberRead;
+use wire::read::integer;
+use wire::refusal;
+
+// Where a body's bytes start: behind the size.
+pub const BODY_START: u16 = 6;
+
+// Reads a body packet.
+pub fn read(packet: &[u8]) -> PacketRead
+    ensures { λ r. ⌜ r ≡ bodyAt (now (packet .entry)) ⌝ }
+{
+    if packet.len() == PAYLOAD_PLACE {
+        return PacketRead::Packet(Packet::Body(Part {
+            start: Place(PAYLOAD_PLACE as u16),
+            len: 0,
+        }));
+    }
+    match integer(packet, PAYLOAD_PLACE) {
+        NumberRead::Refused(n) => PacketRead::Refused(n),
+        NumberRead::Number { value, next } => sized(packet.len(), value),
+    }
+}
+
+// A body packet of `size` bytes in all, whose own size is `len`. A size of 0 is refused: an empty body packet has no size.
+fn sized(size: usize, len: u16) -> PacketRead
+    ensures { λ r. ⌜ r ≡ sizedAt size len ⌝ }
+{
+    let end = BODY_START as usize + len as usize;
+    if size < end {
+        return PacketRead::Refused(refusal::CUT_SHORT);
+    }
+    if end < size {
+        return PacketRead::Refused(refusal::LEFT_OVER);
+    }
+    if len == 0 {
+        return PacketRead::Refused(refusal::SIZE_WRONG);
+    }
+    PacketRead::Packet(Packet::Body(Part {
+        start: Place(BODY_START),
+        len,
+    }))
+}

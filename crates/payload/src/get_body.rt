@@ -1,0 +1,21 @@
+// Get Body Chunk: how many bytes are asked for.
+ghost use mathlib.Core.Path.{_≡_};
+ghost use Rattle.payload.specs.GetBody.{getAt};
+use crate::AFTER_CODE;
+use crate::packet::Packet;
+use crate::packet::PacketRead;
+use crate::packet::finished;
+use wire::read::NumberRead;
+use wire::read::integer;
+
+// Reads a Get Body Chunk.
+pub fn read(packet: &[u8]) -> PacketRead
+    ensures { λ r. ⌜ r ≡ getAt (now (packet .entry)) ⌝ }
+{
+    match integer(packet, AFTER_CODE) {
+        NumberRead::Refused(n) => PacketRead::Refused(n),
+        NumberRead::Number { value, next } => {
+            finished(packet.len(), next, Packet::GetBody(value))
+        }
+    }
+}
