@@ -1,5 +1,5 @@
 -- What all kinds of packet share: a part of a packet, and that nothing may stand behind the last field.
--- Document 01, 'Refusal numbers': row 12, and that a delivered body or chunk is a part of the lent packet.
+-- Document 01, 'Refusal numbers': row 12, and what is handed out of a body packet or a chunk.
 -- Assumes nothing.
 use Prim.Native.Nat.{ℕ}
 use lib.Dec.{eqb}

@@ -15,13 +15,11 @@ use names::header;
 use names::table;
 use payload::packet::Part;
 use wire::Direction;
+use wire::NULL_LENGTH;
 use wire::has_room;
 use wire::part_of;
 use wire::read;
 use wire::read::NumberRead;
-
-// The length that says null.
-const NULL_LENGTH: u16 = 65535;
 
 // A header's name: its code, or a string, whose bytes `text_at` shows.
 pub enum HeaderName {

@@ -32,7 +32,7 @@ pub enum StringField {
 }
 
 // The length that says null.
-const NULL_LENGTH: u16 = 65535;
+pub const NULL_LENGTH: u16 = 65535;
 
 // The leading bytes of a packet of a direction.
 pub fn leading_bytes(direction: Direction) -> [u8; 2]
