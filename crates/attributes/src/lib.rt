@@ -5,7 +5,7 @@ ghost use mathlib.Core.List.{[]};
 ghost use Prim.Native.Nat.{_+_, _≤_};
 ghost use lib.ListN.{length};
 ghost use Rattle.wire.specs.Bytes.{over};
-ghost use Rattle.places.specs.Entries.{maxAttributes};
+ghost use Rattle.places.specs.Entries.{maxAttributes, maxPlace};
 ghost use Rattle.attributes.specs.Seen.{bit};
 ghost use Rattle.attributes.specs.Attributes.{textValueAt, integerValueAt, pairValueAt, valueAt, codedAt, attributeAt, attributesAt};
 use names::AttributeKind;
@@ -121,7 +121,7 @@ pub fn attribute_at(packet: &[u8], at: usize, full: bool, set: u16) -> Attribute
 
 // Reads the attributes from a place on, and puts the places of each one's code and value into a table, from an index on.
 pub fn attributes(packet: &[u8], at: usize, table: &mut [u16], from: usize) -> AttributesRead
-    requires { ⌜ (length (now packet) ≤ 8192) × (from + 128 ≤ length (now table)) ⌝ }
+    requires { ⌜ (length (now packet) ≤ maxPlace) × (from + (maxAttributes + maxAttributes) ≤ length (now table)) ⌝ }
     ensures { λ r. ⌜ r ≡ attributesAt (now (packet .entry)) at maxAttributes [] .end ⌝ }
     ensures { λ r. ⌜ now (table .exit) ≡ over (now (table .entry)) from (attributesAt (now (packet .entry)) at maxAttributes [] .places) ⌝ }
 {

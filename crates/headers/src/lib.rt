@@ -4,6 +4,7 @@ ghost use mathlib.Core.Path.{_≡_};
 ghost use Prim.Native.Nat.{_+_, _≤_};
 ghost use lib.ListN.{length};
 ghost use Rattle.wire.specs.Bytes.{over};
+ghost use Rattle.places.specs.Entries.{maxPlace};
 ghost use Rattle.headers.specs.Headers.{nameAt, codeNameOf, spelledAt, declares, declaredBy, valueAt, valued, headerAt, headersAt};
 use names::header;
 use names::length;
@@ -180,7 +181,7 @@ pub fn headers(
     count: u16,
     table: &mut [u16],
 ) -> HeadersRead
-    requires { ⌜ (length (now packet) ≤ 8192) × (count + count ≤ length (now table)) ⌝ }
+    requires { ⌜ (length (now packet) ≤ maxPlace) × (count + count ≤ length (now table)) ⌝ }
     ensures { λ r. ⌜ r ≡ headersAt direction (now (packet .entry)) at count Declared.Absent .end ⌝ }
     ensures { λ r. ⌜ now (table .exit) ≡ over (now (table .entry)) 0 (headersAt direction (now (packet .entry)) at count Declared.Absent .places) ⌝ }
 {

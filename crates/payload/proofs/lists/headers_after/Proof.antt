@@ -19,7 +19,7 @@ headers-requires : tie.Need-headers-requires
 headers-requires c κs =
     let start = c .before .before .before .before .before .before in
     let h = subst (Counts maxHeaders) (c .before .before .count2 .given .1) (start .pre .1 .0) in
-    (start .pre .0, omega arith)
+    (omega (arith, start .pre .0), omega arith)
 
 returns : tie.Need-returns
 returns c =
