@@ -31,6 +31,7 @@ use Rattle.reader.specs.Meaning.{Told, Meaning, needs, refused, accepted
 use Rattle.reader.specs.Reading.{parsedOf, parseWhole, parseFrame, parse, readAsBody, stepped, accepting, judging, withRoom, reading, tableAfter}
 use Rattle.reader.proofs.Framing.{frame-inside}
 use Rattle.reader.proofs.Below.{places-fit}
+use Rattle.reader.proofs.Later.{Answered}
 
 -- what is behind an accepted packet
 pub record Acceptance (direction : Direction) (c : Connection) (s : List ℕ) (room : ℕ) (t : Told) (taken : ℕ) (next : Connection) : Type 0 where
@@ -193,17 +194,12 @@ NeedsMore size (refused n) = Unit
 NeedsMore size (accepted t taken next) = Unit
 
 -- a packet that was read is not answered with "needs"
-abbrev Settled : Meaning → Type 0
-Settled (needs n) = ⊥
-Settled (refused n) = Unit
-Settled (accepted t taken next) = Unit
-
-accepting-answers : (c : Connection) (taken : ℕ) (r : PacketRead) → Settled (accepting c taken r)
+accepting-answers : (c : Connection) (taken : ℕ) (r : PacketRead) → Answered (accepting c taken r)
 unfolding accepting
 accepting-answers c taken (PacketRead.Refused n) = tt
 accepting-answers c taken (PacketRead.Packet packet) = go (stepOf c (moveIn packet))
   where
-    go : (step : Step) → Settled (stepped packet taken step)
+    go : (step : Step) → Answered (stepped packet taken step)
     go (Step.Refused n) = tt
     go (Step.Next next) = tt
 
@@ -212,7 +208,7 @@ pub needs-more : (direction : Direction) (c : Connection) (s : List ℕ) (room n
 unfolding reading parse parseWhole
 needs-more direction c s room n e = subst (NeedsMore (length s)) e (by-frame (frameAt direction s) refl)
   where
-    lent : (m : Meaning) → Settled m → NeedsMore (length s) (withRoom room m)
+    lent : (m : Meaning) → Answered m → NeedsMore (length s) (withRoom room m)
     lent (needs k) h = absurd h
     lent (refused k) h = tt
     lent (accepted t taken next) h = go (leb (placesNeeded t) room)
@@ -221,7 +217,7 @@ needs-more direction c s room n e = subst (NeedsMore (length s)) e (by-frame (fr
         go true = tt
         go false = tt
 
-    by-state : (now : Bool) (m : Meaning) → Settled m → NeedsMore (length s) (withRoom room (pick now m (refused 13)))
+    by-state : (now : Bool) (m : Meaning) → Answered m → NeedsMore (length s) (withRoom room (pick now m (refused 13)))
     by-state true m h = lent m h
     by-state false m h = tt
 
