@@ -104,7 +104,7 @@ fn spelled_name(
 }
 
 // Whether a header with this code declares the length of a request's body.
-fn declares_length(direction: Direction, code: u16) -> bool
+pub fn declares_length(direction: Direction, code: u16) -> bool
     ensures { λ r. ⌜ r ≡ declares direction code ⌝ }
 {
     match direction {
@@ -114,7 +114,7 @@ fn declares_length(direction: Direction, code: u16) -> bool
 }
 
 // What is declared after a header's value.
-fn declared_by(declares: bool, before: Declared, text: &[u8], null: bool) -> Declaring
+pub fn declared_by(declares: bool, before: Declared, text: &[u8], null: bool) -> Declaring
     ensures { λ r. ⌜ r ≡ declaredBy declares before null (now (text .entry)) ⌝ }
 {
     if declares {

@@ -25,9 +25,9 @@ use wire::refusal::OUT_OF_RANGE;
 use wire::refusal::TOO_MANY;
 
 // The first and the last method.
-const FIRST_METHOD: u16 = 1;
+pub const FIRST_METHOD: u16 = 1;
 
-const LAST_METHOD: u16 = 27;
+pub const LAST_METHOD: u16 = 27;
 
 // Reads a Forward. The table has room for all places, and is filled from its start on.
 pub fn read(packet: &[u8], table: &mut [u16]) -> PacketRead

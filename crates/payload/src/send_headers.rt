@@ -24,9 +24,9 @@ use wire::refusal::OUT_OF_RANGE;
 use wire::refusal::TOO_MANY;
 
 // The least and the greatest status.
-const LEAST_STATUS: u16 = 100;
+pub const LEAST_STATUS: u16 = 100;
 
-const GREATEST_STATUS: u16 = 599;
+pub const GREATEST_STATUS: u16 = 599;
 
 // Reads Send Headers. The table has room for all places, and is filled from its start on.
 pub fn read(packet: &[u8], table: &mut [u16]) -> PacketRead

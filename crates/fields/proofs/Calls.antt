@@ -1,0 +1,54 @@
+-- A call's outcome and its buffer, by the fault that was found: what every call that builds cites at its returns.
+-- Assumes nothing.
+use native.Mathlib.Omega.{arith}
+use borrow.Author.Tests.{eq-eqb, ne-eqb}
+use mathlib.Core.Path.{_≡_, refl, sym, ap, _∙_}
+use mathlib.Core.List.{List}
+use Prim.Native.Nat.{ℕ, _+_, _≤_}
+use lib.ListN.{length}
+use Rattle.wire.specs.Bytes.{over}
+use Rattle.fields.specs.Fault.{orElse, firstFault, fitFault}
+use Rattle.fields.specs.Field.{sizeTold, Fits}
+use Rattle.fields.specs.Call.{Call, Outcome, refused, done, refusalOf, outcome, bufferAfter}
+use Rattle.fields.proofs.Sizes.{or-first, or-second, fit-told, fit-none}
+
+-- the fault that a call finds: its own faults, then whether the bytes fit, by the end that was told
+pub found-by : {A : Type 0} (call : Call A) (room own fit end found : ℕ) → own ≡ firstFault (call .faults) → fit ≡ fitFault end room
+    → end ≡ sizeTold (call .at + length (call .bytes)) → found ≡ orElse own fit → found ≡ refusalOf call room
+unfolding refusalOf
+found-by call room own fit end found p q r s =
+    s
+    ∙ ap (λ (f : ℕ). orElse f fit) p
+    ∙ ap (orElse (firstFault (call .faults))) (q ∙ ap (λ (n : ℕ). fitFault n room) r ∙ fit-told (call .at + length (call .bytes)) room)
+
+module _ {A : Type 0} (call : Call A) (buffer : List ℕ) (found : ℕ) (is : found ≡ refusalOf call (length buffer)) where
+  -- there is a fault
+  pub refused-answer : (found ≡ 0 → ⊥) → refused found ≡ outcome call (length buffer)
+  unfolding outcome
+  refused-answer h = rw (← is, ne-eqb found 0 h)
+
+  pub refused-buffer : (found ≡ 0 → ⊥) → buffer ≡ bufferAfter call buffer
+  unfolding bufferAfter
+  refused-buffer h = rw (← is, ne-eqb found 0 h)
+
+  -- there is none
+  pub done-answer : (answer : A) → answer ≡ call .answer → found ≡ 0 → done answer ≡ outcome call (length buffer)
+  unfolding outcome
+  done-answer answer e h = rw (← is, eq-eqb found 0 h, e)
+
+  pub done-buffer : found ≡ 0 → over buffer (call .at) (call .bytes) ≡ bufferAfter call buffer
+  unfolding bufferAfter
+  done-buffer h = rw (← is, eq-eqb found 0 h)
+
+  -- then none of the call's own faults is there
+  pub done-own : found ≡ 0 → firstFault (call .faults) ≡ 0
+  unfolding refusalOf
+  done-own h = or-first (firstFault (call .faults)) (fitFault (call .at + length (call .bytes)) (length buffer)) (sym is ∙ h)
+
+  -- and the bytes fit
+  pub done-fits : found ≡ 0 → Fits (call .at) (call .bytes) buffer
+  unfolding refusalOf
+  done-fits h =
+      let end : ℕ = call .at + length (call .bytes) in
+      let both = fit-none end (length buffer) (or-second (firstFault (call .faults)) (fitFault end (length buffer)) (sym is ∙ h)) in
+      (both .1, both .0)

@@ -1,0 +1,93 @@
+-- Faults in a row, and sizes as they are told.
+-- Assumes nothing.
+use native.Mathlib.Omega.{arith}
+use borrow.Author.Tests.{le-leb, lt-leb, leb-true, leb-false, eqb-true}
+use mathlib.Core.Path.{_≡_, refl, sym, ap, _∙_}
+use mathlib.Core.Bool.{Bool, true, false}
+use Prim.Native.Nat.{ℕ, _+_, _<_, _≤_}
+use lib.Dec.{leb, eqb}
+use Rattle.wire.specs.Pick.{pick, both}
+use lib.ListN.{length}
+use Rattle.wire.specs.Field.{booleanBytes}
+use Rattle.fields.specs.Fault.{unless, orElse, rangeFault, fitFault}
+use Rattle.fields.specs.Field.{sizeTold}
+
+-- no fault behind a fault
+pub or-none : (fault : ℕ) → orElse fault 0 ≡ fault
+or-none fault = go (eqb fault 0) refl
+  where
+    go : (t : Bool) → eqb fault 0 ≡ t → pick t 0 fault ≡ fault
+    go true e = sym (eqb-true fault 0 e)
+    go false e = refl
+
+-- where there is no first fault of two, there is none of either
+pub or-first : (fault later : ℕ) → orElse fault later ≡ 0 → fault ≡ 0
+or-first fault later h = go (eqb fault 0) refl h
+  where
+    go : (t : Bool) → eqb fault 0 ≡ t → pick t later fault ≡ 0 → fault ≡ 0
+    go true e h = eqb-true fault 0 e
+    go false e h = h
+
+pub or-second : (fault later : ℕ) → orElse fault later ≡ 0 → later ≡ 0
+or-second fault later h = go (or-first fault later h) h
+  where
+    go : fault ≡ 0 → orElse fault later ≡ 0 → later ≡ 0
+    go e h = rw e at h
+
+-- a size up to 8193 is told as it is, a greater one as 8193
+pub told-exact : (n : ℕ) → n ≤ 8193 → sizeTold n ≡ n
+unfolding sizeTold
+told-exact n h = omega arith
+
+pub told-over : (n : ℕ) → 8193 ≤ n → sizeTold n ≡ 8193
+unfolding sizeTold
+told-over n h = omega arith
+
+-- a size behind one that was told
+pub told-told : (a b : ℕ) → sizeTold (sizeTold a + b) ≡ sizeTold (a + b)
+unfolding sizeTold
+told-told a b = omega arith
+
+-- bytes fit the packet and the buffer as they do by the size that is told
+pub fit-told : (n room : ℕ) → fitFault (sizeTold n) room ≡ fitFault n room
+unfolding fitFault
+fit-told n room = go (leb n 8192) refl
+  where
+    go : (t : Bool) → leb n 8192 ≡ t → fitFault (sizeTold n) room ≡ fitFault n room
+    go true e = ap (λ (k : ℕ). fitFault k room) (told-exact n (omega (arith, leb-true n 8192 e)))
+    go false e =
+        let h : 8192 < n = leb-false n 8192 e in
+        let k : sizeTold n ≡ 8193 = told-over n (omega arith) in
+        rw (k, e)
+
+-- what no fault of fitting says
+pub fit-none : (end room : ℕ) → fitFault end room ≡ 0 → (end ≤ 8192) × (end ≤ room)
+unfolding fitFault
+fit-none end room h = go (leb end 8192) (leb end room) refl refl h
+  where
+    go : (s t : Bool) → leb end 8192 ≡ s → leb end room ≡ t → pick s (unless t 15) 2 ≡ 0 → (end ≤ 8192) × (end ≤ room)
+    go true true d e h = (leb-true end 8192 d, leb-true end room e)
+    go true false d e h = omega (arith, h)
+    go false t d e h = omega (arith, h)
+
+-- and what says that there is none: a buffer as long as is told to be needed is long enough
+pub fit-enough : (n room : ℕ) → sizeTold n ≤ 8192 → sizeTold n ≤ room → fitFault n room ≡ 0
+unfolding fitFault
+fit-enough n room h k = sym (fit-told n room) ∙ go (sizeTold n) h k
+  where
+    go : (m : ℕ) → m ≤ 8192 → m ≤ room → fitFault m room ≡ 0
+    go m h k = rw (le-leb m 8192 h, le-leb m room k)
+
+-- the faults by the values of their tests
+pub fit-by : (end room : ℕ) (s t : Bool) → leb end 8192 ≡ s → leb end room ≡ t → pick s (unless t 15) 2 ≡ fitFault end room
+unfolding fitFault
+fit-by end room s t d e = rw (← d, ← e)
+
+pub range-by : (low high n : ℕ) (s t : Bool) → leb low n ≡ s → leb n high ≡ t → unless (both s t) 7 ≡ rangeFault low high n
+unfolding rangeFault
+range-by low high n s t d e = rw (← d, ← e)
+
+-- a boolean has one byte
+pub boolean-one : (value : Bool) → length (booleanBytes value) ≡ 1
+boolean-one true = refl
+boolean-one false = refl

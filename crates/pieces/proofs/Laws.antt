@@ -1,0 +1,109 @@
+-- What a building record and the fixed fields come to, by the values of their tests.
+-- Assumes nothing.
+use native.Mathlib.Omega.{arith}
+use borrow.Author.Tests.{leb-true}
+use mathlib.Core.Path.{_≡_, refl, sym, ap, _∙_}
+use mathlib.Core.Bool.{Bool, true, false, not}
+use mathlib.Core.List.{List, [], _∷_, _++_, append-nil}
+use Prim.Native.Nat.{ℕ, _+_, _≤_}
+use lib.Dec.{leb, eqb}
+use lib.ListN.{length, getD, length-append}
+use Rattle.wire.specs.Pick.{both}
+use Rattle.wire.specs.Bytes.{integerBytes}
+use Rattle.wire.specs.Field.{booleanBytes, stringBytes}
+use Rattle.connection.specs.declared.Kind.{Kind}
+use Rattle.payload.specs.Code.{codeOf}
+use Rattle.fields.specs.Fault.{unless, orElse, firstFault, rangeFault}
+use Rattle.fields.specs.Field.{Field, opening, bytesOf, sizeTold}
+use Rattle.fields.proofs.Sizes.{or-none, or-first, told-told, boolean-one}
+use Rattle.fields.proofs.Rows.{bytes-append}
+use Rattle.pieces.specs.declared.BuildingKind.{BuildingKind}
+use Rattle.pieces.specs.declared.forward.Numbers.{Numbers}
+use Rattle.pieces.specs.declared.forward.Nulls.{Nulls}
+use Rattle.pieces.specs.declared.Building.{Building}
+use Rattle.pieces.specs.Record.{kindIn, isPossible}
+use Rattle.pieces.specs.Fixed.{fixed, forwardFields, sendHeadersFields}
+use Rattle.pieces.specs.Private.{forwardStrings, forwardTail}
+
+-- a record that can be, by its tests; a proof that does not reach a test says `refl`
+pub possible-by : (r : Building) (buffer : List ℕ) (a b c d e f : Bool) → leb (r .next .0) 8192 ≡ a → leb (r .next .0) (length buffer) ≡ b
+    → leb 4 (r .count .0) ≡ c → leb (r .count .0 + 2) (r .next .0) ≡ d → leb (r .headers) 100 ≡ e
+    → eqb (getD buffer 4 0) (codeOf (kindIn (r .kind))) ≡ f → both a (both b (both c (both d (both e f)))) ≡ isPossible r buffer
+unfolding isPossible
+possible-by r buffer a b c d e f p q s t u v = rw (← p, ← q, ← s, ← t, ← u, ← v)
+
+-- a size behind one that was told
+pub told-behind : (before size told behind : ℕ) → told ≡ sizeTold before → behind ≡ sizeTold (told + size) → behind ≡ sizeTold (before + size)
+told-behind before size told behind p q = q ∙ ap (λ (n : ℕ). sizeTold (n + size)) p ∙ told-told before size
+
+-- how many bytes the fixed fields of a Send Headers are
+pub send-headers-size : (status : ℕ) (null : Bool) (message : List ℕ)
+    → 7 + length (stringBytes null message) + 2 ≡ 0 + length (bytesOf (fixed BuildingKind.SendHeaders (sendHeadersFields status null message)))
+send-headers-size status null message = omega (arith, length-append (stringBytes null message) (integerBytes 0))
+
+-- and those of a Forward
+pub forward-size : (numbers : Numbers) (nulls : Nulls) (protocol uri addr host name : List ℕ)
+    → 6 + length (stringBytes (nulls .protocol) protocol)
+    + length (stringBytes (nulls .«req_uri») uri)
+    + length (stringBytes (nulls .«remote_addr») addr)
+    + length (stringBytes (nulls .«remote_host») host)
+    + length (stringBytes (nulls .«server_name») name)
+    + 5
+    ≡ 0 + length (bytesOf (fixed BuildingKind.Forward (forwardFields numbers nulls protocol uri addr host name)))
+forward-size numbers nulls protocol uri addr host name =
+    let p : List ℕ = stringBytes (nulls .protocol) protocol in
+    let u : List ℕ = stringBytes (nulls .«req_uri») uri in
+    let a : List ℕ = stringBytes (nulls .«remote_addr») addr in
+    let h : List ℕ = stringBytes (nulls .«remote_host») host in
+    let n : List ℕ = stringBytes (nulls .«server_name») name in
+    let t : List ℕ = bytesOf (forwardTail numbers) in
+    omega (
+      arith,
+      length-append p (u ++ (a ++ (h ++ (n ++ t)))),
+      length-append u (a ++ (h ++ (n ++ t))),
+      length-append a (h ++ (n ++ t)),
+      length-append h (n ++ t),
+      length-append n t,
+      length-append (booleanBytes (numbers .«is_ssl»)) (integerBytes 0),
+      boolean-one (numbers .«is_ssl»),
+    )
+
+-- the first of six faults, and none behind them
+pub six-faults : (f g h i j k p q r s t : ℕ) (a b c d e l : ℕ) → f ≡ a → g ≡ b → h ≡ c → i ≡ d → j ≡ e → k ≡ l
+    → p ≡ orElse f g → q ≡ orElse p h → r ≡ orElse q i → s ≡ orElse r j → t ≡ orElse s k
+    → t ≡ firstFault (0 ∷ a ∷ b ∷ c ∷ d ∷ e ∷ l ∷ 0 ∷ 0 ∷ 0 ∷ [])
+six-faults f g h i j k p q r s t a b c d e l ef eg eh ei ej ek ep eq er es et =
+    rw (← ef, ← eg, ← eh, ← ei, ← ej, ← ek, ← ep, ← eq, ← er, ← es, ← et)
+    (sym (or-none (orElse (orElse t 0) 0) ∙ or-none (orElse t 0) ∙ or-none t))
+
+-- the fixed fields of a Forward in the parts in which they are written
+abbrev pub forwardParts : Numbers → Nulls → List ℕ → List ℕ → List ℕ → List ℕ → List ℕ → List ℕ
+forwardParts numbers nulls protocol uri addr host name =
+    opening Kind.Forward 0
+    ++ ((numbers .method ∷ []) ++ (bytesOf (forwardStrings nulls protocol uri addr host name) ++ (bytesOf (forwardTail numbers) ++ [])))
+
+pub forward-parts : (numbers : Numbers) (nulls : Nulls) (protocol uri addr host name : List ℕ)
+    → bytesOf (fixed BuildingKind.Forward (forwardFields numbers nulls protocol uri addr host name))
+    ≡ forwardParts numbers nulls protocol uri addr host name
+forward-parts numbers nulls protocol uri addr host name =
+    let own : List Field = forwardStrings nulls protocol uri addr host name in
+    ap (λ (l : List ℕ). opening Kind.Forward 0 ++ ((numbers .method ∷ []) ++ l))
+    (bytes-append own (forwardTail numbers)
+    ∙ ap (λ (l : List ℕ). bytesOf own ++ l) (sym (append-nil (bytesOf (forwardTail numbers)))))
+
+-- where a Forward has no fault, its method is one byte
+pub method-within : (n : ℕ) (a b c d e : ℕ) → firstFault (0 ∷ rangeFault 1 27 n ∷ a ∷ b ∷ c ∷ d ∷ e ∷ 0 ∷ 0 ∷ 0 ∷ []) ≡ 0 → n ≤ 27
+unfolding rangeFault
+method-within n a b c d e h = go (leb 1 n) (leb n 27) refl refl (first (rangeFault 1 27 n) a b c d e h)
+  where
+    first : (f a b c d e : ℕ) → firstFault (0 ∷ f ∷ a ∷ b ∷ c ∷ d ∷ e ∷ 0 ∷ 0 ∷ 0 ∷ []) ≡ 0 → f ≡ 0
+    first f a b c d e h =
+        let g : ℕ = orElse (orElse (orElse (orElse (orElse f a) b) c) d) e in
+        let h1 : orElse (orElse g 0) 0 ≡ 0 = or-first (orElse (orElse g 0) 0) 0 h in
+        let h2 : g ≡ 0 = or-first g 0 (or-first (orElse g 0) 0 h1) in
+        or-first f a (or-first (orElse f a) b (or-first (orElse (orElse f a) b) c (or-first (orElse (orElse (orElse f a) b) c) d (or-first (orElse (orElse (orElse (orElse f a) b) c) d) e h2))))
+
+    go : (s t : Bool) → leb 1 n ≡ s → leb n 27 ≡ t → unless (both s t) 7 ≡ 0 → n ≤ 27
+    go true true p q h = leb-true n 27 q
+    go true false p q h = omega (arith, h)
+    go false t p q h = omega (arith, h)

@@ -1,0 +1,98 @@
+-- The calls of the pieces: sizes field by field, and what each call cites at its write, at its next record and at its returns.
+-- Assumes nothing.
+use native.Mathlib.Omega.{arith}
+use native.Mathlib.Nat.{add-assoc}
+use borrow.Author.Tests.{ltb-true}
+use mathlib.Core.Path.{_≡_, refl, sym, ap, _∙_}
+use mathlib.Core.Bool.{Bool, true, false}
+use mathlib.Core.List.{List, [], _∷_, _++_, append-nil}
+use Prim.Native.Nat.{ℕ, _+_, _≤_, _<_}
+use lib.Dec.{ltb}
+use lib.ListN.{length, length-append}
+use Rattle.wire.specs.Bytes.{over}
+use Rattle.fields.specs.Fault.{unless, orElse, faultAfter, firstFault, fitFault}
+use Rattle.fields.specs.Field.{Field, faultsOf, sizeTold, Fits}
+use Rattle.fields.specs.Call.{Call, refused, done, refusalOf, outcome, bufferAfter}
+use Rattle.fields.proofs.Sizes.{or-second, told-exact, told-told}
+use Rattle.fields.proofs.Calls.{found-by, refused-answer, refused-buffer, done-answer, done-buffer, done-own, done-fits}
+use Rattle.pieces.specs.declared.Building.{Building}
+use Rattle.pieces.specs.Record.{fields, headerFault, countFault}
+use Rattle.pieces.specs.Header.{headerCall}
+
+-- the size of bytes and of more bytes behind them
+pub told-more : (at : ℕ) (a b : List ℕ) (x y : ℕ) → x ≡ sizeTold (at + length a) → y ≡ sizeTold (x + length b)
+    → y ≡ sizeTold (at + length (a ++ b))
+told-more at a b x y p q = rw (q, p, told-told, add-assoc, length-append)
+
+-- the last of a row
+pub told-last : (at : ℕ) (a b : List ℕ) (x y : ℕ) → x ≡ sizeTold (at + length a) → y ≡ sizeTold (x + length b)
+    → y ≡ sizeTold (at + length (a ++ (b ++ [])))
+told-last at a b x y p q = rw append-nil (told-more at a b x y p q)
+
+-- the fault that is looked for last
+fault-last : (before : ℕ) (faults : List ℕ) (last : ℕ) → faultAfter before (faults ++ (last ∷ [])) ≡ orElse (faultAfter before faults) last
+fault-last before [] last = refl
+fault-last before (fault ∷ later) last = fault-last (orElse before fault) later last
+
+-- no fault of the count says that one more header may come
+count-none : (r : Building) → countFault r ≡ 0 → r .headers < 100
+unfolding countFault
+count-none r h = go (ltb (r .headers) 100) refl h
+  where
+    go : (t : Bool) → ltb (r .headers) 100 ≡ t → unless t 11 ≡ 0 → r .headers < 100
+    go true e h = ltb-true (r .headers) 100 e
+    go false e h = omega (arith, h)
+
+-- what a call has come to before it writes: the end that was told, and the fault that was found
+pub record Checked (call : Call Building) (buffer : List ℕ) (end found : ℕ) : Type 0 where
+  pub told : end ≡ sizeTold (call .at + length (call .bytes))
+  pub is : found ≡ refusalOf call (length buffer)
+
+-- it is known by the call's own faults, by whether the end fits, and by the first fault of the two
+pub checked : {call : Call Building} {buffer : List ℕ} {end found own fit : ℕ} → own ≡ firstFault (call .faults)
+    → fit ≡ fitFault end (length buffer) → end ≡ sizeTold (call .at + length (call .bytes)) → found ≡ orElse own fit
+    → Checked call buffer end found
+checked {call} {buffer} {end} {found} {own} {fit} p q r s =
+    record { told = r; is = found-by call (length buffer) own fit end found p q r s }
+
+-- and then
+module _ {call : Call Building} {buffer : List ℕ} {end found : ℕ} (known : Checked call buffer end found) where
+  -- there is a fault
+  pub refused-both : (found ≡ 0 → ⊥) → (refused found ≡ outcome call (length buffer)) × (buffer ≡ bufferAfter call buffer)
+  refused-both h = (refused-answer call buffer found (known .is) h, refused-buffer call buffer found (known .is) h)
+
+  -- there is none: the bytes fit where they are to be written
+  pub row-fits : {bytes : List ℕ} {place : ℕ} → found ≡ 0 → call .bytes ≡ bytes → place ≡ call .at → Fits place bytes buffer
+  row-fits h e f = rw (f, ← e) (done-fits call buffer found (known .is) h)
+
+  -- the end that was told is theirs, and in the packet
+  pub end-exact : found ≡ 0 → end ≡ call .at + length (call .bytes)
+  end-exact h = known .told ∙ told-exact (call .at + length (call .bytes)) (omega (arith, done-fits call buffer found (known .is) h .1))
+
+  pub end-fits : found ≡ 0 → end ≤ 8192
+  end-fits h = omega (arith, end-exact h, done-fits call buffer found (known .is) h .1)
+
+  -- and where they are written, the call is done
+  pub done-both : (make : ℕ → Building) {answer : Building} {bytes after : List ℕ} {place : ℕ} → found ≡ 0
+      → call .answer ≡ make (call .at + length (call .bytes)) → answer ≡ make end → call .bytes ≡ bytes → place ≡ call .at
+      → after ≡ over buffer place bytes → (done answer ≡ outcome call (length buffer)) × (after ≡ bufferAfter call buffer)
+  done-both make {answer} {bytes} h r s e f w = (
+    done-answer call buffer found (known .is) answer (s ∙ ap make (end-exact h) ∙ sym r) h,
+    w ∙ ap (λ (p : ℕ). over buffer p bytes) f ∙ ap (over buffer (call .at)) (sym e) ∙ done-buffer call buffer found (known .is) h,
+  )
+
+-- the records behind a header and behind an attribute, by the place where it ends
+abbrev pub behindHeader : Building → ℕ → Building
+behindHeader r end = fields (r .kind) end (r .count .0) (r .headers + 1) (r .attributes)
+
+abbrev pub behindAttribute : Building → ℕ → Building
+behindAttribute r end = fields (r .kind) end (r .count .0) (r .headers) true
+
+-- where no fault of a header is found, one more may come
+pub header-room : {r : Building} {buffer : List ℕ} {end found : ℕ} (own : List Field) → Checked (headerCall r buffer own) buffer end found
+    → found ≡ 0 → (end ≤ 8192) × (r .headers < 100)
+header-room {r} {buffer} {end} {found} own known h =
+    let first : ℕ = headerFault r buffer in
+    let last : ℕ = countFault r in
+    let none : _ = sym (fault-last first (faultsOf own) last) ∙ done-own (headerCall r buffer own) buffer found (known .is) h in
+    (end-fits known h, count-none r (or-second (faultAfter first (faultsOf own)) last none))

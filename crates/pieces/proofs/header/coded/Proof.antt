@@ -1,0 +1,98 @@
+-- `pieces::header::coded` meets its contract: refused with the fault found; else its bytes are written, and the record tells their end.
+-- Assumes nothing.
+use mathlib.Core.Path.{_≡_, refl}
+use mathlib.Core.List.{_++_, append-nil}
+use borrow.Author.Needs.{needs}
+use Rattle.wire.specs.Bytes.{integerBytes}
+use Rattle.wire.specs.Field.{stringBytes}
+use Rattle.fields.specs.Call.{Call}
+use Rattle.pieces.specs.declared.Building.{Building}
+use Rattle.pieces.specs.Header.{directionIn, codedFields, codedCall}
+use Rattle.pieces.proofs.Pieces.{Checked, checked, refused-both, row-fits, done-both, behindHeader, header-room}
+use Rattle.pieces.proofs.header.coded.Statement.{statement}
+use Rattle.pieces.proofs.header.coded.Tie as tie
+
+-- the call that is to be met
+abbrev call : tie.Start → Call Building
+call e = let a = e .args in codedCall (a .building) (a .buffer .now) (a .code) (a .null) (a .value .now)
+
+-- the bytes as they are written
+row : (e : tie.Start) → let a = e .args in call e .bytes ≡ integerBytes (a .code) ++ stringBytes (a .null) (a .value .now)
+unfolding codedCall
+row e = rw append-nil
+
+-- what is known once the faults were looked for
+known : (c : tie.After-or-else) → let e = c .before .before .before .before .before .before .before in
+    Checked (call e) (e .args .buffer .now) (c .before .before .before .before .coded-needs .result) (c .or-else .result)
+unfolding codedCall
+known c =
+    let f = c .before in
+    checked (f .before .coded-fault .ensures) (f .fit .ensures) (f .before .before .before .coded-needs .ensures) (c .or-else .ensures)
+
+coded-needs-requires : tie.Need-coded-needs-requires
+coded-needs-requires c κs = search needs
+
+coded-fault-requires : tie.Need-coded-fault-requires
+coded-fault-requires c κs = search needs
+
+fit-requires : tie.Need-fit-requires
+fit-requires c κs = search needs
+
+or-else-requires : tie.Need-or-else-requires
+or-else-requires c κs = search needs
+
+same-length : tie.Need-same-length
+same-length c = search needs
+
+returns : tie.Need-returns
+returns c = refused-both (known (c .before)) (c .if1 .taken)
+
+index-requires : tie.Need-index-requires
+index-requires c κs = search needs
+
+write-coded-requires : tie.Need-write-coded-requires
+unfolding codedCall
+write-coded-requires c κs =
+    let i = c .before .before in
+    let o = i .before in
+    row-fits (known o) (i .if1 .left) (row (o .before .before .before .before .before .before .before)) (c .index .ensures)
+
+with-header-requires : tie.Need-with-header-requires
+unfolding codedCall
+with-header-requires c κs =
+    let i = c .before .before .before .before .before in
+    let o = i .before in
+    let a = o .before .before .before .before .before .before .before .args in
+    header-room (codedFields (directionIn (a .building)) (a .code) (a .null) (a .value .now)) (known o) (i .if1 .left)
+
+same-length-2 : tie.Need-same-length-2
+same-length-2 c = search needs
+
+returns-2 : tie.Need-returns-2
+unfolding codedCall
+returns-2 c =
+    let w = c .before .before .before in
+    let i = w .before .before .before in
+    let o = i .before in
+    let e = o .before .before .before .before .before .before .before in
+    done-both (known o) (behindHeader (e .args .building)) (i .if1 .left) refl
+    (c .with-header .ensures)
+    (row e)
+    (w .before .index .ensures)
+    (w .write-coded .ensures)
+
+pub coded-spec : {M : Type 1} → statement M
+coded-spec =
+    tie.close
+    (tie.spec
+    coded-needs-requires
+    coded-fault-requires
+    fit-requires
+    or-else-requires
+    same-length
+    returns
+    index-requires
+    write-coded-requires
+    with-header-requires
+    same-length-2
+    returns-2)

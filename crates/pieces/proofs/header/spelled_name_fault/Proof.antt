@@ -1,0 +1,48 @@
+-- `pieces::header::spelled_name_fault` meets its contract: the call's faults, each looked for behind those before it.
+-- Assumes nothing.
+use borrow.Author.Needs.{needs}
+use Rattle.pieces.specs.Header.{spelledCall}
+use Rattle.pieces.proofs.header.spelled_name_fault.Statement.{statement}
+use Rattle.pieces.proofs.header.spelled_name_fault.Tie as tie
+
+header-fault-requires : tie.Need-header-fault-requires
+header-fault-requires c κs = search needs
+
+direction-requires : tie.Need-direction-requires
+direction-requires c κs = search needs
+
+name-fault-requires : tie.Need-name-fault-requires
+name-fault-requires c κs = search needs
+
+or-else-requires : tie.Need-or-else-requires
+or-else-requires c κs = search needs
+
+value-fault-requires : tie.Need-value-fault-requires
+value-fault-requires c κs = search needs
+
+or-else-requires-2 : tie.Need-or-else-requires-2
+or-else-requires-2 c κs = search needs
+
+count-fault-requires : tie.Need-count-fault-requires
+count-fault-requires c κs = search needs
+
+or-else-requires-3 : tie.Need-or-else-requires-3
+or-else-requires-3 c κs = search needs
+
+returns : tie.Need-returns
+unfolding spelledCall
+returns c = cc
+
+pub spelled-name-fault-spec : {M : Type 1} → statement M
+spelled-name-fault-spec =
+    tie.close
+    (tie.spec
+    header-fault-requires
+    direction-requires
+    name-fault-requires
+    or-else-requires
+    value-fault-requires
+    or-else-requires-2
+    count-fault-requires
+    or-else-requires-3
+    returns)

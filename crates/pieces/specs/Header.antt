@@ -1,0 +1,76 @@
+-- A header: its name, by code or spelled, and its value, judged as reading judges them.
+-- Document 01, 'Server to container', Header, and 'Building'. A second content-length is found when the packet is closed.
+-- Assumes nothing.
+use mathlib.Core.Bool.{Bool, false}
+use mathlib.Core.List.{List, [], _∷_, _++_}
+use Prim.Native.Nat.{ℕ}
+use lib.ListN.{length}
+use Rattle.wire.specs.Refusal.{none}
+use Rattle.wire.specs.Bytes.{integerBytes}
+use Rattle.wire.specs.Field.{stringBytes}
+use Rattle.wire.specs.declared.Direction.{Direction}
+use Rattle.wire.specs.declared.StringField.{StringField}
+use Rattle.names.specs.Header.{codeFault, spelledFault}
+use Rattle.names.specs.declared.length.Declared.{Declared}
+use Rattle.names.specs.declared.length.Declaring.{Declaring}
+use Rattle.headers.specs.Headers.{declares, declaredBy}
+use Rattle.connection.specs.Cycle.{directionOf}
+use Rattle.fields.specs.Fault.{orElse, stringFault}
+use Rattle.fields.specs.Field.{Field, faultsOf, bytesOf}
+use Rattle.fields.specs.Call.{Call}
+use Rattle.pieces.specs.declared.Building.{Building}
+use Rattle.pieces.specs.Record.{kindIn, headerFault, countFault, withHeader}
+
+-- which way the packet goes that is being built
+abbrev pub directionIn : Building → Direction
+directionIn r = directionOf (kindIn (r .kind))
+
+-- a name by its code
+abbrev pub codedName : Direction → ℕ → Field
+codedName direction code = record { fault = codeFault direction code; bytes = integerBytes code }
+
+-- a name that is spelled out: the string's own rule (6), then the name's (8, and 10 for transfer-encoding)
+abbrev pub spelledName : Direction → Bool → List ℕ → Field
+spelledName direction null text = record {
+  fault = orElse (stringFault StringField.HeaderName null text) (spelledFault direction text);
+  bytes = stringBytes null text;
+}
+
+-- the fault of what a value declares
+abbrev pub declaringFault : Declaring → ℕ
+declaringFault (Declaring.Refused n) = n
+declaringFault (Declaring.Now declared) = none
+
+-- a value: the string's own rule (6), then, where it declares a length, that it is one (10)
+unfoldable pub valueFault : Bool → Bool → List ℕ → ℕ
+valueFault declaring null text =
+    orElse (stringFault StringField.HeaderValue null text) (declaringFault (declaredBy declaring Declared.Absent null text))
+
+abbrev pub headerValue : Bool → Bool → List ℕ → Field
+headerValue declaring null text = record { fault = valueFault declaring null text; bytes = stringBytes null text }
+
+-- a header with a code for its name
+abbrev pub codedFields : Direction → ℕ → Bool → List ℕ → List Field
+codedFields direction code null value = codedName direction code ∷ headerValue (declares direction code) null value ∷ []
+
+-- a header with a spelled name; such a name declares nothing, since content-length goes by code
+abbrev pub spelledFields : Direction → Bool → List ℕ → Bool → List ℕ → List Field
+spelledFields direction nameNull name valueNull value =
+    spelledName direction nameNull name ∷ headerValue false valueNull value ∷ []
+
+-- the call that writes a header: 16, its fields, 11
+abbrev pub headerCall : Building → List ℕ → List Field → Call Building
+headerCall r buffer own = record {
+  faults = headerFault r buffer ∷ (faultsOf own ++ (countFault r ∷ []));
+  at = r .next .0;
+  bytes = bytesOf own;
+  answer = withHeader r (length (bytesOf own));
+}
+
+-- the calls
+unfoldable pub codedCall : Building → List ℕ → ℕ → Bool → List ℕ → Call Building
+codedCall r buffer code null value = headerCall r buffer (codedFields (directionIn r) code null value)
+
+unfoldable pub spelledCall : Building → List ℕ → Bool → List ℕ → Bool → List ℕ → Call Building
+spelledCall r buffer nameNull name valueNull value =
+    headerCall r buffer (spelledFields (directionIn r) nameNull name valueNull value)

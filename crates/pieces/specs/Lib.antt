@@ -1,0 +1,6 @@
+pub mod Record
+pub mod Meaning
+pub mod Fixed
+pub mod Header
+pub mod Attribute
+pub mod Private

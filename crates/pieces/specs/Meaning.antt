@@ -1,0 +1,11 @@
+-- What the answer of a piece says, in document 01's terms: refused with a number, or the next building record.
+-- Document 01, 'Building'.
+-- Assumes nothing.
+use Rattle.fields.specs.Call.{Outcome, refused, done}
+use Rattle.pieces.specs.declared.Building.{Building}
+use Rattle.pieces.specs.declared.Added.{Added}
+
+-- what each case of the answer says
+abbrev pub meaning : Added → Outcome Building
+meaning (Added.Refused n) = refused n
+meaning (Added.Next r) = done r

@@ -1,0 +1,66 @@
+-- The building record of a Forward or a Send Headers, and which records cannot be.
+-- Document 01, 'Building', and row 16 of 'Refusal numbers'.
+-- Assumes nothing.
+use mathlib.Core.Bool.{Bool, true, false, not}
+use mathlib.Core.List.{List}
+use Prim.Native.Nat.{ℕ, _+_}
+use lib.Dec.{leb, ltb, eqb}
+use lib.ListN.{length, getD}
+use Rattle.wire.specs.Pick.{both}
+use Rattle.wire.specs.Refusal.{tooMany, recordWrong}
+use Rattle.places.specs.Entries.{maxHeaders}
+use Rattle.connection.specs.Connection.{maxPacket}
+use Rattle.connection.specs.declared.Kind.{Kind}
+use Rattle.payload.specs.Code.{payloadPlace, codePlace, codeOf}
+use Rattle.fields.specs.Fault.{unless}
+use Rattle.pieces.specs.declared.BuildingKind.{BuildingKind}
+use Rattle.pieces.specs.declared.Building.{Building}
+
+-- which packet: its kind
+abbrev pub kindIn : BuildingKind → Kind
+kindIn BuildingKind.Forward = Kind.Forward
+kindIn BuildingKind.SendHeaders = Kind.SendHeaders
+
+-- a Forward is being built
+abbrev pub isForward : BuildingKind → Bool
+isForward BuildingKind.Forward = true
+isForward BuildingKind.SendHeaders = false
+
+-- a record's fields as they stand: which packet, the next place, the count's place, headers so far, whether attributes began
+abbrev pub fields : BuildingKind → ℕ → ℕ → ℕ → Bool → Building
+fields kind next count headers attributes =
+    record { kind = kind; next = record { 0 = next }; count = record { 0 = count }; headers = headers; attributes = attributes }
+
+-- how many bytes the count of headers takes
+abbrev pub countSize : ℕ
+countSize = 2
+
+-- a record that can be, over the buffer in which its packet stands: the next place is neither above 8192 nor past the buffer, the
+-- count's place is not under 4 and at least two before the next, at most 100 headers came, and the packet's code is where it should be
+unfoldable pub isPossible : Building → List ℕ → Bool
+isPossible r buffer =
+    both (leb (r .next .0) maxPacket)
+    (both (leb (r .next .0) (length buffer))
+    (both (leb payloadPlace (r .count .0))
+    (both (leb (r .count .0 + countSize) (r .next .0))
+    (both (leb (r .headers) maxHeaders) (eqb (getD buffer codePlace 0) (codeOf (kindIn (r .kind))))))))
+
+-- a header: 16 for an impossible record, and behind an attribute
+unfoldable pub headerFault : Building → List ℕ → ℕ
+headerFault r buffer = unless (both (isPossible r buffer) (not (r .attributes))) recordWrong
+
+-- an attribute: 16 for an impossible record, and on a Send Headers
+unfoldable pub attributeFault : Building → List ℕ → ℕ
+attributeFault r buffer = unless (both (isPossible r buffer) (isForward (r .kind))) recordWrong
+
+-- a header where a hundred came before is 11
+unfoldable pub countFault : Building → ℕ
+countFault r = unless (ltb (r .headers) maxHeaders) tooMany
+
+-- the record behind a header of so many bytes
+abbrev pub withHeader : Building → ℕ → Building
+withHeader r size = fields (r .kind) (r .next .0 + size) (r .count .0) (r .headers + 1) (r .attributes)
+
+-- the record behind an attribute of so many bytes
+abbrev pub withAttribute : Building → ℕ → Building
+withAttribute r size = fields (r .kind) (r .next .0 + size) (r .count .0) (r .headers) true

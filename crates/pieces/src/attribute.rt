@@ -1,0 +1,239 @@
+// An attribute of a Forward: with a string, an integer, or a name and a value.
+ghost use mathlib.Core.Path.{_≡_};
+ghost use mathlib.Core.List.{_∷_, _++_};
+ghost use lib.ListN.{length};
+ghost use Rattle.wire.specs.Bytes.{over, integerBytes};
+ghost use Rattle.wire.specs.Field.{stringBytes};
+ghost use Rattle.wire.specs.Refusal.{attributeWrong};
+ghost use Rattle.fields.specs.Fault.{unless, orElse, firstFault};
+ghost use Rattle.fields.specs.Field.{neededAt, Fits};
+ghost use Rattle.fields.specs.Call.{outcome, bufferAfter};
+ghost use Rattle.pieces.specs.Record.{attributeFault};
+ghost use Rattle.pieces.specs.Meaning.{meaning};
+ghost use Rattle.pieces.specs.Attribute.{isText, isInteger, isPair, textFields, integerFields, pairFields, textCall, integerCall, pairCall};
+use crate::Added;
+use crate::Building;
+use fields::fault;
+use fields::put;
+use fields::size;
+use names::AttributeKind;
+use names::attribute::kind_of;
+use wire::StringField;
+use wire::refusal;
+
+// How many bytes an attribute's code takes, and a value that is an integer.
+const CODE_SIZE: usize = 1;
+
+const INTEGER_SIZE: usize = 2;
+
+// Whether a kind of value is a string.
+fn is_text(kind: AttributeKind) -> bool
+    ensures { λ r. ⌜ r ≡ isText kind ⌝ }
+{
+    match kind {
+        AttributeKind::NotServed => false,
+        AttributeKind::Text => true,
+        AttributeKind::Integer => false,
+        AttributeKind::Pair => false,
+    }
+}
+
+// Whether a kind of value is an integer.
+fn is_integer(kind: AttributeKind) -> bool
+    ensures { λ r. ⌜ r ≡ isInteger kind ⌝ }
+{
+    match kind {
+        AttributeKind::NotServed => false,
+        AttributeKind::Text => false,
+        AttributeKind::Integer => true,
+        AttributeKind::Pair => false,
+    }
+}
+
+// Whether a kind of value is a name and a value.
+fn is_pair(kind: AttributeKind) -> bool
+    ensures { λ r. ⌜ r ≡ isPair kind ⌝ }
+{
+    match kind {
+        AttributeKind::NotServed => false,
+        AttributeKind::Text => false,
+        AttributeKind::Integer => false,
+        AttributeKind::Pair => true,
+    }
+}
+
+// How many bytes a buffer needs for an attribute with a string, 8193 where no packet has room for it.
+pub fn text_needs(building: Building, code: u8, value: &[u8], null: bool) -> usize
+    ensures { λ r. ⌜ r ≡ neededAt (building .next .0) (textFields code null (now (value .entry))) ⌝ }
+{
+    size::string(size::plus(building.next.index(), CODE_SIZE), value, null)
+}
+
+// How many bytes a buffer needs for an attribute with an integer, 8193 where no packet has room for it.
+pub fn integer_needs(building: Building, code: u8, value: u16) -> usize
+    ensures { λ r. ⌜ r ≡ neededAt (building .next .0) (integerFields code value) ⌝ }
+{
+    size::plus(size::plus(building.next.index(), CODE_SIZE), INTEGER_SIZE)
+}
+
+// How many bytes a buffer needs for an attribute with a name and a value, 8193 where no packet has room for it.
+pub fn pair_needs(
+    building: Building,
+    code: u8,
+    name: &[u8],
+    noname: bool,
+    value: &[u8],
+    novalue: bool,
+) -> usize
+    ensures { λ r. ⌜ r ≡ neededAt (building .next .0) (pairFields code noname (now (name .entry)) novalue (now (value .entry))) ⌝ }
+{
+    let at = size::plus(building.next.index(), CODE_SIZE);
+    let at = size::string(at, name, noname);
+    size::string(at, value, novalue)
+}
+
+// The first fault of an attribute up to its value: the record, and a code that takes no value of this kind.
+fn code_fault(building: Building, buffer: &[u8], takes: bool) -> u8
+    ensures { λ r. ⌜ r ≡ orElse (attributeFault building (now (buffer .entry))) (unless takes attributeWrong) ⌝ }
+{
+    fault::or_else(
+        building.attribute_fault(buffer),
+        fault::unless(takes, refusal::ATTRIBUTE_WRONG),
+    )
+}
+
+// The first fault of an attribute with a string.
+fn text_fault(building: Building, buffer: &[u8], code: u8, value: &[u8], null: bool) -> u8
+    ensures { λ r. ⌜ r ≡ firstFault (textCall building (now (buffer .entry)) code null (now (value .entry)) .faults) ⌝ }
+{
+    fault::or_else(
+        code_fault(building, buffer, is_text(kind_of(code))),
+        fault::string(StringField::AttributeValue, value, null),
+    )
+}
+
+// The first fault of an attribute with an integer.
+fn integer_fault(building: Building, buffer: &[u8], code: u8, value: u16) -> u8
+    ensures { λ r. ⌜ r ≡ firstFault (integerCall building (now (buffer .entry)) code value .faults) ⌝ }
+{
+    code_fault(building, buffer, is_integer(kind_of(code)))
+}
+
+// The first fault of an attribute with a name and a value.
+fn pair_fault(
+    building: Building,
+    buffer: &[u8],
+    code: u8,
+    name: &[u8],
+    noname: bool,
+    value: &[u8],
+    novalue: bool,
+) -> u8
+    ensures { λ r. ⌜ r ≡ firstFault (pairCall building (now (buffer .entry)) code noname (now (name .entry)) novalue (now (value .entry)) .faults) ⌝ }
+{
+    let found = fault::or_else(
+        code_fault(building, buffer, is_pair(kind_of(code))),
+        fault::string(StringField::AttributeName, name, noname),
+    );
+    fault::or_else(
+        found,
+        fault::string(StringField::AttributeValue, value, novalue),
+    )
+}
+
+// Writes an attribute with a string.
+fn write_text(buffer: &mut [u8], at: usize, code: u8, value: &[u8], null: bool)
+    requires { ⌜ Fits at (code ∷ stringBytes null (now value)) (now buffer) ⌝ }
+    ensures { λ _. ⌜ now (buffer .exit) ≡ over (now (buffer .entry)) at (code ∷ stringBytes null (now (value .entry))) ⌝ }
+{
+    let at = put::byte(buffer, at, code);
+    put::string(buffer, at, value, null);
+}
+
+// Writes an attribute with an integer.
+fn write_integer(buffer: &mut [u8], at: usize, code: u8, value: u16)
+    requires { ⌜ Fits at (code ∷ integerBytes value) (now buffer) ⌝ }
+    ensures { λ _. ⌜ now (buffer .exit) ≡ over (now (buffer .entry)) at (code ∷ integerBytes value) ⌝ }
+{
+    let at = put::byte(buffer, at, code);
+    put::integer(buffer, at, value);
+}
+
+// Writes an attribute with a name and a value.
+fn write_pair(
+    buffer: &mut [u8],
+    at: usize,
+    code: u8,
+    name: &[u8],
+    noname: bool,
+    value: &[u8],
+    novalue: bool,
+)
+    requires { ⌜ Fits at (code ∷ (stringBytes noname (now name) ++ stringBytes novalue (now value))) (now buffer) ⌝ }
+    ensures { λ _. ⌜ now (buffer .exit) ≡ over (now (buffer .entry)) at (code ∷ (stringBytes noname (now (name .entry)) ++ stringBytes novalue (now (value .entry)))) ⌝ }
+{
+    let at = put::byte(buffer, at, code);
+    put::two_strings(buffer, at, name, noname, value, novalue);
+}
+
+// Adds an attribute with a string.
+pub fn text(building: Building, buffer: &mut [u8], code: u8, value: &[u8], null: bool) -> Added
+    ensures { λ r. ⌜ meaning r ≡ outcome (textCall building (now (buffer .entry)) code null (now (value .entry))) (length (now (buffer .entry))) ⌝ }
+    ensures { λ _. ⌜ now (buffer .exit) ≡ bufferAfter (textCall building (now (buffer .entry)) code null (now (value .entry))) (now (buffer .entry)) ⌝ }
+{
+    let end = text_needs(building, code, value, null);
+    let found = text_fault(building, buffer, code, value, null);
+    let found = fault::or_else(found, fault::fit(end, buffer.len()));
+    if found != refusal::NONE {
+        return Added::Refused(found);
+    }
+    write_text(buffer, building.next.index(), code, value, null);
+    Added::Next(building.with_attribute(end))
+}
+
+// Adds an attribute with an integer.
+pub fn integer(building: Building, buffer: &mut [u8], code: u8, value: u16) -> Added
+    ensures { λ r. ⌜ meaning r ≡ outcome (integerCall building (now (buffer .entry)) code value) (length (now (buffer .entry))) ⌝ }
+    ensures { λ _. ⌜ now (buffer .exit) ≡ bufferAfter (integerCall building (now (buffer .entry)) code value) (now (buffer .entry)) ⌝ }
+{
+    let end = integer_needs(building, code, value);
+    let found = integer_fault(building, buffer, code, value);
+    let found = fault::or_else(found, fault::fit(end, buffer.len()));
+    if found != refusal::NONE {
+        return Added::Refused(found);
+    }
+    write_integer(buffer, building.next.index(), code, value);
+    Added::Next(building.with_attribute(end))
+}
+
+// Adds an attribute with a name and a value. `noname` and `novalue` say that the string is null; the text given for it is then not
+// looked at.
+pub fn pair(
+    building: Building,
+    buffer: &mut [u8],
+    code: u8,
+    name: &[u8],
+    noname: bool,
+    value: &[u8],
+    novalue: bool,
+) -> Added
+    ensures { λ r. ⌜ meaning r ≡ outcome (pairCall building (now (buffer .entry)) code noname (now (name .entry)) novalue (now (value .entry))) (length (now (buffer .entry))) ⌝ }
+    ensures { λ _. ⌜ now (buffer .exit) ≡ bufferAfter (pairCall building (now (buffer .entry)) code noname (now (name .entry)) novalue (now (value .entry))) (now (buffer .entry)) ⌝ }
+{
+    let end = pair_needs(building, code, name, noname, value, novalue);
+    let found = pair_fault(building, buffer, code, name, noname, value, novalue);
+    let found = fault::or_else(found, fault::fit(end, buffer.len()));
+    if found != refusal::NONE {
+        return Added::Refused(found);
+    }
+    write_pair(
+        buffer,
+        building.next.index(),
+        code,
+        name,
+        noname,
+        value,
+        novalue,
+    );
+    Added::Next(building.with_attribute(end))
+}

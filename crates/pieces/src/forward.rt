@@ -1,0 +1,167 @@
+// The fixed fields of a Forward.
+ghost use mathlib.Core.Path.{_≡_};
+ghost use Prim.Native.Nat.{_+_, _≤_};
+ghost use lib.ListN.{length};
+ghost use Rattle.wire.specs.Bytes.{over};
+ghost use Rattle.payload.specs.Forward.{lastMethod};
+ghost use Rattle.fields.specs.Fault.{firstFault};
+ghost use Rattle.fields.specs.Field.{faultsOf, bytesOf, neededAt, Fits};
+ghost use Rattle.fields.specs.Call.{outcome, bufferAfter};
+ghost use Rattle.pieces.specs.declared.BuildingKind.{BuildingKind};
+ghost use Rattle.pieces.specs.Meaning.{meaning};
+ghost use Rattle.pieces.specs.Fixed.{fixed, forwardFields, forwardCall};
+ghost use Rattle.pieces.specs.Private.{forwardStrings, forwardTail};
+use crate::Added;
+use crate::BuildingKind;
+use crate::opened;
+use connection::Kind;
+use fields::fault;
+use fields::put;
+use fields::size;
+use payload::forward::FIRST_METHOD;
+use payload::forward::LAST_METHOD;
+use wire::StringField;
+use wire::refusal;
+
+// A Forward's fixed numbers.
+pub struct Numbers {
+    pub method: u16,
+    pub server_port: u16,
+    pub is_ssl: bool,
+}
+
+// Which of a Forward's strings are null; the text given for such a one is not looked at.
+pub struct Nulls {
+    pub protocol: bool,
+    pub req_uri: bool,
+    pub remote_addr: bool,
+    pub remote_host: bool,
+    pub server_name: bool,
+}
+
+// The bytes in front of the first string: four, the code and the method. Behind the last one: port, is_ssl and the count.
+const BEFORE_STRINGS: usize = 6;
+
+const BEHIND_STRINGS: usize = 5;
+
+// How many bytes a buffer needs for the fixed fields, 8193 where no packet has room for them.
+pub fn needs(
+    numbers: Numbers,
+    nulls: Nulls,
+    protocol: &[u8],
+    uri: &[u8],
+    addr: &[u8],
+    host: &[u8],
+    name: &[u8],
+) -> usize
+    ensures { λ r. ⌜ r ≡ neededAt 0 (fixed BuildingKind.Forward (forwardFields numbers nulls (now (protocol .entry)) (now (uri .entry)) (now (addr .entry)) (now (host .entry)) (now (name .entry)))) ⌝ }
+{
+    let at = size::string(BEFORE_STRINGS, protocol, nulls.protocol);
+    let at = size::string(at, uri, nulls.req_uri);
+    let at = size::string(at, addr, nulls.remote_addr);
+    let at = size::string(at, host, nulls.remote_host);
+    let at = size::string(at, name, nulls.server_name);
+    size::plus(at, BEHIND_STRINGS)
+}
+
+// The first fault of the fixed fields.
+fn fields_fault(
+    numbers: Numbers,
+    nulls: Nulls,
+    protocol: &[u8],
+    uri: &[u8],
+    addr: &[u8],
+    host: &[u8],
+    name: &[u8],
+) -> u8
+    ensures { λ r. ⌜ r ≡ firstFault (faultsOf (fixed BuildingKind.Forward (forwardFields numbers nulls (now (protocol .entry)) (now (uri .entry)) (now (addr .entry)) (now (host .entry)) (now (name .entry))))) ⌝ }
+{
+    let method = fault::range(numbers.method, FIRST_METHOD, LAST_METHOD);
+    let first = fault::string(StringField::Protocol, protocol, nulls.protocol);
+    let second = fault::string(StringField::ReqUri, uri, nulls.req_uri);
+    let third = fault::string(StringField::RemoteAddr, addr, nulls.remote_addr);
+    let fourth = fault::string(StringField::RemoteHost, host, nulls.remote_host);
+    let fifth = fault::string(StringField::ServerName, name, nulls.server_name);
+    let found = fault::or_else(method, first);
+    let found = fault::or_else(found, second);
+    let found = fault::or_else(found, third);
+    let found = fault::or_else(found, fourth);
+    fault::or_else(found, fifth)
+}
+
+// Writes the five strings and tells the place behind them.
+fn strings(
+    buffer: &mut [u8],
+    at: usize,
+    nulls: Nulls,
+    protocol: &[u8],
+    uri: &[u8],
+    addr: &[u8],
+    host: &[u8],
+    name: &[u8],
+) -> usize
+    requires { ⌜ Fits at (bytesOf (forwardStrings nulls (now protocol) (now uri) (now addr) (now host) (now name))) (now buffer) ⌝ }
+    ensures { λ r. ⌜ r ≡ at + length (bytesOf (forwardStrings nulls (now (protocol .entry)) (now (uri .entry)) (now (addr .entry)) (now (host .entry)) (now (name .entry)))) ⌝ }
+    ensures { λ _. ⌜ now (buffer .exit) ≡ over (now (buffer .entry)) at (bytesOf (forwardStrings nulls (now (protocol .entry)) (now (uri .entry)) (now (addr .entry)) (now (host .entry)) (now (name .entry)))) ⌝ }
+{
+    let at = put::string(buffer, at, protocol, nulls.protocol);
+    let at = put::string(buffer, at, uri, nulls.req_uri);
+    let at = put::string(buffer, at, addr, nulls.remote_addr);
+    let at = put::string(buffer, at, host, nulls.remote_host);
+    put::string(buffer, at, name, nulls.server_name)
+}
+
+// Writes what stands behind the strings: port, is_ssl, and 0 for the count.
+fn tail(buffer: &mut [u8], at: usize, numbers: Numbers) -> usize
+    requires { ⌜ Fits at (bytesOf (forwardTail numbers)) (now buffer) ⌝ }
+    ensures { λ r. ⌜ r ≡ at + length (bytesOf (forwardTail numbers)) ⌝ }
+    ensures { λ _. ⌜ now (buffer .exit) ≡ over (now (buffer .entry)) at (bytesOf (forwardTail numbers)) ⌝ }
+{
+    let at = put::integer(buffer, at, numbers.server_port);
+    let at = put::boolean(buffer, at, numbers.is_ssl);
+    put::integer(buffer, at, 0)
+}
+
+// Writes the fixed fields.
+fn write(
+    buffer: &mut [u8],
+    numbers: Numbers,
+    nulls: Nulls,
+    protocol: &[u8],
+    uri: &[u8],
+    addr: &[u8],
+    host: &[u8],
+    name: &[u8],
+)
+    requires { ⌜ (Fits 0 (bytesOf (fixed BuildingKind.Forward (forwardFields numbers nulls (now protocol) (now uri) (now addr) (now host) (now name)))) (now buffer)) × (numbers .method ≤ lastMethod) ⌝ }
+    ensures { λ _. ⌜ now (buffer .exit) ≡ over (now (buffer .entry)) 0 (bytesOf (fixed BuildingKind.Forward (forwardFields numbers nulls (now (protocol .entry)) (now (uri .entry)) (now (addr .entry)) (now (host .entry)) (now (name .entry))))) ⌝ }
+{
+    let at = put::open(buffer, Kind::Forward, 0);
+    let at = put::byte(buffer, at, numbers.method as u8);
+    let at = strings(buffer, at, nulls, protocol, uri, addr, host, name);
+    tail(buffer, at, numbers);
+}
+
+// Begins a Forward: writes its fixed fields at the buffer's start, its length and its count as 0, and answers the building record.
+pub fn begin(
+    buffer: &mut [u8],
+    numbers: Numbers,
+    nulls: Nulls,
+    protocol: &[u8],
+    uri: &[u8],
+    addr: &[u8],
+    host: &[u8],
+    name: &[u8],
+) -> Added
+    ensures { λ r. ⌜ meaning r ≡ outcome (forwardCall numbers nulls (now (protocol .entry)) (now (uri .entry)) (now (addr .entry)) (now (host .entry)) (now (name .entry))) (length (now (buffer .entry))) ⌝ }
+    ensures { λ _. ⌜ now (buffer .exit) ≡ bufferAfter (forwardCall numbers nulls (now (protocol .entry)) (now (uri .entry)) (now (addr .entry)) (now (host .entry)) (now (name .entry))) (now (buffer .entry)) ⌝ }
+{
+    let end = needs(numbers, nulls, protocol, uri, addr, host, name);
+    let found = fields_fault(numbers, nulls, protocol, uri, addr, host, name);
+    let found = fault::or_else(found, fault::fit(end, buffer.len()));
+    if found != refusal::NONE {
+        return Added::Refused(found);
+    }
+    write(buffer, numbers, nulls, protocol, uri, addr, host, name);
+    Added::Next(opened(BuildingKind::Forward, end))
+}

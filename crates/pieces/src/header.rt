@@ -1,0 +1,160 @@
+// A header, of a Forward or of a Send Headers.
+ghost use mathlib.Core.Path.{_≡_};
+ghost use mathlib.Core.List.{_++_};
+ghost use lib.ListN.{length};
+ghost use Rattle.wire.specs.Bytes.{over, integerBytes};
+ghost use Rattle.wire.specs.Field.{stringBytes};
+ghost use Rattle.fields.specs.Fault.{firstFault};
+ghost use Rattle.fields.specs.Field.{neededAt, Fits};
+ghost use Rattle.fields.specs.Call.{outcome, bufferAfter};
+ghost use Rattle.pieces.specs.Meaning.{meaning};
+ghost use Rattle.pieces.specs.Header.{directionIn, declaringFault, valueFault, spelledName, codedFields, spelledFields, codedCall, spelledCall};
+use crate::Added;
+use crate::Building;
+use fields::fault;
+use fields::put;
+use fields::size;
+use headers::declared_by;
+use headers::declares_length;
+use names::header::code_fault;
+use names::header::spelled_fault;
+use names::length::Declared;
+use names::length::Declaring;
+use wire::Direction;
+use wire::StringField;
+use wire::refusal;
+
+// How many bytes a name that is a code takes.
+const CODE_SIZE: usize = 2;
+
+// How many bytes a buffer needs for a header with a code for its name, 8193 where no packet has room for it.
+pub fn coded_needs(building: Building, code: u16, value: &[u8], null: bool) -> usize
+    ensures { λ r. ⌜ r ≡ neededAt (building .next .0) (codedFields (directionIn building) code null (now (value .entry))) ⌝ }
+{
+    size::string(size::plus(building.next.index(), CODE_SIZE), value, null)
+}
+
+// How many bytes a buffer needs for a header with a spelled name, 8193 where no packet has room for it.
+pub fn spelled_needs(
+    building: Building,
+    name: &[u8],
+    noname: bool,
+    value: &[u8],
+    novalue: bool,
+) -> usize
+    ensures { λ r. ⌜ r ≡ neededAt (building .next .0) (spelledFields (directionIn building) noname (now (name .entry)) novalue (now (value .entry))) ⌝ }
+{
+    size::string(
+        size::string(building.next.index(), name, noname),
+        value,
+        novalue,
+    )
+}
+
+// The fault of what a value declares.
+fn declaring_fault(declaring: Declaring) -> u8
+    ensures { λ r. ⌜ r ≡ declaringFault declaring ⌝ }
+{
+    match declaring {
+        Declaring::Refused(n) => n,
+        Declaring::Now(_) => refusal::NONE,
+    }
+}
+
+// The fault of a header's value.
+fn value_fault(declares: bool, text: &[u8], null: bool) -> u8
+    ensures { λ r. ⌜ r ≡ valueFault declares null (now (text .entry)) ⌝ }
+{
+    fault::or_else(
+        fault::string(StringField::HeaderValue, text, null),
+        declaring_fault(declared_by(declares, Declared::Absent, text, null)),
+    )
+}
+
+// The fault of a header's spelled name.
+fn name_fault(direction: Direction, text: &[u8], null: bool) -> u8
+    ensures { λ r. ⌜ r ≡ spelledName direction null (now (text .entry)) .fault ⌝ }
+{
+    fault::or_else(
+        fault::string(StringField::HeaderName, text, null),
+        spelled_fault(direction, text),
+    )
+}
+
+// The first fault of a header by code: the record, the name, the value, the number of headers.
+fn coded_fault(building: Building, buffer: &[u8], code: u16, value: &[u8], null: bool) -> u8
+    ensures { λ r. ⌜ r ≡ firstFault (codedCall building (now (buffer .entry)) code null (now (value .entry)) .faults) ⌝ }
+{
+    let direction = building.direction();
+    let found = fault::or_else(building.header_fault(buffer), code_fault(direction, code));
+    let found = fault::or_else(
+        found,
+        value_fault(declares_length(direction, code), value, null),
+    );
+    fault::or_else(found, building.count_fault())
+}
+
+// The first fault of a header with a spelled name.
+fn spelled_name_fault(
+    building: Building,
+    buffer: &[u8],
+    name: &[u8],
+    noname: bool,
+    value: &[u8],
+    novalue: bool,
+) -> u8
+    ensures { λ r. ⌜ r ≡ firstFault (spelledCall building (now (buffer .entry)) noname (now (name .entry)) novalue (now (value .entry)) .faults) ⌝ }
+{
+    let found = fault::or_else(
+        building.header_fault(buffer),
+        name_fault(building.direction(), name, noname),
+    );
+    let found = fault::or_else(found, value_fault(false, value, novalue));
+    fault::or_else(found, building.count_fault())
+}
+
+// Writes a header with a code for its name.
+fn write_coded(buffer: &mut [u8], at: usize, code: u16, value: &[u8], null: bool)
+    requires { ⌜ Fits at (integerBytes code ++ stringBytes null (now value)) (now buffer) ⌝ }
+    ensures { λ _. ⌜ now (buffer .exit) ≡ over (now (buffer .entry)) at (integerBytes code ++ stringBytes null (now (value .entry))) ⌝ }
+{
+    let at = put::integer(buffer, at, code);
+    put::string(buffer, at, value, null);
+}
+
+// Adds a header with a code for its name.
+pub fn coded(building: Building, buffer: &mut [u8], code: u16, value: &[u8], null: bool) -> Added
+    ensures { λ r. ⌜ meaning r ≡ outcome (codedCall building (now (buffer .entry)) code null (now (value .entry))) (length (now (buffer .entry))) ⌝ }
+    ensures { λ _. ⌜ now (buffer .exit) ≡ bufferAfter (codedCall building (now (buffer .entry)) code null (now (value .entry))) (now (buffer .entry)) ⌝ }
+{
+    let end = coded_needs(building, code, value, null);
+    let found = coded_fault(building, buffer, code, value, null);
+    let found = fault::or_else(found, fault::fit(end, buffer.len()));
+    if found != refusal::NONE {
+        return Added::Refused(found);
+    }
+    write_coded(buffer, building.next.index(), code, value, null);
+    Added::Next(building.with_header(end))
+}
+
+// Adds a header with a spelled name. `noname` and `novalue` say that the string is null; the text given for it is then not looked at.
+pub fn spelled(
+    building: Building,
+    buffer: &mut [u8],
+    name: &[u8],
+    noname: bool,
+    value: &[u8],
+    novalue: bool,
+) -> Added
+    ensures { λ r. ⌜ meaning r ≡ outcome (spelledCall building (now (buffer .entry)) noname (now (name .entry)) novalue (now (value .entry))) (length (now (buffer .entry))) ⌝ }
+    ensures { λ _. ⌜ now (buffer .exit) ≡ bufferAfter (spelledCall building (now (buffer .entry)) noname (now (name .entry)) novalue (now (value .entry))) (now (buffer .entry)) ⌝ }
+{
+    let end = spelled_needs(building, name, noname, value, novalue);
+    let found = spelled_name_fault(building, buffer, name, noname, value, novalue);
+    let found = fault::or_else(found, fault::fit(end, buffer.len()));
+    if found != refusal::NONE {
+        return Added::Refused(found);
+    }
+    put::two_strings(buffer, building.next.index(), name, noname, value, novalue);
+    Added::Next(building.with_header(end))
+}

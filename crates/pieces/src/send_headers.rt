@@ -1,0 +1,70 @@
+// The fixed fields of a Send Headers.
+ghost use mathlib.Core.Path.{_≡_};
+ghost use lib.ListN.{length};
+ghost use Rattle.wire.specs.Bytes.{over};
+ghost use Rattle.fields.specs.Fault.{firstFault};
+ghost use Rattle.fields.specs.Field.{faultsOf, bytesOf, neededAt, Fits};
+ghost use Rattle.fields.specs.Call.{outcome, bufferAfter};
+ghost use Rattle.pieces.specs.declared.BuildingKind.{BuildingKind};
+ghost use Rattle.pieces.specs.Meaning.{meaning};
+ghost use Rattle.pieces.specs.Fixed.{fixed, sendHeadersFields, sendHeadersCall};
+use crate::Added;
+use crate::BuildingKind;
+use crate::COUNT_SIZE;
+use crate::opened;
+use connection::Kind;
+use fields::fault;
+use fields::put;
+use fields::size;
+use payload::send_headers::GREATEST_STATUS;
+use payload::send_headers::LEAST_STATUS;
+use wire::StringField;
+use wire::refusal;
+
+// The bytes in front of the message: four, the code and the status.
+const BEFORE_MESSAGE: usize = 7;
+
+// How many bytes a buffer needs for the fixed fields, 8193 where no packet has room for them.
+pub fn needs(status: u16, message: &[u8], null: bool) -> usize
+    ensures { λ r. ⌜ r ≡ neededAt 0 (fixed BuildingKind.SendHeaders (sendHeadersFields status null (now (message .entry)))) ⌝ }
+{
+    size::plus(size::string(BEFORE_MESSAGE, message, null), COUNT_SIZE)
+}
+
+// The first fault of the fixed fields.
+fn fields_fault(status: u16, message: &[u8], null: bool) -> u8
+    ensures { λ r. ⌜ r ≡ firstFault (faultsOf (fixed BuildingKind.SendHeaders (sendHeadersFields status null (now (message .entry))))) ⌝ }
+{
+    fault::or_else(
+        fault::range(status, LEAST_STATUS, GREATEST_STATUS),
+        fault::string(StringField::Message, message, null),
+    )
+}
+
+// Writes the fixed fields.
+fn write(buffer: &mut [u8], status: u16, message: &[u8], null: bool)
+    requires { ⌜ Fits 0 (bytesOf (fixed BuildingKind.SendHeaders (sendHeadersFields status null (now message)))) (now buffer) ⌝ }
+    ensures { λ _. ⌜ now (buffer .exit) ≡ over (now (buffer .entry)) 0 (bytesOf (fixed BuildingKind.SendHeaders (sendHeadersFields status null (now (message .entry))))) ⌝ }
+{
+    let at = put::open(buffer, Kind::SendHeaders, 0);
+    let at = put::integer(buffer, at, status);
+    let at = put::string(buffer, at, message, null);
+    put::integer(buffer, at, 0);
+}
+
+// Begins a Send Headers: writes its fixed fields at the buffer's start, its length and its count as 0, and answers the building record.
+pub fn begin(buffer: &mut [u8], status: u16, message: &[u8], null: bool) -> Added
+    ensures { λ r. ⌜ meaning r ≡ outcome (sendHeadersCall status null (now (message .entry))) (length (now (buffer .entry))) ⌝ }
+    ensures { λ _. ⌜ now (buffer .exit) ≡ bufferAfter (sendHeadersCall status null (now (message .entry))) (now (buffer .entry)) ⌝ }
+{
+    let end = needs(status, message, null);
+    let found = fault::or_else(
+        fields_fault(status, message, null),
+        fault::fit(end, buffer.len()),
+    );
+    if found != refusal::NONE {
+        return Added::Refused(found);
+    }
+    write(buffer, status, message, null);
+    Added::Next(opened(BuildingKind::SendHeaders, end))
+}

@@ -1,0 +1,148 @@
+-- What a call that sends comes to, by what `ready` answered: its answer, its buffer, and that the packet fits where it is written. Then
+-- the packets as rows of fields, and a packet that is written row by row.
+-- Assumes nothing.
+use native.Mathlib.Omega.{arith}
+use native.Mathlib.Nat.{zero-add}
+use borrow.Author.Tests.{eqb-true, eqb-false, eq-eqb, ne-eqb}
+use mathlib.Core.Path.{_≡_, refl, sym, ap, subst, _∙_}
+use mathlib.Core.Bool.{Bool, true, false}
+use mathlib.Core.List.{List, [], _∷_, _++_}
+use Prim.Native.Nat.{ℕ, _+_}
+use lib.Dec.{eqb}
+use lib.ListN.{length, length-append}
+use Rattle.wire.specs.Pick.{pick}
+use Rattle.wire.specs.Refusal.{notNow, sizeWrong}
+use Rattle.wire.specs.Bytes.{over, integerBytes}
+use Rattle.wire.specs.Field.{booleanBytes, stringBytes}
+use Rattle.wire.specs.Packet.{head, packet}
+use Rattle.wire.specs.declared.Direction.{Direction}
+use Rattle.connection.specs.Cycle.{kindOf, inState, inSize, after, stepOf}
+use Rattle.connection.specs.declared.Connection.{Connection}
+use Rattle.connection.specs.declared.Kind.{Kind}
+use Rattle.connection.specs.declared.Move.{Move}
+use Rattle.connection.specs.declared.Step.{Step}
+use Rattle.fields.specs.Fault.{unless, orElse, firstFault, fitFault}
+use Rattle.fields.specs.Field.{opening, sizeTold, Fits}
+use Rattle.fields.specs.Call.{Call, Outcome, refused, done, answered, refusalOf, outcome, bufferAfter}
+use Rattle.fields.proofs.Sizes.{told-exact}
+use Rattle.fields.proofs.Rows.{fits-later, joined}
+use Rattle.fields.proofs.Calls.{found-by, refused-buffer, done-buffer, done-fits}
+use Rattle.writer.specs.declared.Sent.{Sent}
+use Rattle.writer.specs.Meaning.{Written, meaning}
+use Rattle.writer.specs.Private.{isWritten, readyOf}
+use Rattle.writer.specs.Sending.{packetOf, sending, bodyPayload, chunkPayload, endPayload}
+
+-- what `ready` promises: what the step comes to, and then whether the packet fits
+abbrev onStep : ℕ → ℕ → Step → Outcome Written
+onStep size room (Step.Refused n) = refused n
+onStep size room (Step.Next d) = answered (fitFault size room) (record { length = size; connection = d })
+
+module _ (c : Connection) (m : Move) (size room : ℕ) where
+  pub ready-step : (s : Step) → s ≡ stepOf c m → onStep size room s ≡ readyOf c m size room
+  unfolding stepOf readyOf
+  ready-step s e = ap (onStep size room) e ∙ go (inState c (kindOf m)) (inSize c m)
+    where
+      go : (a b : Bool) → onStep size room (pick a (pick b (Step.Next (after c m)) (Step.Refused sizeWrong)) (Step.Refused notNow))
+          ≡ answered (orElse (firstFault (unless a notNow ∷ unless b sizeWrong ∷ [])) (fitFault size room))
+          (record { length = size; connection = after c m })
+      go true true = refl
+      go true false = refl
+      go false b = refl
+
+  pub ready-next : (d : Connection) (fit : ℕ) (t : Bool) → Step.Next d ≡ stepOf c m → fit ≡ fitFault size room → eqb fit 0 ≡ t
+      → pick t (done (record { length = size; connection = d })) (refused fit) ≡ readyOf c m size room
+  ready-next d fit t e f h = rw (← h, f) (ready-step (Step.Next d) e)
+
+-- what is answered matters only where there is no fault
+answered-same : (fault : ℕ) (v w : Written) → (fault ≡ 0 → v ≡ w) → answered fault v ≡ answered fault w
+answered-same fault v w e = go (eqb fault 0) refl
+  where
+    go : (t : Bool) → eqb fault 0 ≡ t → pick t (done v) (refused fault) ≡ pick t (done w) (refused fault)
+    go true h = ap done (e (eqb-true fault 0 h))
+    go false h = refl
+
+-- what `ready` promises for the size that is told of a packet is what sending it comes to: a size that fits is told as it is
+ready-outcome : (c : Connection) (m : Move) (payload buffer : List ℕ) (size : ℕ) → size ≡ sizeTold (length (packetOf m payload))
+    → readyOf c m size (length buffer) ≡ outcome (sending c m payload) (length buffer)
+unfolding readyOf outcome
+ready-outcome c m payload buffer size told =
+    let call : Call Written = sending c m payload in
+    let fault : ℕ = refusalOf call (length buffer) in
+    ap (λ (f : ℕ). answered f (record { length = size; connection = after c m }))
+    (found-by call (length buffer) _ _ size _ refl refl (told ∙ ap sizeTold (sym (zero-add _))) refl)
+    ∙ answered-same fault _ _ (λ h.
+    let fits : Fits 0 (packetOf m payload) buffer = done-fits call buffer fault refl h in
+    ap (λ (n : ℕ). record { length = n; connection = after c m }) (told ∙ told-exact (length (packetOf m payload)) (omega arith)))
+
+-- an answer says that the packet is written exactly where there is no fault
+written-none : (r : Sent) (fault : ℕ) (w : Written) → meaning r ≡ answered fault w → isWritten r ≡ eqb fault 0
+written-none r fault w e = go r (eqb fault 0) e
+  where
+    go : (r : Sent) (t : Bool) → meaning r ≡ pick t (done w) (refused fault) → isWritten r ≡ t
+    go (Sent.Refused n) true e = absurd (let z : _≡_ {A = ℕ} 0 1 = cc in omega arith)
+    go (Sent.Refused n) false e = refl
+    go (Sent.Written length connection) true e = refl
+    go (Sent.Written length connection) false e = absurd (let z : _≡_ {A = ℕ} 0 1 = cc in omega arith)
+
+-- an answer is a call's, and whether it says that the packet is written tells what becomes of the buffer: written, the packet fits and the
+-- buffer with it is the call's; not written, the buffer as it was is the call's
+pub record Sends (call : Call Written) (buffer : List ℕ) (r : Sent) (written : Bool) : Type 0 where
+  pub answer : meaning r ≡ outcome call (length buffer)
+  pub fits : written ≡ true → Fits (call .at) (call .bytes) buffer
+  pub stands : written ≡ true → over buffer (call .at) (call .bytes) ≡ bufferAfter call buffer
+  pub kept : written ≡ false → buffer ≡ bufferAfter call buffer
+
+-- so it is with what `ready` answers for the size that is told of the packet
+pub sends : (c : Connection) (m : Move) (payload buffer : List ℕ) (size : ℕ) (r : Sent) (written : Bool)
+    → size ≡ sizeTold (length (packetOf m payload)) → meaning r ≡ readyOf c m size (length buffer) → written ≡ isWritten r
+    → Sends (sending c m payload) buffer r written
+unfolding outcome
+sends c m payload buffer size r written told ready is =
+    let call : Call Written = sending c m payload in
+    let fault : ℕ = refusalOf call (length buffer) in
+    let answer : meaning r ≡ outcome call (length buffer) = ready ∙ ready-outcome c m payload buffer size told in
+    let none : eqb fault 0 ≡ written = sym (is ∙ written-none r fault (call .answer) answer) in
+    record {
+      answer = answer;
+      fits = λ w. done-fits call buffer fault refl (eqb-true fault 0 (none ∙ w));
+      stands = λ w. done-buffer call buffer fault refl (eqb-true fault 0 (none ∙ w));
+      kept = λ w. refused-buffer call buffer fault refl (eqb-false fault 0 (none ∙ w));
+    }
+
+-- the packets as their fields in a row
+pub end-row : (reuse : Bool) → packetOf (Move.End reuse) (endPayload reuse) ≡ opening Kind.End 2 ++ booleanBytes reuse
+end-row true = refl
+end-row false = refl
+
+pub end-size : (reuse : Bool) → length (packetOf (Move.End reuse) (endPayload reuse)) ≡ 6
+end-size true = refl
+end-size false = refl
+
+pub chunk-row : (bytes : List ℕ)
+    → packetOf (Move.BodyChunk (length bytes)) (chunkPayload bytes) ≡ opening Kind.BodyChunk (length bytes + 4) ++ stringBytes false bytes
+unfolding stringBytes
+chunk-row bytes =
+    let n : length (chunkPayload bytes) ≡ length bytes + 4 = omega (arith, length-append bytes (0 ∷ [])) in
+    ap (λ (k : ℕ). head Direction.ToServer k ++ chunkPayload bytes) n
+
+pub body-none : (bytes : List ℕ) → length bytes ≡ 0 → packetOf (Move.Body (length bytes)) (bodyPayload bytes) ≡ head Direction.ToContainer 0
+body-none bytes h = ap (λ (t : Bool). packet Direction.ToContainer (pick t [] (integerBytes (length bytes) ++ bytes))) (eq-eqb (length bytes) 0 h)
+
+pub body-row : (bytes : List ℕ) → (length bytes ≡ 0 → ⊥)
+    → packetOf (Move.Body (length bytes)) (bodyPayload bytes)
+    ≡ head Direction.ToContainer (length bytes + 2) ++ (integerBytes (length bytes) ++ bytes)
+body-row bytes h =
+    let n : length (integerBytes (length bytes) ++ bytes) ≡ length bytes + 2 = omega arith in
+    ap (λ (t : Bool). packet Direction.ToContainer (pick t [] (integerBytes (length bytes) ++ bytes))) (ne-eqb (length bytes) 0 h)
+    ∙ ap (λ (k : ℕ). head Direction.ToContainer k ++ (integerBytes (length bytes) ++ bytes)) n
+
+-- a packet written in two rows of bytes, where all of it fits: the second fits behind the first, and with it the packet stands there
+module _ (l p a b : List ℕ) (row : p ≡ a ++ b) (h : Fits 0 p l) (x : List ℕ) (next : ℕ) (e : x ≡ over l 0 a) (f : next ≡ length a) where
+  row-fits : Fits 0 (a ++ b) l
+  row-fits = subst (λ (q : List ℕ). Fits 0 q l) row h
+
+  pub second-fits : Fits next b x
+  second-fits = fits-later l 0 a b row-fits x next e (f ∙ sym (zero-add (length a)))
+
+  pub packet-stands : (y : List ℕ) → y ≡ over x next b → y ≡ over l 0 p
+  packet-stands y g = joined l 0 a b row-fits x y next e (f ∙ sym (zero-add (length a))) g ∙ ap (over l 0) (sym row)

@@ -1,0 +1,18 @@
+-- What the answer of a call that sends says, in document 01's terms: refused with a number, or written, with the packet's length and the
+-- connection after it.
+-- Document 01, 'Building'.
+-- Assumes nothing.
+use Prim.Native.Nat.{ℕ}
+use Rattle.connection.specs.declared.Connection.{Connection}
+use Rattle.fields.specs.Call.{Outcome, refused, done}
+use Rattle.writer.specs.declared.Sent.{Sent}
+
+-- a packet that stands in the buffer from its first byte on: how long it is, and the connection after it
+pub record Written : Type 0 where
+  pub length : ℕ
+  pub connection : Connection
+
+-- what each case of the answer says
+abbrev pub meaning : Sent → Outcome Written
+meaning (Sent.Refused n) = refused n
+meaning (Sent.Written length connection) = done (record { length = length; connection = connection })

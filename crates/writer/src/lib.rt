@@ -1,0 +1,239 @@
+// The packets that one call builds: CPing and body packet at the server's end; CPong, Send Body Chunk, Get Body Chunk and End at the
+// container's. A packet stands from the buffer's first byte on; its length and the connection after it are answered, and no byte behind it
+// is touched. A refusal leaves the buffer as it was, and the connection given still counts. Every call answers for any connection, any
+// buffer and any bytes. A buffer of 8192 bytes is long enough for every packet.
+ghost use mathlib.Core.Path.{_≡_};
+ghost use lib.ListN.{length};
+ghost use Rattle.wire.specs.Bytes.{over};
+ghost use Rattle.connection.specs.declared.Move.{Move};
+ghost use Rattle.fields.specs.Field.{sizeTold, Fits};
+ghost use Rattle.fields.specs.Call.{outcome, bufferAfter};
+ghost use Rattle.writer.specs.Meaning.{meaning};
+ghost use Rattle.writer.specs.Private.{isWritten, readyOf};
+ghost use Rattle.writer.specs.Sending.{packetOf, bodyPayload, chunkPayload, getPayload, endPayload, cpingCall, cpongCall, bodyCall, chunkCall, getCall, endCall};
+use connection::Connection;
+use connection::Kind;
+use connection::Move;
+use connection::Step;
+use fields::fault;
+use fields::put;
+use fields::size;
+use payload::AFTER_CODE;
+use payload::PAYLOAD_PLACE;
+use payload::body::BODY_START;
+use wire::Direction;
+use wire::refusal;
+
+// How many bytes the payload has whose code is all, of a Get Body Chunk, and of an End.
+const BARE_PAYLOAD: u16 = 1;
+
+const GET_BODY_PAYLOAD: u16 = 3;
+
+const END_PAYLOAD: u16 = 2;
+
+// How many bytes a chunk's payload has beside the chunk: the code, the length and the zero; and a body packet's beside the body: the size.
+const AROUND_CHUNK: usize = 4;
+
+const BEFORE_BODY: usize = 2;
+
+// What a call that sends answers: the refusal's number, or the packet's length and the connection after it.
+pub enum Sent {
+    Refused(u8),
+    Written {
+        length: usize,
+        connection: Connection,
+    },
+}
+
+// How many bytes a buffer needs for a body packet with these bytes, 8193 where no packet has room for them.
+pub fn body_needs(bytes: &[u8]) -> usize
+    ensures { λ r. ⌜ r ≡ sizeTold (length (packetOf (Move.Body (length (now (bytes .entry)))) (bodyPayload (now (bytes .entry))))) ⌝ }
+{
+    if bytes.len() == 0 {
+        return PAYLOAD_PLACE;
+    }
+    size::plus(BODY_START as usize, bytes.len())
+}
+
+// How many bytes a buffer needs for a Send Body Chunk with these bytes, 8193 where no packet has room for them.
+pub fn body_chunk_needs(bytes: &[u8]) -> usize
+    ensures { λ r. ⌜ r ≡ sizeTold (length (packetOf (Move.BodyChunk (length (now (bytes .entry)))) (chunkPayload (now (bytes .entry))))) ⌝ }
+{
+    size::string(AFTER_CODE, bytes, false)
+}
+
+// Whether an answer says that the packet is written.
+fn is_written(sent: Sent) -> bool
+    ensures { λ r. ⌜ r ≡ isWritten sent ⌝ }
+{
+    match sent {
+        Sent::Refused(_) => false,
+        Sent::Written { length, connection } => true,
+    }
+}
+
+// What a packet of so many bytes that makes a move comes to on a buffer with so much room: the step, then whether it fits.
+fn ready(connection: Connection, m: Move, size: usize, room: usize) -> Sent
+    ensures { λ r. ⌜ meaning r ≡ readyOf connection m size room ⌝ }
+{
+    match connection.step(m) {
+        Step::Refused(n) => Sent::Refused(n),
+        Step::Next(after) => {
+            let found = fault::fit(size, room);
+            if found != refusal::NONE {
+                return Sent::Refused(found);
+            }
+            Sent::Written {
+                length: size,
+                connection: after,
+            }
+        }
+    }
+}
+
+// Writes a body packet.
+fn write_body(buffer: &mut [u8], bytes: &[u8])
+    requires { ⌜ Fits 0 (packetOf (Move.Body (length (now bytes))) (bodyPayload (now bytes))) (now buffer) ⌝ }
+    ensures { λ _. ⌜ now (buffer .exit) ≡ over (now (buffer .entry)) 0 (packetOf (Move.Body (length (now (bytes .entry)))) (bodyPayload (now (bytes .entry)))) ⌝ }
+{
+    if bytes.len() == 0 {
+        put::head(buffer, Direction::ToContainer, 0);
+        return;
+    }
+    let at = put::head(
+        buffer,
+        Direction::ToContainer,
+        (bytes.len() + BEFORE_BODY) as u16,
+    );
+    let at = put::integer(buffer, at, bytes.len() as u16);
+    put::bytes(buffer, at, bytes);
+}
+
+// Writes a Send Body Chunk.
+fn write_body_chunk(buffer: &mut [u8], bytes: &[u8])
+    requires { ⌜ Fits 0 (packetOf (Move.BodyChunk (length (now bytes))) (chunkPayload (now bytes))) (now buffer) ⌝ }
+    ensures { λ _. ⌜ now (buffer .exit) ≡ over (now (buffer .entry)) 0 (packetOf (Move.BodyChunk (length (now (bytes .entry)))) (chunkPayload (now (bytes .entry)))) ⌝ }
+{
+    let at = put::open(buffer, Kind::BodyChunk, (bytes.len() + AROUND_CHUNK) as u16);
+    put::string(buffer, at, bytes, false);
+}
+
+// Writes a Get Body Chunk.
+fn write_get_body(buffer: &mut [u8], asked: u16)
+    requires { ⌜ Fits 0 (packetOf (Move.GetBody asked) (getPayload asked)) (now buffer) ⌝ }
+    ensures { λ _. ⌜ now (buffer .exit) ≡ over (now (buffer .entry)) 0 (packetOf (Move.GetBody asked) (getPayload asked)) ⌝ }
+{
+    let at = put::open(buffer, Kind::GetBody, GET_BODY_PAYLOAD);
+    put::integer(buffer, at, asked);
+}
+
+// Writes an End.
+fn write_end(buffer: &mut [u8], reuse: bool)
+    requires { ⌜ Fits 0 (packetOf (Move.End reuse) (endPayload reuse)) (now buffer) ⌝ }
+    ensures { λ _. ⌜ now (buffer .exit) ≡ over (now (buffer .entry)) 0 (packetOf (Move.End reuse) (endPayload reuse)) ⌝ }
+{
+    let at = put::open(buffer, Kind::End, END_PAYLOAD);
+    put::boolean(buffer, at, reuse);
+}
+
+// Sends a CPing: the container is asked whether it is there.
+pub fn cping(connection: Connection, buffer: &mut [u8]) -> Sent
+    ensures { λ r. ⌜ meaning r ≡ outcome (cpingCall connection) (length (now (buffer .entry))) ⌝ }
+    ensures { λ _. ⌜ now (buffer .exit) ≡ bufferAfter (cpingCall connection) (now (buffer .entry)) ⌝ }
+{
+    let sent = ready(
+        connection,
+        Move::CPing,
+        PAYLOAD_PLACE + BARE_PAYLOAD as usize,
+        buffer.len(),
+    );
+    if is_written(sent) {
+        put::open(buffer, Kind::CPing, BARE_PAYLOAD);
+    }
+    sent
+}
+
+// Sends a CPong: the answer to a CPing.
+pub fn cpong(connection: Connection, buffer: &mut [u8]) -> Sent
+    ensures { λ r. ⌜ meaning r ≡ outcome (cpongCall connection) (length (now (buffer .entry))) ⌝ }
+    ensures { λ _. ⌜ now (buffer .exit) ≡ bufferAfter (cpongCall connection) (now (buffer .entry)) ⌝ }
+{
+    let sent = ready(
+        connection,
+        Move::CPong,
+        PAYLOAD_PLACE + BARE_PAYLOAD as usize,
+        buffer.len(),
+    );
+    if is_written(sent) {
+        put::open(buffer, Kind::CPong, BARE_PAYLOAD);
+    }
+    sent
+}
+
+// Sends a body packet with these bytes. Without any it is the empty body packet.
+pub fn body(connection: Connection, buffer: &mut [u8], bytes: &[u8]) -> Sent
+    ensures { λ r. ⌜ meaning r ≡ outcome (bodyCall connection (now (bytes .entry))) (length (now (buffer .entry))) ⌝ }
+    ensures { λ _. ⌜ now (buffer .exit) ≡ bufferAfter (bodyCall connection (now (bytes .entry))) (now (buffer .entry)) ⌝ }
+{
+    let sent = ready(
+        connection,
+        Move::Body(bytes.len()),
+        body_needs(bytes),
+        buffer.len(),
+    );
+    if is_written(sent) {
+        write_body(buffer, bytes);
+    }
+    sent
+}
+
+// Sends a Send Body Chunk with these bytes, which may be none and of any value.
+pub fn body_chunk(connection: Connection, buffer: &mut [u8], bytes: &[u8]) -> Sent
+    ensures { λ r. ⌜ meaning r ≡ outcome (chunkCall connection (now (bytes .entry))) (length (now (buffer .entry))) ⌝ }
+    ensures { λ _. ⌜ now (buffer .exit) ≡ bufferAfter (chunkCall connection (now (bytes .entry))) (now (buffer .entry)) ⌝ }
+{
+    let sent = ready(
+        connection,
+        Move::BodyChunk(bytes.len()),
+        body_chunk_needs(bytes),
+        buffer.len(),
+    );
+    if is_written(sent) {
+        write_body_chunk(buffer, bytes);
+    }
+    sent
+}
+
+// Sends a Get Body Chunk that asks for so many bytes.
+pub fn get_body(connection: Connection, buffer: &mut [u8], asked: u16) -> Sent
+    ensures { λ r. ⌜ meaning r ≡ outcome (getCall connection asked) (length (now (buffer .entry))) ⌝ }
+    ensures { λ _. ⌜ now (buffer .exit) ≡ bufferAfter (getCall connection asked) (now (buffer .entry)) ⌝ }
+{
+    let sent = ready(
+        connection,
+        Move::GetBody(asked),
+        PAYLOAD_PLACE + GET_BODY_PAYLOAD as usize,
+        buffer.len(),
+    );
+    if is_written(sent) {
+        write_get_body(buffer, asked);
+    }
+    sent
+}
+
+// Sends an End; `reuse` says whether the connection is used again.
+pub fn end(connection: Connection, buffer: &mut [u8], reuse: bool) -> Sent
+    ensures { λ r. ⌜ meaning r ≡ outcome (endCall connection reuse) (length (now (buffer .entry))) ⌝ }
+    ensures { λ _. ⌜ now (buffer .exit) ≡ bufferAfter (endCall connection reuse) (now (buffer .entry)) ⌝ }
+{
+    let sent = ready(
+        connection,
+        Move::End(reuse),
+        PAYLOAD_PLACE + END_PAYLOAD as usize,
+        buffer.len(),
+    );
+    if is_written(sent) {
+        write_end(buffer, reuse);
+    }
+    sent
+}
