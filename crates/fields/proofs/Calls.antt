@@ -1,12 +1,16 @@
 -- A call's outcome and its buffer, by the fault that was found: what every call that builds cites at its returns.
 -- Assumes nothing.
 use native.Mathlib.Omega.{arith}
-use borrow.Author.Tests.{eq-eqb, ne-eqb}
+use borrow.Author.Tests.{eq-eqb, ne-eqb, eqb-true}
 use mathlib.Core.Path.{_≡_, refl, sym, ap, _∙_}
+use mathlib.Core.Bool.{Bool, true, false}
 use mathlib.Core.List.{List}
 use Prim.Native.Nat.{ℕ, _+_, _≤_}
-use lib.ListN.{length}
-use Rattle.wire.specs.Bytes.{over}
+use lib.Dec.{eqb}
+use lib.ListN.{length, take, drop}
+use Rattle.wire.specs.Pick.{pick}
+use Rattle.wire.specs.Bytes.{part, over}
+use Rattle.wire.proofs.Bytes.{length-over, over-before, over-behind, over-there}
 use Rattle.fields.specs.Fault.{orElse, firstFault, fitFault}
 use Rattle.fields.specs.Field.{sizeTold, Fits}
 use Rattle.fields.specs.Call.{Call, Outcome, refused, done, refusalOf, outcome, bufferAfter}
@@ -52,3 +56,39 @@ module _ {A : Type 0} (call : Call A) (buffer : List ℕ) (found : ℕ) (is : fo
       let end : ℕ = call .at + length (call .bytes) in
       let both = fit-none end (length buffer) (or-second (firstFault (call .faults)) (fitFault end (length buffer)) (sym is ∙ h)) in
       (both .1, both .0)
+
+-- the buffer after a call by the number that it is refused with, 0 for none
+after-by : {A : Type 0} (call : Call A) (buffer : List ℕ) (t : Bool) → eqb (refusalOf call (length buffer)) 0 ≡ t
+    → bufferAfter call buffer ≡ pick t (over buffer (call .at) (call .bytes)) buffer
+unfolding bufferAfter
+after-by call buffer t e = rw e
+
+-- a call keeps the buffer's length
+pub after-length : {A : Type 0} (call : Call A) (buffer : List ℕ) → length (bufferAfter call buffer) ≡ length buffer
+after-length call buffer = go (eqb (refusalOf call (length buffer)) 0) refl
+  where
+    go : (t : Bool) → eqb (refusalOf call (length buffer)) 0 ≡ t → length (bufferAfter call buffer) ≡ length buffer
+    go true e =
+        ap length (after-by call buffer true e)
+        ∙ length-over buffer (call .at) (call .bytes) (done-fits call buffer (refusalOf call (length buffer)) refl (eqb-true _ 0 e) .0)
+    go false e = ap length (after-by call buffer false e)
+
+-- where a call is done
+module _ {A : Type 0} (call : Call A) (buffer : List ℕ) (none : refusalOf call (length buffer) ≡ 0) where
+  pub after-written : bufferAfter call buffer ≡ over buffer (call .at) (call .bytes)
+  after-written = after-by call buffer true (eq-eqb (refusalOf call (length buffer)) 0 none)
+
+  within : call .at + length (call .bytes) ≤ length buffer
+  within = done-fits call buffer (refusalOf call (length buffer)) refl none .0
+
+  -- its bytes stand at their place
+  pub after-there : part (bufferAfter call buffer) (call .at) (length (call .bytes)) ≡ call .bytes
+  after-there = rw after-written (over-there buffer (call .at) (call .bytes) within)
+
+  -- all before them is as it was
+  pub after-before : take (call .at) (bufferAfter call buffer) ≡ take (call .at) buffer
+  after-before = rw after-written (over-before buffer (call .at) (call .bytes) within)
+
+  -- and all behind them
+  pub after-behind : drop (call .at + length (call .bytes)) (bufferAfter call buffer) ≡ drop (call .at + length (call .bytes)) buffer
+  after-behind = rw after-written (over-behind buffer (call .at) (call .bytes) within)

@@ -4,12 +4,13 @@ use native.Mathlib.Omega.{arith}
 use borrow.Author.Tests.{le-leb, lt-leb, leb-true, leb-false, eqb-true}
 use mathlib.Core.Path.{_≡_, refl, sym, ap, _∙_}
 use mathlib.Core.Bool.{Bool, true, false}
+use mathlib.Core.List.{List, [], _∷_}
 use Prim.Native.Nat.{ℕ, _+_, _<_, _≤_}
 use lib.Dec.{leb, eqb}
 use Rattle.wire.specs.Pick.{pick, both}
 use lib.ListN.{length}
 use Rattle.wire.specs.Field.{booleanBytes}
-use Rattle.fields.specs.Fault.{unless, orElse, rangeFault, fitFault}
+use Rattle.fields.specs.Fault.{unless, orElse, faultAfter, rangeFault, fitFault}
 use Rattle.fields.specs.Field.{sizeTold}
 
 -- no fault behind a fault
@@ -91,3 +92,18 @@ range-by low high n s t d e = rw (← d, ← e)
 pub boolean-one : (value : Bool) → length (booleanBytes value) ≡ 1
 boolean-one true = refl
 boolean-one false = refl
+
+-- a buffer of 8192 bytes is never too short
+pub never-short : (end room : ℕ) → 8192 ≤ room → fitFault end room ≡ 15 → ⊥
+unfolding fitFault
+never-short end room h = go (leb end 8192) (leb end room) refl refl
+  where
+    go : (s t : Bool) → leb end 8192 ≡ s → leb end room ≡ t → pick s (unless t 15) 2 ≡ 15 → ⊥
+    go true true d e k = omega (arith, k)
+    go true false d e k = omega (arith, leb-true end 8192 d, leb-false end room e)
+    go false t d e k = omega (arith, k)
+
+-- where a list has no fault, none was found before it
+pub first-none : (before : ℕ) (faults : List ℕ) → faultAfter before faults ≡ 0 → before ≡ 0
+first-none before [] h = h
+first-none before (fault ∷ later) h = or-first before fault (first-none (orElse before fault) later h)

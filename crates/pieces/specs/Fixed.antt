@@ -36,6 +36,10 @@ fixedCall kind own = record {
   answer = fields kind (length (bytesOf (fixed kind own))) (length (bytesOf (fixed kind own)) - countSize) 0 false;
 }
 
+-- of a Forward's strings none is null
+abbrev pub noNulls : Nulls
+noNulls = record { protocol = false; «req_uri» = false; «remote_addr» = false; «remote_host» = false; «server_name» = false }
+
 -- a Forward: method (1 to 27), protocol, req_uri, remote_addr, remote_host, server_name, server_port, is_ssl
 abbrev pub forwardFields : Numbers → Nulls → List ℕ → List ℕ → List ℕ → List ℕ → List ℕ → List Field
 forwardFields numbers nulls protocol uri addr host name =

@@ -9,7 +9,7 @@ ghost use Rattle.fields.specs.Field.{faultsOf, bytesOf, neededAt, Fits};
 ghost use Rattle.fields.specs.Call.{outcome, bufferAfter};
 ghost use Rattle.pieces.specs.declared.BuildingKind.{BuildingKind};
 ghost use Rattle.pieces.specs.Meaning.{meaning};
-ghost use Rattle.pieces.specs.Fixed.{fixed, forwardFields, forwardCall};
+ghost use Rattle.pieces.specs.Fixed.{noNulls, fixed, forwardFields, forwardCall};
 ghost use Rattle.pieces.specs.Private.{forwardStrings, forwardTail};
 use crate::Added;
 use crate::BuildingKind;
@@ -37,6 +37,21 @@ pub struct Nulls {
     pub remote_addr: bool,
     pub remote_host: bool,
     pub server_name: bool,
+}
+
+impl Nulls {
+    // None of them is null.
+    pub fn none() -> Nulls
+        ensures { λ r. ⌜ r ≡ noNulls ⌝ }
+    {
+        Nulls {
+            protocol: false,
+            req_uri: false,
+            remote_addr: false,
+            remote_host: false,
+            server_name: false,
+        }
+    }
 }
 
 // The bytes in front of the first string: four, the code and the method. Behind the last one: port, is_ssl and the count.
