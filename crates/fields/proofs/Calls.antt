@@ -1,11 +1,10 @@
 -- A call's outcome and its buffer, by the fault that was found: what every call that builds cites at its returns.
 -- Assumes nothing.
-use native.Mathlib.Omega.{arith}
-use borrow.Author.Tests.{eq-eqb, ne-eqb, eqb-true}
+use borrow.Author.Tests.{le-leb, lt-leb, eq-eqb, ne-eqb, eqb-true}
 use mathlib.Core.Path.{_≡_, refl, sym, ap, _∙_}
 use mathlib.Core.Bool.{Bool, true, false}
 use mathlib.Core.List.{List}
-use Prim.Native.Nat.{ℕ, _+_, _≤_}
+use Prim.Native.Nat.{ℕ, _+_, _<_, _≤_}
 use lib.Dec.{eqb}
 use lib.ListN.{length, take, drop}
 use Rattle.wire.specs.Pick.{pick}
@@ -13,8 +12,8 @@ use Rattle.wire.specs.Bytes.{part, over}
 use Rattle.wire.proofs.Bytes.{length-over, over-before, over-behind, over-there}
 use Rattle.fields.specs.Fault.{orElse, firstFault, fitFault}
 use Rattle.fields.specs.Field.{sizeTold, Fits}
-use Rattle.fields.specs.Call.{Call, Outcome, refused, done, refusalOf, outcome, bufferAfter}
-use Rattle.fields.proofs.Sizes.{or-first, or-second, fit-told, fit-none}
+use Rattle.fields.specs.Call.{Call, refused, done, refusalOf, answered, outcome, bufferAfter}
+use Rattle.fields.proofs.Sizes.{or-first, or-second, fit-told, fit-none, fit-by}
 
 -- the fault that a call finds: its own faults, then whether the bytes fit, by the end that was told
 pub found-by : {A : Type 0} (call : Call A) (room own fit end found : ℕ) → own ≡ firstFault (call .faults) → fit ≡ fitFault end room
@@ -92,3 +91,27 @@ module _ {A : Type 0} (call : Call A) (buffer : List ℕ) (none : refusalOf call
   -- and all behind them
   pub after-behind : drop (call .at + length (call .bytes)) (bufferAfter call buffer) ≡ drop (call .at + length (call .bytes)) buffer
   after-behind = rw after-written (over-behind buffer (call .at) (call .bytes) within)
+
+-- a call that has no fault of its own, by whether its bytes fit
+outcome-by : {A : Type 0} (call : Call A) (room fit : ℕ) → firstFault (call .faults) ≡ 0 → fitFault (call .at + length (call .bytes)) room ≡ fit
+    → outcome call room ≡ answered fit (call .answer)
+unfolding outcome refusalOf
+outcome-by call room fit own e = rw (own, e)
+
+-- what fits exactly, or more loosely, is done
+pub fits-done : {A : Type 0} (call : Call A) (room : ℕ) → firstFault (call .faults) ≡ 0 → call .at + length (call .bytes) ≤ 8192
+    → call .at + length (call .bytes) ≤ room → outcome call room ≡ done (call .answer)
+fits-done call room own within fits =
+    outcome-by call room 0 own (sym (fit-by (call .at + length (call .bytes)) room true true (le-leb _ 8192 within) (le-leb _ room fits)))
+
+-- with one byte less, or fewer still, it is 15
+pub short-refused : {A : Type 0} (call : Call A) (room : ℕ) → firstFault (call .faults) ≡ 0 → call .at + length (call .bytes) ≤ 8192
+    → room < call .at + length (call .bytes) → outcome call room ≡ refused 15
+short-refused call room own within short =
+    outcome-by call room 15 own (sym (fit-by (call .at + length (call .bytes)) room true false (le-leb _ 8192 within) (lt-leb _ room short)))
+
+-- past 8192 it is 2, whatever the buffer
+pub long-refused : {A : Type 0} (call : Call A) (room : ℕ) → firstFault (call .faults) ≡ 0 → 8192 < call .at + length (call .bytes)
+    → outcome call room ≡ refused 2
+long-refused call room own long =
+    outcome-by call room 2 own (sym (fit-by (call .at + length (call .bytes)) room false _ (lt-leb _ 8192 long) refl))

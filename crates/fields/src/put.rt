@@ -7,7 +7,10 @@ ghost use Rattle.wire.specs.Bytes.{over, integerBytes};
 ghost use Rattle.wire.specs.Field.{booleanBytes, stringBytes};
 ghost use Rattle.wire.specs.Packet.{head};
 ghost use Rattle.fields.specs.Field.{opening, Fits};
+use crate::size::BYTE;
+use crate::size::INTEGER;
 use connection::Kind;
+use payload::PAYLOAD_PLACE;
 use payload::code_of;
 use wire::Direction;
 use wire::write;
@@ -19,7 +22,7 @@ pub fn byte(buffer: &mut [u8], at: usize, value: u8) -> usize
     ensures { λ _. ⌜ now (buffer .exit) ≡ over (now (buffer .entry)) at (value ∷ []) ⌝ }
 {
     write::byte(buffer, at, value);
-    at + 1
+    at + BYTE
 }
 
 // An integer.
@@ -29,7 +32,7 @@ pub fn integer(buffer: &mut [u8], at: usize, value: u16) -> usize
     ensures { λ _. ⌜ now (buffer .exit) ≡ over (now (buffer .entry)) at (integerBytes value) ⌝ }
 {
     write::integer(buffer, at, value);
-    at + 2
+    at + INTEGER
 }
 
 // A boolean.
@@ -39,7 +42,7 @@ pub fn boolean(buffer: &mut [u8], at: usize, value: bool) -> usize
     ensures { λ _. ⌜ now (buffer .exit) ≡ over (now (buffer .entry)) at (booleanBytes value) ⌝ }
 {
     write::boolean(buffer, at, value);
-    at + 1
+    at + BYTE
 }
 
 // A string.
@@ -86,7 +89,7 @@ pub fn head(buffer: &mut [u8], direction: Direction, payload: u16) -> usize
     ensures { λ _. ⌜ now (buffer .exit) ≡ over (now (buffer .entry)) 0 (head direction payload) ⌝ }
 {
     write::packet_head(buffer, direction, payload);
-    4
+    PAYLOAD_PLACE
 }
 
 // The first bytes of a packet of a kind, at the buffer's start, up to its code.

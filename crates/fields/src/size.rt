@@ -1,4 +1,4 @@
-// How many bytes fields take. A size is exact up to 8192 bytes, and 8193 where it is more: no packet is as long.
+// How many bytes fields take. A size is exact up to 8192, and 8193 where it is more: no packet is so long.
 ghost use mathlib.Core.Path.{_≡_};
 ghost use Prim.Native.Nat.{_+_};
 ghost use lib.ListN.{length};
@@ -6,18 +6,23 @@ ghost use Rattle.wire.specs.Field.{stringBytes};
 ghost use Rattle.fields.specs.Field.{sizeTold};
 use wire::write::string_size;
 
-// The size that is told of what is longer than a packet may be.
-pub const TOO_LONG: usize = 8193;
+// How many bytes a byte and an integer take.
+pub const BYTE: usize = 1;
+
+pub const INTEGER: usize = 2;
+
+// The size that is told of all that is longer than a packet may be.
+const OVER_PACKET: usize = 8193;
 
 // Two sizes together.
 pub fn plus(size: usize, more: usize) -> usize
     ensures { λ r. ⌜ r ≡ sizeTold (size + more) ⌝ }
 {
-    if TOO_LONG < more {
-        return TOO_LONG;
+    if OVER_PACKET < more {
+        return OVER_PACKET;
     }
-    if TOO_LONG - more < size {
-        return TOO_LONG;
+    if OVER_PACKET - more < size {
+        return OVER_PACKET;
     }
     size + more
 }

@@ -16,7 +16,7 @@ use Rattle.fields.specs.Call.{Call, refused, done, refusalOf, outcome, bufferAf
 use Rattle.fields.proofs.Sizes.{or-second, told-exact, told-told}
 use Rattle.fields.proofs.Calls.{found-by, refused-answer, refused-buffer, done-answer, done-buffer, done-own, done-fits}
 use Rattle.pieces.specs.declared.Building.{Building}
-use Rattle.pieces.specs.Record.{fields, headerFault, countFault}
+use Rattle.pieces.specs.Record.{fields, headerNow, countFault}
 use Rattle.pieces.specs.Header.{headerCall}
 
 -- the size of bytes and of more bytes behind them
@@ -81,18 +81,11 @@ module _ {call : Call Building} {buffer : List ℕ} {end found : ℕ} (known : C
     w ∙ ap (λ (p : ℕ). over buffer p bytes) f ∙ ap (over buffer (call .at)) (sym e) ∙ done-buffer call buffer found (known .is) h,
   )
 
--- the records behind a header and behind an attribute, by the place where it ends
-abbrev pub behindHeader : Building → ℕ → Building
-behindHeader r end = fields (r .kind) end (r .count .0) (r .headers + 1) (r .attributes)
-
-abbrev pub behindAttribute : Building → ℕ → Building
-behindAttribute r end = fields (r .kind) end (r .count .0) (r .headers) true
-
 -- where no fault of a header is found, one more may come
 pub header-room : {r : Building} {buffer : List ℕ} {end found : ℕ} (own : List Field) → Checked (headerCall r buffer own) buffer end found
     → found ≡ 0 → (end ≤ 8192) × (r .headers < 100)
 header-room {r} {buffer} {end} {found} own known h =
-    let first : ℕ = headerFault r buffer in
+    let first : ℕ = headerNow r buffer in
     let last : ℕ = countFault r in
     let none : _ = sym (fault-last first (faultsOf own) last) ∙ done-own (headerCall r buffer own) buffer found (known .is) h in
     (end-fits known h, count-none r (or-second (faultAfter first (faultsOf own)) last none))

@@ -24,7 +24,7 @@ use Rattle.fields.proofs.Rows.{bytes-append}
 use Rattle.fields.proofs.Calls.{done-own, done-fits, after-length, after-written, after-before}
 use Rattle.pieces.specs.declared.Building.{Building}
 use Rattle.pieces.specs.declared.BuildingKind.{BuildingKind}
-use Rattle.pieces.specs.Record.{kindIn, isPossible, headerFault, attributeFault, countFault, withHeader, withAttribute, isForward}
+use Rattle.pieces.specs.Record.{kindIn, isPossible, headerNow, attributeNow, countFault, withHeader, withAttribute, isForward}
 use Rattle.pieces.specs.Fixed.{unset, fixed, fixedCall}
 use Rattle.pieces.specs.Header.{headerCall}
 use Rattle.pieces.specs.Attribute.{attributeCall}
@@ -105,32 +105,32 @@ module _ (r s : Building) (buffer : List ℕ) (call : Call Building) (can : Poss
 
 -- the record behind a header
 pub header-possible : (r : Building) (buffer : List ℕ) (own : List Field) → refusalOf (headerCall r buffer own) (length buffer) ≡ 0
-    → isPossible (withHeader r (length (bytesOf own))) (bufferAfter (headerCall r buffer own) buffer) ≡ true
-unfolding headerFault
+    → isPossible (withHeader r (r .next .0 + length (bytesOf own))) (bufferAfter (headerCall r buffer own) buffer) ≡ true
+unfolding headerNow
 header-possible r buffer own none =
     let call : Call Building = headerCall r buffer own in
     let known : Checked call buffer _ _ = record { told = refl; is = refl } in
     let ok : isPossible r buffer ≡ true =
     both-first (isPossible r buffer) (not (r .attributes))
     (test-holds (both (isPossible r buffer) (not (r .attributes)))
-    (first-none (headerFault r buffer) (faultsOf own ++ (countFault r ∷ [])) (done-own call buffer (refusalOf call (length buffer)) refl none))) in
-    yes-possible (withHeader r (length (bytesOf own))) (bufferAfter call buffer)
-    (behind-possible r (withHeader r (length (bytesOf own))) buffer call (possible-yes r buffer ok) none refl refl refl refl
+    (first-none (headerNow r buffer) (faultsOf own ++ (countFault r ∷ [])) (done-own call buffer (refusalOf call (length buffer)) refl none))) in
+    yes-possible (withHeader r (r .next .0 + length (bytesOf own))) (bufferAfter call buffer)
+    (behind-possible r (withHeader r (r .next .0 + length (bytesOf own))) buffer call (possible-yes r buffer ok) none refl refl refl refl
     (omega (arith, header-room own known none .1)))
 
 -- the record behind an attribute
 pub attribute-possible : (r : Building) (buffer : List ℕ) (own : List Field) → refusalOf (attributeCall r buffer own) (length buffer) ≡ 0
-    → isPossible (withAttribute r (length (bytesOf own))) (bufferAfter (attributeCall r buffer own) buffer) ≡ true
-unfolding attributeFault
+    → isPossible (withAttribute r (r .next .0 + length (bytesOf own))) (bufferAfter (attributeCall r buffer own) buffer) ≡ true
+unfolding attributeNow
 attribute-possible r buffer own none =
     let call : Call Building = attributeCall r buffer own in
     let ok : isPossible r buffer ≡ true =
     both-first (isPossible r buffer) (isForward (r .kind))
     (test-holds (both (isPossible r buffer) (isForward (r .kind)))
-    (first-none (attributeFault r buffer) (faultsOf own) (done-own call buffer (refusalOf call (length buffer)) refl none))) in
+    (first-none (attributeNow r buffer) (faultsOf own) (done-own call buffer (refusalOf call (length buffer)) refl none))) in
     let can : Possible r buffer = possible-yes r buffer ok in
-    yes-possible (withAttribute r (length (bytesOf own))) (bufferAfter call buffer)
-    (behind-possible r (withAttribute r (length (bytesOf own))) buffer call can none refl refl refl refl (can .few))
+    yes-possible (withAttribute r (r .next .0 + length (bytesOf own))) (bufferAfter call buffer)
+    (behind-possible r (withAttribute r (r .next .0 + length (bytesOf own))) buffer call can none refl refl refl refl (can .few))
 
 -- the fixed fields are longer than the code's place and the count
 fixed-length : (kind : BuildingKind) (own : List Field) → 7 ≤ length (bytesOf (fixed kind own))

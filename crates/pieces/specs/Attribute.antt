@@ -4,7 +4,7 @@
 -- Assumes nothing.
 use mathlib.Core.Bool.{Bool, true, false}
 use mathlib.Core.List.{List, [], _∷_}
-use Prim.Native.Nat.{ℕ}
+use Prim.Native.Nat.{ℕ, _+_}
 use lib.ListN.{length}
 use Rattle.wire.specs.Refusal.{attributeWrong}
 use Rattle.wire.specs.Bytes.{integerBytes}
@@ -15,7 +15,7 @@ use Rattle.fields.specs.Fault.{unless}
 use Rattle.fields.specs.Field.{Field, plain, stringField, faultsOf, bytesOf}
 use Rattle.fields.specs.Call.{Call}
 use Rattle.pieces.specs.declared.Building.{Building}
-use Rattle.pieces.specs.Record.{attributeFault, withAttribute}
+use Rattle.pieces.specs.Record.{attributeNow, withAttribute}
 
 -- which kind of value it is
 abbrev pub isText : AttributeKind → Bool
@@ -59,10 +59,10 @@ pairFields code nameNull name valueNull value =
 -- the call that writes an attribute: 16, then its fields
 abbrev pub attributeCall : Building → List ℕ → List Field → Call Building
 attributeCall r buffer own = record {
-  faults = attributeFault r buffer ∷ faultsOf own;
+  faults = attributeNow r buffer ∷ faultsOf own;
   at = r .next .0;
   bytes = bytesOf own;
-  answer = withAttribute r (length (bytesOf own));
+  answer = withAttribute r (r .next .0 + length (bytesOf own));
 }
 
 -- the calls

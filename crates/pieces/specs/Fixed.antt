@@ -4,7 +4,7 @@
 -- Assumes nothing.
 use mathlib.Core.Bool.{Bool, false}
 use mathlib.Core.List.{List, [], _∷_, _++_}
-use Prim.Native.Nat.{ℕ, _-_}
+use Prim.Native.Nat.{ℕ}
 use lib.ListN.{length}
 use Rattle.wire.specs.Bytes.{integerBytes}
 use Rattle.wire.specs.Field.{booleanBytes}
@@ -17,7 +17,7 @@ use Rattle.pieces.specs.declared.BuildingKind.{BuildingKind}
 use Rattle.pieces.specs.declared.Building.{Building}
 use Rattle.pieces.specs.declared.forward.Numbers.{Numbers}
 use Rattle.pieces.specs.declared.forward.Nulls.{Nulls}
-use Rattle.pieces.specs.Record.{kindIn, fields, countSize}
+use Rattle.pieces.specs.Record.{kindIn, opened}
 
 -- a count that closing will set
 abbrev pub unset : Field
@@ -27,13 +27,13 @@ unset = plain (integerBytes 0)
 abbrev pub fixed : BuildingKind → List Field → List Field
 fixed kind own = plain (opening (kindIn kind) 0) ∷ (own ++ (unset ∷ []))
 
--- the call that writes them: the next place is behind the count, the count is their last two bytes
+-- the call that writes them
 abbrev pub fixedCall : BuildingKind → List Field → Call Building
 fixedCall kind own = record {
   faults = faultsOf (fixed kind own);
   at = 0;
   bytes = bytesOf (fixed kind own);
-  answer = fields kind (length (bytesOf (fixed kind own))) (length (bytesOf (fixed kind own)) - countSize) 0 false;
+  answer = opened kind (length (bytesOf (fixed kind own)));
 }
 
 -- of a Forward's strings none is null

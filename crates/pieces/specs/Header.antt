@@ -3,7 +3,7 @@
 -- Assumes nothing.
 use mathlib.Core.Bool.{Bool, false}
 use mathlib.Core.List.{List, [], _∷_, _++_}
-use Prim.Native.Nat.{ℕ}
+use Prim.Native.Nat.{ℕ, _+_}
 use lib.ListN.{length}
 use Rattle.wire.specs.Refusal.{none}
 use Rattle.wire.specs.Bytes.{integerBytes}
@@ -14,16 +14,11 @@ use Rattle.names.specs.Header.{codeFault, spelledFault}
 use Rattle.names.specs.declared.length.Declared.{Declared}
 use Rattle.names.specs.declared.length.Declaring.{Declaring}
 use Rattle.headers.specs.Headers.{declares, declaredBy}
-use Rattle.connection.specs.Cycle.{directionOf}
 use Rattle.fields.specs.Fault.{orElse, stringFault}
 use Rattle.fields.specs.Field.{Field, faultsOf, bytesOf}
 use Rattle.fields.specs.Call.{Call}
 use Rattle.pieces.specs.declared.Building.{Building}
-use Rattle.pieces.specs.Record.{kindIn, headerFault, countFault, withHeader}
-
--- which way the packet goes that is being built
-abbrev pub directionIn : Building → Direction
-directionIn r = directionOf (kindIn (r .kind))
+use Rattle.pieces.specs.Record.{directionIn, headerNow, countFault, withHeader}
 
 -- a name by its code
 abbrev pub codedName : Direction → ℕ → Field
@@ -61,10 +56,10 @@ spelledFields direction nameNull name valueNull value =
 -- the call that writes a header: 16, its fields, 11
 abbrev pub headerCall : Building → List ℕ → List Field → Call Building
 headerCall r buffer own = record {
-  faults = headerFault r buffer ∷ (faultsOf own ++ (countFault r ∷ []));
+  faults = headerNow r buffer ∷ (faultsOf own ++ (countFault r ∷ []));
   at = r .next .0;
   bytes = bytesOf own;
-  answer = withHeader r (length (bytesOf own));
+  answer = withHeader r (r .next .0 + length (bytesOf own));
 }
 
 -- the calls

@@ -3,13 +3,15 @@
 -- Assumes nothing.
 use mathlib.Core.Bool.{Bool, true, false, not}
 use mathlib.Core.List.{List}
-use Prim.Native.Nat.{ℕ, _+_}
+use Prim.Native.Nat.{ℕ, _+_, _-_}
 use lib.Dec.{leb, ltb, eqb}
 use lib.ListN.{length, getD}
 use Rattle.wire.specs.Pick.{both}
 use Rattle.wire.specs.Refusal.{tooMany, recordWrong}
+use Rattle.wire.specs.declared.Direction.{Direction}
 use Rattle.places.specs.Entries.{maxHeaders}
 use Rattle.connection.specs.Connection.{maxPacket}
+use Rattle.connection.specs.Cycle.{directionOf}
 use Rattle.connection.specs.declared.Kind.{Kind}
 use Rattle.payload.specs.Code.{payloadPlace, codePlace, codeOf}
 use Rattle.fields.specs.Fault.{unless}
@@ -26,7 +28,7 @@ abbrev pub isForward : BuildingKind → Bool
 isForward BuildingKind.Forward = true
 isForward BuildingKind.SendHeaders = false
 
--- a record's fields as they stand: which packet, the next place, the count's place, headers so far, whether attributes began
+-- a record's fields as they stand: the packet, its next place, its count's place, how many headers, whether an attribute came
 abbrev pub fields : BuildingKind → ℕ → ℕ → ℕ → Bool → Building
 fields kind next count headers attributes =
     record { kind = kind; next = record { 0 = next }; count = record { 0 = count }; headers = headers; attributes = attributes }
@@ -35,8 +37,8 @@ fields kind next count headers attributes =
 abbrev pub countSize : ℕ
 countSize = 2
 
--- a record that can be, over the buffer in which its packet stands: the next place is neither above 8192 nor past the buffer, the
--- count's place is not under 4 and at least two before the next, at most 100 headers came, and the packet's code is where it should be
+-- a record that can be, over the buffer in which its packet stands: the next place is within 8192 and within the buffer, the count lies
+-- behind the payload's start and wholly before the next place, at most 100 headers came, and the packet's code is where it belongs
 unfoldable pub isPossible : Building → List ℕ → Bool
 isPossible r buffer =
     both (leb (r .next .0) maxPacket)
@@ -45,22 +47,30 @@ isPossible r buffer =
     (both (leb (r .count .0 + countSize) (r .next .0))
     (both (leb (r .headers) maxHeaders) (eqb (getD buffer codePlace 0) (codeOf (kindIn (r .kind))))))))
 
--- a header: 16 for an impossible record, and behind an attribute
-unfoldable pub headerFault : Building → List ℕ → ℕ
-headerFault r buffer = unless (both (isPossible r buffer) (not (r .attributes))) recordWrong
+-- which way the packet goes that is being built
+abbrev pub directionIn : Building → Direction
+directionIn r = directionOf (kindIn (r .kind))
 
--- an attribute: 16 for an impossible record, and on a Send Headers
-unfoldable pub attributeFault : Building → List ℕ → ℕ
-attributeFault r buffer = unless (both (isPossible r buffer) (isForward (r .kind))) recordWrong
+-- a header that comes now: 16 for an impossible record, and behind an attribute
+unfoldable pub headerNow : Building → List ℕ → ℕ
+headerNow r buffer = unless (both (isPossible r buffer) (not (r .attributes))) recordWrong
+
+-- an attribute that comes now: 16 for an impossible record, and on a Send Headers
+unfoldable pub attributeNow : Building → List ℕ → ℕ
+attributeNow r buffer = unless (both (isPossible r buffer) (isForward (r .kind))) recordWrong
 
 -- a header where a hundred came before is 11
 unfoldable pub countFault : Building → ℕ
 countFault r = unless (ltb (r .headers) maxHeaders) tooMany
 
--- the record behind a header of so many bytes
-abbrev pub withHeader : Building → ℕ → Building
-withHeader r size = fields (r .kind) (r .next .0 + size) (r .count .0) (r .headers + 1) (r .attributes)
+-- the first record of a packet, whose fixed fields end at a place: the count is their last two bytes
+abbrev pub opened : BuildingKind → ℕ → Building
+opened kind end = fields kind end (end - countSize) 0 false
 
--- the record behind an attribute of so many bytes
+-- the record behind a header that ends at a place
+abbrev pub withHeader : Building → ℕ → Building
+withHeader r end = fields (r .kind) end (r .count .0) (r .headers + 1) (r .attributes)
+
+-- the record behind an attribute that ends at a place
 abbrev pub withAttribute : Building → ℕ → Building
-withAttribute r size = fields (r .kind) (r .next .0 + size) (r .count .0) (r .headers) true
+withAttribute r end = fields (r .kind) end (r .count .0) (r .headers) true

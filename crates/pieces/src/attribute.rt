@@ -8,7 +8,7 @@ ghost use Rattle.wire.specs.Refusal.{attributeWrong};
 ghost use Rattle.fields.specs.Fault.{unless, orElse, firstFault};
 ghost use Rattle.fields.specs.Field.{neededAt, Fits};
 ghost use Rattle.fields.specs.Call.{outcome, bufferAfter};
-ghost use Rattle.pieces.specs.Record.{attributeFault};
+ghost use Rattle.pieces.specs.Record.{attributeNow};
 ghost use Rattle.pieces.specs.Meaning.{meaning};
 ghost use Rattle.pieces.specs.Attribute.{isText, isInteger, isPair, textFields, integerFields, pairFields, textCall, integerCall, pairCall};
 use crate::Added;
@@ -94,10 +94,10 @@ pub fn pair_needs(
 
 // The first fault of an attribute up to its value: the record, and a code that takes no value of this kind.
 fn code_fault(building: Building, buffer: &[u8], takes: bool) -> u8
-    ensures { λ r. ⌜ r ≡ orElse (attributeFault building (now (buffer .entry))) (unless takes attributeWrong) ⌝ }
+    ensures { λ r. ⌜ r ≡ orElse (attributeNow building (now (buffer .entry))) (unless takes attributeWrong) ⌝ }
 {
     fault::or_else(
-        building.attribute_fault(buffer),
+        building.attribute_now(buffer),
         fault::unless(takes, refusal::ATTRIBUTE_WRONG),
     )
 }
@@ -206,8 +206,8 @@ pub fn integer(building: Building, buffer: &mut [u8], code: u8, value: u16) -> A
     Added::Next(building.with_attribute(end))
 }
 
-// Adds an attribute with a name and a value. `noname` and `novalue` say that the string is null; the text given for it is then not
-// looked at.
+// Adds an attribute with a name and a value. `noname` and `novalue` say that the string is null; the text given for it then does not
+// matter.
 pub fn pair(
     building: Building,
     buffer: &mut [u8],

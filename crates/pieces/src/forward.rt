@@ -30,7 +30,7 @@ pub struct Numbers {
     pub is_ssl: bool,
 }
 
-// Which of a Forward's strings are null; the text given for such a one is not looked at.
+// Which of a Forward's strings are null; the text given for such a one does not matter.
 pub struct Nulls {
     pub protocol: bool,
     pub req_uri: bool,

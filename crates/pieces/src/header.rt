@@ -7,8 +7,9 @@ ghost use Rattle.wire.specs.Field.{stringBytes};
 ghost use Rattle.fields.specs.Fault.{firstFault};
 ghost use Rattle.fields.specs.Field.{neededAt, Fits};
 ghost use Rattle.fields.specs.Call.{outcome, bufferAfter};
+ghost use Rattle.pieces.specs.Record.{directionIn};
 ghost use Rattle.pieces.specs.Meaning.{meaning};
-ghost use Rattle.pieces.specs.Header.{directionIn, declaringFault, valueFault, spelledName, codedFields, spelledFields, codedCall, spelledCall};
+ghost use Rattle.pieces.specs.Header.{declaringFault, valueFault, spelledName, codedFields, spelledFields, codedCall, spelledCall};
 use crate::Added;
 use crate::Building;
 use fields::fault;
@@ -82,11 +83,11 @@ fn name_fault(direction: Direction, text: &[u8], null: bool) -> u8
 }
 
 // The first fault of a header by code: the record, the name, the value, the number of headers.
-fn coded_fault(building: Building, buffer: &[u8], code: u16, value: &[u8], null: bool) -> u8
+fn coded_header_fault(building: Building, buffer: &[u8], code: u16, value: &[u8], null: bool) -> u8
     ensures { λ r. ⌜ r ≡ firstFault (codedCall building (now (buffer .entry)) code null (now (value .entry)) .faults) ⌝ }
 {
     let direction = building.direction();
-    let found = fault::or_else(building.header_fault(buffer), code_fault(direction, code));
+    let found = fault::or_else(building.header_now(buffer), code_fault(direction, code));
     let found = fault::or_else(
         found,
         value_fault(declares_length(direction, code), value, null),
@@ -95,7 +96,7 @@ fn coded_fault(building: Building, buffer: &[u8], code: u16, value: &[u8], null:
 }
 
 // The first fault of a header with a spelled name.
-fn spelled_name_fault(
+fn spelled_header_fault(
     building: Building,
     buffer: &[u8],
     name: &[u8],
@@ -106,7 +107,7 @@ fn spelled_name_fault(
     ensures { λ r. ⌜ r ≡ firstFault (spelledCall building (now (buffer .entry)) noname (now (name .entry)) novalue (now (value .entry)) .faults) ⌝ }
 {
     let found = fault::or_else(
-        building.header_fault(buffer),
+        building.header_now(buffer),
         name_fault(building.direction(), name, noname),
     );
     let found = fault::or_else(found, value_fault(false, value, novalue));
@@ -128,7 +129,7 @@ pub fn coded(building: Building, buffer: &mut [u8], code: u16, value: &[u8], nul
     ensures { λ _. ⌜ now (buffer .exit) ≡ bufferAfter (codedCall building (now (buffer .entry)) code null (now (value .entry))) (now (buffer .entry)) ⌝ }
 {
     let end = coded_needs(building, code, value, null);
-    let found = coded_fault(building, buffer, code, value, null);
+    let found = coded_header_fault(building, buffer, code, value, null);
     let found = fault::or_else(found, fault::fit(end, buffer.len()));
     if found != refusal::NONE {
         return Added::Refused(found);
@@ -137,7 +138,7 @@ pub fn coded(building: Building, buffer: &mut [u8], code: u16, value: &[u8], nul
     Added::Next(building.with_header(end))
 }
 
-// Adds a header with a spelled name. `noname` and `novalue` say that the string is null; the text given for it is then not looked at.
+// Adds a header with a spelled name. `noname` and `novalue` say that the string is null; the text given for it then does not matter.
 pub fn spelled(
     building: Building,
     buffer: &mut [u8],
@@ -150,7 +151,7 @@ pub fn spelled(
     ensures { λ _. ⌜ now (buffer .exit) ≡ bufferAfter (spelledCall building (now (buffer .entry)) noname (now (name .entry)) novalue (now (value .entry))) (now (buffer .entry)) ⌝ }
 {
     let end = spelled_needs(building, name, noname, value, novalue);
-    let found = spelled_name_fault(building, buffer, name, noname, value, novalue);
+    let found = spelled_header_fault(building, buffer, name, noname, value, novalue);
     let found = fault::or_else(found, fault::fit(end, buffer.len()));
     if found != refusal::NONE {
         return Added::Refused(found);

@@ -1,13 +1,13 @@
 // The pieces of a Forward and of a Send Headers: the fixed fields (`forward`, `send_headers`), then each header (`header`), then each
 // attribute (`attribute`). Each call takes the building record that the one before it answered, and answers the next one. A refusal
 // leaves the buffer as it was, and the record given still counts. Every call answers for any record, any buffer and any arguments.
+// For each piece a call with the same arguments tells how many bytes the buffer needs for it, counted from the buffer's first byte;
+// 8193 says that no buffer helps. When a Forward is closed, its FF needs one byte more. A buffer of 8192 bytes is always long enough.
 ghost use mathlib.Core.Path.{_≡_};
-ghost use mathlib.Core.Bool.{false, true};
-ghost use Prim.Native.Nat.{_+_, _-_, _≤_, _<_};
+ghost use Prim.Native.Nat.{_≤_, _<_};
 ghost use Rattle.places.specs.Entries.{maxHeaders};
 ghost use Rattle.connection.specs.Connection.{maxPacket};
-ghost use Rattle.pieces.specs.Record.{kindIn, isForward, fields, countSize, isPossible, headerFault, attributeFault, countFault};
-ghost use Rattle.pieces.specs.Header.{directionIn};
+ghost use Rattle.pieces.specs.Record.{kindIn, isForward, directionIn, fields, countSize, isPossible, headerNow, attributeNow, countFault, opened, withHeader, withAttribute};
 use connection::Connection;
 use connection::Kind;
 use connection::Place;
@@ -33,8 +33,8 @@ pub enum BuildingKind {
     SendHeaders,
 }
 
-// A building record: which packet, the next place, the count's place, headers so far and whether attributes began. The calls for the
-// fixed fields make one, and each piece makes the next.
+// What is known of a packet that is being built: its kind, how far it reaches, where its count of headers stands, how many headers it
+// has, and whether an attribute was added. The calls for the fixed fields make such a record, and each piece makes the next.
 pub struct Building {
     kind: BuildingKind,
     next: Place,
@@ -105,7 +105,7 @@ impl Building {
     }
 
     // Where the count of headers stands.
-    pub fn count(self) -> Place
+    pub fn count_place(self) -> Place
         ensures { λ r. ⌜ r ≡ self .count ⌝ }
     {
         self.count
@@ -119,7 +119,7 @@ impl Building {
     }
 
     // Whether attributes began: no header may come any more.
-    pub fn attributes(self) -> bool
+    pub fn attributes_began(self) -> bool
         ensures { λ r. ⌜ r ≡ self .attributes ⌝ }
     {
         self.attributes
@@ -159,8 +159,8 @@ impl Building {
     }
 
     // The fault of a header that comes now: the record cannot be, or attributes began.
-    fn header_fault(self, buffer: &[u8]) -> u8
-        ensures { λ r. ⌜ r ≡ headerFault self (now (buffer .entry)) ⌝ }
+    fn header_now(self, buffer: &[u8]) -> u8
+        ensures { λ r. ⌜ r ≡ headerNow self (now (buffer .entry)) ⌝ }
     {
         unless(
             self.is_possible(buffer) & !self.attributes,
@@ -169,8 +169,8 @@ impl Building {
     }
 
     // The fault of an attribute that comes now: the record cannot be, or is not a Forward's.
-    fn attribute_fault(self, buffer: &[u8]) -> u8
-        ensures { λ r. ⌜ r ≡ attributeFault self (now (buffer .entry)) ⌝ }
+    fn attribute_now(self, buffer: &[u8]) -> u8
+        ensures { λ r. ⌜ r ≡ attributeNow self (now (buffer .entry)) ⌝ }
     {
         let kind = self.kind;
         unless(
@@ -189,7 +189,7 @@ impl Building {
     // The record behind a header that ends at a place.
     fn with_header(self, end: usize) -> Building
         requires { ⌜ (end ≤ maxPacket) × (self .headers < maxHeaders) ⌝ }
-        ensures { λ r. ⌜ r ≡ fields (self .kind) end (self .count .0) (self .headers + 1) (self .attributes) ⌝ }
+        ensures { λ r. ⌜ r ≡ withHeader self end ⌝ }
     {
         let kind = self.kind;
         let count = self.count;
@@ -205,7 +205,7 @@ impl Building {
     // The record behind an attribute that ends at a place.
     fn with_attribute(self, end: usize) -> Building
         requires { ⌜ end ≤ maxPacket ⌝ }
-        ensures { λ r. ⌜ r ≡ fields (self .kind) end (self .count .0) (self .headers) true ⌝ }
+        ensures { λ r. ⌜ r ≡ withAttribute self end ⌝ }
     {
         let kind = self.kind;
         let count = self.count;
@@ -222,7 +222,7 @@ impl Building {
 // The first record of a packet whose fixed fields end at a place; the count is their last two bytes.
 fn opened(kind: BuildingKind, end: usize) -> Building
     requires { ⌜ (countSize ≤ end) × (end ≤ maxPacket) ⌝ }
-    ensures { λ r. ⌜ r ≡ fields kind end (end - countSize) 0 false ⌝ }
+    ensures { λ r. ⌜ r ≡ opened kind end ⌝ }
 {
     Building {
         kind,

@@ -16,7 +16,8 @@ use Rattle.wire.specs.Bytes.{over, integerBytes}
 use Rattle.wire.specs.Field.{booleanBytes, stringBytes}
 use Rattle.wire.specs.Packet.{head, packet}
 use Rattle.wire.specs.declared.Direction.{Direction}
-use Rattle.connection.specs.Cycle.{kindOf, inState, inSize, after, stepOf}
+use Rattle.wire.proofs.Field.{head-four}
+use Rattle.connection.specs.Cycle.{kindOf, directionOf, inState, inSize, after, stepOf}
 use Rattle.connection.specs.declared.Connection.{Connection}
 use Rattle.connection.specs.declared.Kind.{Kind}
 use Rattle.connection.specs.declared.Move.{Move}
@@ -30,7 +31,7 @@ use Rattle.fields.proofs.Calls.{found-by, refused-buffer, done-buffer, done-fit
 use Rattle.writer.specs.declared.Sent.{Sent}
 use Rattle.writer.specs.Meaning.{Written, meaning}
 use Rattle.writer.specs.Private.{isWritten, readyOf}
-use Rattle.writer.specs.Sending.{packetOf, sending, bodyPayload, chunkPayload, endPayload}
+use Rattle.writer.specs.Sending.{packetOf, sending, barePayload, bodyPayload, chunkPayload, endPayload}
 
 -- what `ready` promises: what the step comes to, and then whether the packet fits
 abbrev onStep : ℕ → ℕ → Step → Outcome Written
@@ -108,6 +109,10 @@ sends c m payload buffer size r written told ready is =
       stands = λ w. done-buffer call buffer fault refl (eqb-true fault 0 (none ∙ w));
       kept = λ w. refused-buffer call buffer fault refl (eqb-false fault 0 (none ∙ w));
     }
+
+-- a packet whose code is all has five bytes
+pub bare-size : (m : Move) → length (packetOf m (barePayload m)) ≡ 5
+bare-size m = length-append (head (directionOf (kindOf m)) 1) (barePayload m) ∙ ap (λ (n : ℕ). n + 1) (head-four (directionOf (kindOf m)) 1)
 
 -- the packets as their fields in a row
 pub end-row : (reuse : Bool) → packetOf (Move.End reuse) (endPayload reuse) ≡ opening Kind.End 2 ++ booleanBytes reuse

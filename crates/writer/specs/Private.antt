@@ -1,7 +1,6 @@
 -- What the writer's own functions promise to one another.
 -- Assumes nothing.
 use mathlib.Core.Bool.{Bool, true, false}
-use mathlib.Core.List.{[], _∷_}
 use Prim.Native.Nat.{ℕ}
 use Rattle.connection.specs.Cycle.{after}
 use Rattle.connection.specs.declared.Connection.{Connection}
@@ -10,7 +9,7 @@ use Rattle.fields.specs.Fault.{orElse, firstFault, fitFault}
 use Rattle.fields.specs.Call.{Outcome, answered}
 use Rattle.writer.specs.declared.Sent.{Sent}
 use Rattle.writer.specs.Meaning.{Written}
-use Rattle.writer.specs.Sending.{stateFault, sizeFault}
+use Rattle.writer.specs.Sending.{sendingFaults}
 
 -- an answer that says the packet is written
 abbrev pub isWritten : Sent → Bool
@@ -20,5 +19,5 @@ isWritten (Sent.Written length connection) = true
 -- what a packet of so many bytes that makes a move comes to on a buffer with so much room
 unfoldable pub readyOf : Connection → Move → ℕ → ℕ → Outcome Written
 readyOf c m size room =
-    answered (orElse (firstFault (stateFault c m ∷ sizeFault c m ∷ [])) (fitFault size room))
+    answered (orElse (firstFault (sendingFaults c m)) (fitFault size room))
     (record { length = size; connection = after c m })

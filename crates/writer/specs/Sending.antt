@@ -33,18 +33,22 @@ stateFault c m = unless (inState c (kindOf m)) notNow
 abbrev pub sizeFault : Connection → Move → ℕ
 sizeFault c m = unless (inSize c m) sizeWrong
 
+-- what is looked for before 2 and 15
+abbrev pub sendingFaults : Connection → Move → List ℕ
+sendingFaults c m = stateFault c m ∷ sizeFault c m ∷ []
+
 -- the call that writes a packet: it makes its move, and answers its length and the connection after it
 abbrev pub sending : Connection → Move → List ℕ → Call Written
 sending c m payload = record {
-  faults = stateFault c m ∷ sizeFault c m ∷ [];
+  faults = sendingFaults c m;
   at = 0;
   bytes = packetOf m payload;
   answer = record { length = length (packetOf m payload); connection = after c m };
 }
 
 -- CPing and CPong: the code alone
-abbrev pub barePayload : Kind → List ℕ
-barePayload kind = codeOf kind ∷ []
+abbrev pub barePayload : Move → List ℕ
+barePayload m = codeOf (kindOf m) ∷ []
 
 -- a body packet: no payload where it is empty, else a size and so many bytes
 abbrev pub bodyPayload : List ℕ → List ℕ
@@ -62,12 +66,15 @@ getPayload asked = codeOf Kind.GetBody ∷ integerBytes asked
 abbrev pub endPayload : Bool → List ℕ
 endPayload reuse = codeOf Kind.End ∷ booleanBytes reuse
 
--- the calls
-unfoldable pub cpingCall : Connection → Call Written
-cpingCall c = sending c Move.CPing (barePayload Kind.CPing)
+-- the calls; the first is what CPing and CPong share
+unfoldable pub bareCall : Connection → Move → Call Written
+bareCall c m = sending c m (barePayload m)
 
-unfoldable pub cpongCall : Connection → Call Written
-cpongCall c = sending c Move.CPong (barePayload Kind.CPong)
+abbrev pub cpingCall : Connection → Call Written
+cpingCall c = bareCall c Move.CPing
+
+abbrev pub cpongCall : Connection → Call Written
+cpongCall c = bareCall c Move.CPong
 
 unfoldable pub bodyCall : Connection → List ℕ → Call Written
 bodyCall c bytes = sending c (Move.Body (length bytes)) (bodyPayload bytes)

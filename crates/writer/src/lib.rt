@@ -1,7 +1,8 @@
 // The packets that one call builds: CPing and body packet at the server's end; CPong, Send Body Chunk, Get Body Chunk and End at the
-// container's. A packet stands from the buffer's first byte on; its length and the connection after it are answered, and no byte behind it
+// container's. A packet is written at the start of the buffer; its length and the connection after it are answered, and no byte behind it
 // is touched. A refusal leaves the buffer as it was, and the connection given still counts. Every call answers for any connection, any
-// buffer and any bytes. A buffer of 8192 bytes is long enough for every packet.
+// buffer and any bytes. A CPing and a CPong have 5 bytes, a Get Body Chunk 7, an End 6; `body_needs` and `body_chunk_needs` tell the
+// others. A buffer of 8192 bytes is long enough for every packet.
 ghost use mathlib.Core.Path.{_≡_};
 ghost use lib.ListN.{length};
 ghost use Rattle.wire.specs.Bytes.{over};
@@ -10,7 +11,7 @@ ghost use Rattle.fields.specs.Field.{sizeTold, Fits};
 ghost use Rattle.fields.specs.Call.{outcome, bufferAfter};
 ghost use Rattle.writer.specs.Meaning.{meaning};
 ghost use Rattle.writer.specs.Private.{isWritten, readyOf};
-ghost use Rattle.writer.specs.Sending.{packetOf, bodyPayload, chunkPayload, getPayload, endPayload, cpingCall, cpongCall, bodyCall, chunkCall, getCall, endCall};
+ghost use Rattle.writer.specs.Sending.{packetOf, bodyPayload, chunkPayload, getPayload, endPayload, bareCall, cpingCall, cpongCall, bodyCall, chunkCall, getCall, endCall};
 use connection::Connection;
 use connection::Kind;
 use connection::Move;
@@ -24,7 +25,7 @@ use payload::body::BODY_START;
 use wire::Direction;
 use wire::refusal;
 
-// How many bytes the payload has whose code is all, of a Get Body Chunk, and of an End.
+// Payload sizes: of a CPing and a CPong, of a Get Body Chunk, of an End.
 const BARE_PAYLOAD: u16 = 1;
 
 const GET_BODY_PAYLOAD: u16 = 3;
@@ -34,7 +35,7 @@ const END_PAYLOAD: u16 = 2;
 // How many bytes a chunk's payload has beside the chunk: the code, the length and the zero; and a body packet's beside the body: the size.
 const AROUND_CHUNK: usize = 4;
 
-const BEFORE_BODY: usize = 2;
+const BEFORE_BODY: usize = size::INTEGER;
 
 // What a call that sends answers: the refusal's number, or the packet's length and the connection after it.
 pub enum Sent {
@@ -55,7 +56,8 @@ pub fn body_needs(bytes: &[u8]) -> usize
     size::plus(BODY_START as usize, bytes.len())
 }
 
-// How many bytes a buffer needs for a Send Body Chunk with these bytes, 8193 where no packet has room for them.
+// How many bytes a buffer needs for a Send Body Chunk with these bytes, 8193 where no packet has room for them. A chunk has the shape of a
+// string, a length before and a zero behind, and is measured and written as one; its bytes are any, since no string's rule is asked.
 pub fn body_chunk_needs(bytes: &[u8]) -> usize
     ensures { λ r. ⌜ r ≡ sizeTold (length (packetOf (Move.BodyChunk (length (now (bytes .entry)))) (chunkPayload (now (bytes .entry))))) ⌝ }
 {
@@ -136,21 +138,29 @@ fn write_end(buffer: &mut [u8], reuse: bool)
     put::boolean(buffer, at, reuse);
 }
 
+// Sends a packet whose code is all.
+fn bare(connection: Connection, buffer: &mut [u8], m: Move) -> Sent
+    ensures { λ r. ⌜ meaning r ≡ outcome (bareCall connection m) (length (now (buffer .entry))) ⌝ }
+    ensures { λ _. ⌜ now (buffer .exit) ≡ bufferAfter (bareCall connection m) (now (buffer .entry)) ⌝ }
+{
+    let sent = ready(
+        connection,
+        m,
+        PAYLOAD_PLACE + BARE_PAYLOAD as usize,
+        buffer.len(),
+    );
+    if is_written(sent) {
+        put::open(buffer, m.kind(), BARE_PAYLOAD);
+    }
+    sent
+}
+
 // Sends a CPing: the container is asked whether it is there.
 pub fn cping(connection: Connection, buffer: &mut [u8]) -> Sent
     ensures { λ r. ⌜ meaning r ≡ outcome (cpingCall connection) (length (now (buffer .entry))) ⌝ }
     ensures { λ _. ⌜ now (buffer .exit) ≡ bufferAfter (cpingCall connection) (now (buffer .entry)) ⌝ }
 {
-    let sent = ready(
-        connection,
-        Move::CPing,
-        PAYLOAD_PLACE + BARE_PAYLOAD as usize,
-        buffer.len(),
-    );
-    if is_written(sent) {
-        put::open(buffer, Kind::CPing, BARE_PAYLOAD);
-    }
-    sent
+    bare(connection, buffer, Move::CPing)
 }
 
 // Sends a CPong: the answer to a CPing.
@@ -158,16 +168,7 @@ pub fn cpong(connection: Connection, buffer: &mut [u8]) -> Sent
     ensures { λ r. ⌜ meaning r ≡ outcome (cpongCall connection) (length (now (buffer .entry))) ⌝ }
     ensures { λ _. ⌜ now (buffer .exit) ≡ bufferAfter (cpongCall connection) (now (buffer .entry)) ⌝ }
 {
-    let sent = ready(
-        connection,
-        Move::CPong,
-        PAYLOAD_PLACE + BARE_PAYLOAD as usize,
-        buffer.len(),
-    );
-    if is_written(sent) {
-        put::open(buffer, Kind::CPong, BARE_PAYLOAD);
-    }
-    sent
+    bare(connection, buffer, Move::CPong)
 }
 
 // Sends a body packet with these bytes. Without any it is the empty body packet.

@@ -4,8 +4,8 @@ use borrow.Author.Needs.{needs}
 use Rattle.pieces.proofs.attribute.code_fault.Statement.{statement}
 use Rattle.pieces.proofs.attribute.code_fault.Tie as tie
 
-attribute-fault-requires : tie.Need-attribute-fault-requires
-attribute-fault-requires c κs = search needs
+attribute-now-requires : tie.Need-attribute-now-requires
+attribute-now-requires c κs = search needs
 
 unless-requires : tie.Need-unless-requires
 unless-requires c κs = search needs
@@ -18,4 +18,4 @@ returns c = cc
 
 pub code-fault-spec : {M : Type 1} → statement M
 code-fault-spec =
-    tie.close (tie.spec attribute-fault-requires unless-requires or-else-requires returns)
+    tie.close (tie.spec attribute-now-requires unless-requires or-else-requires returns)

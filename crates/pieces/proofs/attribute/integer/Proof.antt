@@ -7,7 +7,8 @@ use Rattle.wire.specs.Bytes.{integerBytes}
 use Rattle.fields.specs.Call.{Call}
 use Rattle.pieces.specs.declared.Building.{Building}
 use Rattle.pieces.specs.Attribute.{integerCall}
-use Rattle.pieces.proofs.Pieces.{Checked, checked, refused-both, row-fits, end-fits, done-both, behindAttribute}
+use Rattle.pieces.specs.Record.{withAttribute}
+use Rattle.pieces.proofs.Pieces.{Checked, checked, refused-both, row-fits, end-fits, done-both}
 use Rattle.pieces.proofs.attribute.integer.Statement.{statement}
 use Rattle.pieces.proofs.attribute.integer.Tie as tie
 
@@ -69,7 +70,7 @@ returns-2 c =
     let i = w .before .before .before in
     let o = i .before in
     let e = o .before .before .before .before .before .before in
-    done-both (known o) (behindAttribute (e .args .building)) (i .if1 .left) refl
+    done-both (known o) (withAttribute (e .args .building)) (i .if1 .left) refl
     (c .with-attribute .ensures)
     (row e)
     (w .before .index .ensures)

@@ -3,15 +3,13 @@
 use native.Mathlib.Omega.{arith}
 use native.Mathlib.Nat.{zero-add}
 use mathlib.Core.Path.{refl, sym, ap}
-use mathlib.Core.Bool.{false}
-use Prim.Native.Nat.{ℕ, _-_}
 use borrow.Author.Needs.{needs}
 use lib.ListN.{length}
 use Rattle.fields.specs.Call.{Call}
 use Rattle.fields.proofs.Calls.{done-own}
 use Rattle.pieces.specs.declared.BuildingKind.{BuildingKind}
 use Rattle.pieces.specs.declared.Building.{Building}
-use Rattle.pieces.specs.Record.{fields, countSize}
+use Rattle.pieces.specs.Record.{opened}
 use Rattle.pieces.specs.Fixed.{forwardCall}
 use Rattle.pieces.proofs.Laws.{method-within, forward-size}
 use Rattle.pieces.proofs.Pieces.{Checked, checked, refused-both, row-fits, end-exact, end-fits, done-both}
@@ -21,10 +19,6 @@ use Rattle.pieces.proofs.forward.begin.Tie as tie
 -- the call that is to be met
 abbrev call : tie.Start → Call Building
 call e = let a = e .args in forwardCall (a .numbers) (a .nulls) (a .protocol .now) (a .uri .now) (a .addr .now) (a .host .now) (a .name .now)
-
--- the first record, by where the fields end
-abbrev first-record : ℕ → Building
-first-record end = fields BuildingKind.Forward end (end - countSize) 0 false
 
 -- what is known once the faults were looked for
 known : (c : tie.After-or-else) → let e = c .before .before .before .before .before .before .before .before .before .before in
@@ -75,7 +69,7 @@ returns-2 c =
     let i = w .before .before in
     let o = i .before in
     let e = o .before .before .before .before .before .before .before .before .before .before in
-    done-both (known o) first-record (i .if1 .left) (ap first-record (sym (zero-add (length (call e .bytes))))) (c .opened .ensures) refl refl (w .write .ensures)
+    done-both (known o) (opened BuildingKind.Forward) (i .if1 .left) (ap (opened BuildingKind.Forward) (sym (zero-add (length (call e .bytes))))) (c .opened .ensures) refl refl (w .write .ensures)
 
 pub begin-spec : {M : Type 1} → statement M
 begin-spec =

@@ -7,8 +7,9 @@ use Rattle.wire.specs.Bytes.{integerBytes}
 use Rattle.wire.specs.Field.{stringBytes}
 use Rattle.fields.specs.Call.{Call}
 use Rattle.pieces.specs.declared.Building.{Building}
-use Rattle.pieces.specs.Header.{directionIn, codedFields, codedCall}
-use Rattle.pieces.proofs.Pieces.{Checked, checked, refused-both, row-fits, done-both, behindHeader, header-room}
+use Rattle.pieces.specs.Header.{codedFields, codedCall}
+use Rattle.pieces.specs.Record.{directionIn, withHeader}
+use Rattle.pieces.proofs.Pieces.{Checked, checked, refused-both, row-fits, done-both, header-room}
 use Rattle.pieces.proofs.header.coded.Statement.{statement}
 use Rattle.pieces.proofs.header.coded.Tie as tie
 
@@ -27,13 +28,13 @@ known : (c : tie.After-or-else) → let e = c .before .before .before .before .b
 unfolding codedCall
 known c =
     let f = c .before in
-    checked (f .before .coded-fault .ensures) (f .fit .ensures) (f .before .before .before .coded-needs .ensures) (c .or-else .ensures)
+    checked (f .before .coded-header-fault .ensures) (f .fit .ensures) (f .before .before .before .coded-needs .ensures) (c .or-else .ensures)
 
 coded-needs-requires : tie.Need-coded-needs-requires
 coded-needs-requires c κs = search needs
 
-coded-fault-requires : tie.Need-coded-fault-requires
-coded-fault-requires c κs = search needs
+coded-header-fault-requires : tie.Need-coded-header-fault-requires
+coded-header-fault-requires c κs = search needs
 
 fit-requires : tie.Need-fit-requires
 fit-requires c κs = search needs
@@ -75,7 +76,7 @@ returns-2 c =
     let i = w .before .before .before in
     let o = i .before in
     let e = o .before .before .before .before .before .before .before in
-    done-both (known o) (behindHeader (e .args .building)) (i .if1 .left) refl
+    done-both (known o) (withHeader (e .args .building)) (i .if1 .left) refl
     (c .with-header .ensures)
     (row e)
     (w .before .index .ensures)
@@ -86,7 +87,7 @@ coded-spec =
     tie.close
     (tie.spec
     coded-needs-requires
-    coded-fault-requires
+    coded-header-fault-requires
     fit-requires
     or-else-requires
     same-length

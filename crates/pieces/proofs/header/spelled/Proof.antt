@@ -6,8 +6,9 @@ use borrow.Author.Needs.{needs}
 use Rattle.wire.specs.Field.{stringBytes}
 use Rattle.fields.specs.Call.{Call}
 use Rattle.pieces.specs.declared.Building.{Building}
-use Rattle.pieces.specs.Header.{directionIn, spelledFields, spelledCall}
-use Rattle.pieces.proofs.Pieces.{Checked, checked, refused-both, row-fits, done-both, behindHeader, header-room}
+use Rattle.pieces.specs.Header.{spelledFields, spelledCall}
+use Rattle.pieces.specs.Record.{directionIn, withHeader}
+use Rattle.pieces.proofs.Pieces.{Checked, checked, refused-both, row-fits, done-both, header-room}
 use Rattle.pieces.proofs.header.spelled.Statement.{statement}
 use Rattle.pieces.proofs.header.spelled.Tie as tie
 
@@ -26,13 +27,13 @@ known : (c : tie.After-or-else) → let e = c .before .before .before .before .b
 unfolding spelledCall
 known c =
     let f = c .before in
-    checked (f .before .spelled-name-fault .ensures) (f .fit .ensures) (f .before .before .before .spelled-needs .ensures) (c .or-else .ensures)
+    checked (f .before .spelled-header-fault .ensures) (f .fit .ensures) (f .before .before .before .spelled-needs .ensures) (c .or-else .ensures)
 
 spelled-needs-requires : tie.Need-spelled-needs-requires
 spelled-needs-requires c κs = search needs
 
-spelled-name-fault-requires : tie.Need-spelled-name-fault-requires
-spelled-name-fault-requires c κs = search needs
+spelled-header-fault-requires : tie.Need-spelled-header-fault-requires
+spelled-header-fault-requires c κs = search needs
 
 fit-requires : tie.Need-fit-requires
 fit-requires c κs = search needs
@@ -74,7 +75,7 @@ returns-2 c =
     let i = w .before .before .before in
     let o = i .before in
     let e = o .before .before .before .before .before .before .before .before in
-    done-both (known o) (behindHeader (e .args .building)) (i .if1 .left) refl
+    done-both (known o) (withHeader (e .args .building)) (i .if1 .left) refl
     (c .with-header .ensures)
     (row e)
     (w .before .index .ensures)
@@ -85,7 +86,7 @@ spelled-spec =
     tie.close
     (tie.spec
     spelled-needs-requires
-    spelled-name-fault-requires
+    spelled-header-fault-requires
     fit-requires
     or-else-requires
     same-length

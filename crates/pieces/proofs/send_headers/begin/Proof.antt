@@ -3,14 +3,12 @@
 use native.Mathlib.Omega.{arith}
 use native.Mathlib.Nat.{zero-add}
 use mathlib.Core.Path.{refl, sym, ap}
-use mathlib.Core.Bool.{false}
-use Prim.Native.Nat.{ℕ, _-_}
 use borrow.Author.Needs.{needs}
 use lib.ListN.{length}
 use Rattle.fields.specs.Call.{Call}
 use Rattle.pieces.specs.declared.BuildingKind.{BuildingKind}
 use Rattle.pieces.specs.declared.Building.{Building}
-use Rattle.pieces.specs.Record.{fields, countSize}
+use Rattle.pieces.specs.Record.{opened}
 use Rattle.pieces.specs.Fixed.{sendHeadersCall}
 use Rattle.pieces.proofs.Laws.{send-headers-size}
 use Rattle.pieces.proofs.Pieces.{Checked, checked, refused-both, row-fits, end-exact, end-fits, done-both}
@@ -20,10 +18,6 @@ use Rattle.pieces.proofs.send_headers.begin.Tie as tie
 -- the call that is to be met
 abbrev call : tie.Start → Call Building
 call e = let a = e .args in sendHeadersCall (a .status) (a .null) (a .message .now)
-
--- the first record, by where the fields end
-abbrev first-record : ℕ → Building
-first-record end = fields BuildingKind.SendHeaders end (end - countSize) 0 false
 
 -- what is known once the faults were looked for
 known : (c : tie.After-or-else) → let e = c .before .before .before .before .before .before in
@@ -71,7 +65,7 @@ returns-2 c =
     let i = w .before .before in
     let o = i .before in
     let e = o .before .before .before .before .before .before in
-    done-both (known o) first-record (i .if1 .left) (ap first-record (sym (zero-add (length (call e .bytes))))) (c .opened .ensures) refl refl (w .write .ensures)
+    done-both (known o) (opened BuildingKind.SendHeaders) (i .if1 .left) (ap (opened BuildingKind.SendHeaders) (sym (zero-add (length (call e .bytes))))) (c .opened .ensures) refl refl (w .write .ensures)
 
 pub begin-spec : {M : Type 1} → statement M
 begin-spec =

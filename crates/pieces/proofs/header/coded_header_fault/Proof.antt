@@ -1,21 +1,24 @@
--- `pieces::header::spelled_name_fault` meets its contract: the call's faults, each looked for behind those before it.
+-- `pieces::header::coded_header_fault` meets its contract: the call's faults, each looked for behind those before it.
 -- Assumes nothing.
 use borrow.Author.Needs.{needs}
-use Rattle.pieces.specs.Header.{spelledCall}
-use Rattle.pieces.proofs.header.spelled_name_fault.Statement.{statement}
-use Rattle.pieces.proofs.header.spelled_name_fault.Tie as tie
-
-header-fault-requires : tie.Need-header-fault-requires
-header-fault-requires c κs = search needs
+use Rattle.pieces.specs.Header.{codedCall}
+use Rattle.pieces.proofs.header.coded_header_fault.Statement.{statement}
+use Rattle.pieces.proofs.header.coded_header_fault.Tie as tie
 
 direction-requires : tie.Need-direction-requires
 direction-requires c κs = search needs
 
-name-fault-requires : tie.Need-name-fault-requires
-name-fault-requires c κs = search needs
+header-now-requires : tie.Need-header-now-requires
+header-now-requires c κs = search needs
+
+code-fault-requires : tie.Need-code-fault-requires
+code-fault-requires c κs = search needs
 
 or-else-requires : tie.Need-or-else-requires
 or-else-requires c κs = search needs
+
+declares-length-requires : tie.Need-declares-length-requires
+declares-length-requires c κs = search needs
 
 value-fault-requires : tie.Need-value-fault-requires
 value-fault-requires c κs = search needs
@@ -30,17 +33,18 @@ or-else-requires-3 : tie.Need-or-else-requires-3
 or-else-requires-3 c κs = search needs
 
 returns : tie.Need-returns
-unfolding spelledCall
+unfolding codedCall
 returns c = cc
 
-pub spelled-name-fault-spec : {M : Type 1} → statement M
-spelled-name-fault-spec =
+pub coded-header-fault-spec : {M : Type 1} → statement M
+coded-header-fault-spec =
     tie.close
     (tie.spec
-    header-fault-requires
     direction-requires
-    name-fault-requires
+    header-now-requires
+    code-fault-requires
     or-else-requires
+    declares-length-requires
     value-fault-requires
     or-else-requires-2
     count-fault-requires

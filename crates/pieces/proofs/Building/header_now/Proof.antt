@@ -1,13 +1,13 @@
--- `Building::header_fault` meets its contract, by whether the record can be.
+-- `Building::header_now` meets its contract, by whether the record can be.
 -- Assumes nothing.
 use mathlib.Core.Path.{sym, ap, _∙_}
 use mathlib.Core.Bool.{not}
 use Rattle.wire.specs.Pick.{both}
 use Rattle.fields.specs.Fault.{unless}
-use Rattle.pieces.specs.Record.{isPossible, headerFault}
+use Rattle.pieces.specs.Record.{isPossible, headerNow}
 use borrow.Author.Needs.{needs}
-use Rattle.pieces.proofs.Building.header_fault.Statement.{statement}
-use Rattle.pieces.proofs.Building.header_fault.Tie as tie
+use Rattle.pieces.proofs.Building.header_now.Statement.{statement}
+use Rattle.pieces.proofs.Building.header_now.Tie as tie
 
 is-possible-requires : tie.Need-is-possible-requires
 is-possible-requires c κs = search needs
@@ -16,10 +16,10 @@ unless-requires : tie.Need-unless-requires
 unless-requires c κs = search needs
 
 returns : tie.Need-returns
-unfolding headerFault
+unfolding headerNow
 returns c =
     let a = c .before .before .before .before .args in
     c .unless .ensures ∙ ap (λ t. unless (both t (not (a .self .attributes))) 16) (c .before .before .is-possible .ensures)
 
-pub header-fault-spec : {M : Type 1} → statement M
-header-fault-spec = tie.close (tie.spec is-possible-requires unless-requires returns)
+pub header-now-spec : {M : Type 1} → statement M
+header-now-spec = tie.close (tie.spec is-possible-requires unless-requires returns)
