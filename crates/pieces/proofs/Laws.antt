@@ -13,7 +13,11 @@ use Rattle.wire.specs.Bytes.{integerBytes}
 use Rattle.wire.specs.Field.{booleanBytes, stringBytes}
 use Rattle.connection.specs.declared.Kind.{Kind}
 use Rattle.payload.specs.Code.{codeOf}
+use Rattle.names.specs.Header.{headerNames}
+use Rattle.names.specs.Names.{codeIn}
+use Rattle.names.specs.declared.CodeFound.{CodeFound}
 use Rattle.fields.specs.Fault.{unless, orElse, firstFault, rangeFault}
+use Rattle.fields.specs.Call.{Outcome, outcome, bufferAfter}
 use Rattle.fields.specs.Field.{Field, opening, bytesOf, sizeTold}
 use Rattle.fields.proofs.Sizes.{or-none, or-first, told-told, boolean-one}
 use Rattle.fields.proofs.Rows.{bytes-append}
@@ -21,8 +25,9 @@ use Rattle.pieces.specs.declared.BuildingKind.{BuildingKind}
 use Rattle.pieces.specs.declared.forward.Numbers.{Numbers}
 use Rattle.pieces.specs.declared.forward.Nulls.{Nulls}
 use Rattle.pieces.specs.declared.Building.{Building}
-use Rattle.pieces.specs.Record.{kindIn, isPossible}
+use Rattle.pieces.specs.Record.{kindIn, directionIn, isPossible}
 use Rattle.pieces.specs.Fixed.{fixed, forwardFields, sendHeadersFields}
+use Rattle.pieces.specs.Header.{namedBy, namedCall}
 use Rattle.pieces.specs.Private.{forwardStrings, forwardTail}
 
 -- a record that can be, by its tests; a proof that does not reach a test says `refl`
@@ -107,3 +112,12 @@ method-within n a b c d e h = go (leb 1 n) (leb n 27) refl refl (first (rangeFau
     go true true p q h = leb-true n 27 q
     go true false p q h = omega (arith, h)
     go false t p q h = omega (arith, h)
+
+-- a header whose name is given as a text, by whether it is listed
+pub named-both : (r : Building) (buffer name : List ℕ) (null : Bool) (value : List ℕ) (found : CodeFound) (answer : Outcome Building) (after : List ℕ)
+    → codeIn (headerNames (directionIn r)) name ≡ found
+    → answer ≡ outcome (namedBy r buffer name null value found) (length buffer)
+    → after ≡ bufferAfter (namedBy r buffer name null value found) buffer
+    → (answer ≡ outcome (namedCall r buffer name null value) (length buffer)) × (after ≡ bufferAfter (namedCall r buffer name null value) buffer)
+unfolding namedCall
+named-both r buffer name null value found answer after e p q = rw e (p, q)

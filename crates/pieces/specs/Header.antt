@@ -10,12 +10,14 @@ use Rattle.wire.specs.Bytes.{integerBytes}
 use Rattle.wire.specs.Field.{stringBytes}
 use Rattle.wire.specs.declared.Direction.{Direction}
 use Rattle.wire.specs.declared.StringField.{StringField}
-use Rattle.names.specs.Header.{codeFault, spelledFault}
+use Rattle.names.specs.Header.{headerNames, codeFault, spelledFault}
+use Rattle.names.specs.Names.{codeIn}
+use Rattle.names.specs.declared.CodeFound.{CodeFound}
 use Rattle.names.specs.declared.length.Declared.{Declared}
 use Rattle.names.specs.declared.length.Declaring.{Declaring}
 use Rattle.headers.specs.Headers.{declares, declaredBy}
 use Rattle.fields.specs.Fault.{orElse, stringFault}
-use Rattle.fields.specs.Field.{Field, faultsOf, bytesOf}
+use Rattle.fields.specs.Field.{Field, faultsOf, bytesOf, neededAt}
 use Rattle.fields.specs.Call.{Call}
 use Rattle.pieces.specs.declared.Building.{Building}
 use Rattle.pieces.specs.Record.{directionIn, headerNow, countFault, withHeader}
@@ -69,3 +71,16 @@ codedCall r buffer code null value = headerCall r buffer (codedFields (direction
 unfoldable pub spelledCall : Building → List ℕ → Bool → List ℕ → Bool → List ℕ → Call Building
 spelledCall r buffer nameNull name valueNull value =
     headerCall r buffer (spelledFields (directionIn r) nameNull name valueNull value)
+
+-- a header whose name is given as a text: by its code where it is listed, else spelled out
+abbrev pub namedBy : Building → List ℕ → List ℕ → Bool → List ℕ → CodeFound → Call Building
+namedBy r buffer name null value (CodeFound.Code code) = codedCall r buffer code null value
+namedBy r buffer name null value CodeFound.NotListed = spelledCall r buffer false name null value
+
+unfoldable pub namedCall : Building → List ℕ → List ℕ → Bool → List ℕ → Call Building
+namedCall r buffer name null value = namedBy r buffer name null value (codeIn (headerNames (directionIn r)) name)
+
+-- how many bytes a buffer needs for it
+abbrev pub namedNeeds : Building → List ℕ → Bool → List ℕ → CodeFound → ℕ
+namedNeeds r name null value (CodeFound.Code code) = neededAt (r .next .0) (codedFields (directionIn r) code null value)
+namedNeeds r name null value CodeFound.NotListed = neededAt (r .next .0) (spelledFields (directionIn r) false name null value)

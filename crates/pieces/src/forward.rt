@@ -13,11 +13,13 @@ ghost use Rattle.pieces.specs.Fixed.{noNulls, fixed, forwardFields, forw
 ghost use Rattle.pieces.specs.Private.{forwardStrings, forwardTail};
 use crate::Added;
 use crate::BuildingKind;
+use crate::COUNT_SIZE;
 use crate::opened;
 use connection::Kind;
 use fields::fault;
 use fields::put;
 use fields::size;
+use payload::AFTER_CODE;
 use payload::forward::FIRST_METHOD;
 use payload::forward::LAST_METHOD;
 use wire::StringField;
@@ -55,9 +57,9 @@ impl Nulls {
 }
 
 // The bytes in front of the first string: four, the code and the method. Behind the last one: port, is_ssl and the count.
-const BEFORE_STRINGS: usize = 6;
+const BEFORE_STRINGS: usize = AFTER_CODE + size::BYTE;
 
-const BEHIND_STRINGS: usize = 5;
+const BEHIND_STRINGS: usize = size::INTEGER + size::BYTE + COUNT_SIZE;
 
 // How many bytes a buffer needs for the fixed fields, 8193 where no packet has room for them.
 pub fn needs(

@@ -4,19 +4,23 @@ ghost use mathlib.Core.List.{_++_};
 ghost use lib.ListN.{length};
 ghost use Rattle.wire.specs.Bytes.{over, integerBytes};
 ghost use Rattle.wire.specs.Field.{stringBytes};
+ghost use Rattle.names.specs.Header.{headerNames};
+ghost use Rattle.names.specs.Names.{codeIn};
 ghost use Rattle.fields.specs.Fault.{firstFault};
 ghost use Rattle.fields.specs.Field.{neededAt, Fits};
 ghost use Rattle.fields.specs.Call.{outcome, bufferAfter};
 ghost use Rattle.pieces.specs.Record.{directionIn};
 ghost use Rattle.pieces.specs.Meaning.{meaning};
-ghost use Rattle.pieces.specs.Header.{declaringFault, valueFault, spelledName, codedFields, spelledFields, codedCall, spelledCall};
+ghost use Rattle.pieces.specs.Header.{declaringFault, valueFault, spelledName, codedFields, spelledFields, codedCall, spelledCall, namedCall, namedNeeds};
 use crate::Added;
 use crate::Building;
+use crate::code::of_header;
 use fields::fault;
 use fields::put;
 use fields::size;
 use headers::declared_by;
 use headers::declares_length;
+use names::CodeFound;
 use names::header::code_fault;
 use names::header::spelled_fault;
 use names::length::Declared;
@@ -25,14 +29,15 @@ use wire::Direction;
 use wire::StringField;
 use wire::refusal;
 
-// How many bytes a name that is a code takes.
-const CODE_SIZE: usize = 2;
-
 // How many bytes a buffer needs for a header with a code for its name, 8193 where no packet has room for it.
 pub fn coded_needs(building: Building, code: u16, value: &[u8], null: bool) -> usize
     ensures { λ r. ⌜ r ≡ neededAt (building .next .0) (codedFields (directionIn building) code null (now (value .entry))) ⌝ }
 {
-    size::string(size::plus(building.next.index(), CODE_SIZE), value, null)
+    size::string(
+        size::plus(building.next.index(), size::INTEGER),
+        value,
+        null,
+    )
 }
 
 // How many bytes a buffer needs for a header with a spelled name, 8193 where no packet has room for it.
@@ -50,6 +55,17 @@ pub fn spelled_needs(
         value,
         novalue,
     )
+}
+
+// How many bytes a buffer needs for a header whose name is given as a text, 8193 where no packet has room for it.
+pub fn named_needs(building: Building, name: &[u8], value: &[u8], null: bool) -> usize
+    ensures { λ r. ⌜ r ≡ namedNeeds building (now (name .entry)) null (now (value .entry)) (codeIn (headerNames (directionIn building)) (now (name .entry))) ⌝ }
+{
+    let kind = building.kind;
+    match of_header(kind, name) {
+        CodeFound::Code(code) => coded_needs(building, code, value, null),
+        CodeFound::NotListed => spelled_needs(building, name, false, value, null),
+    }
 }
 
 // The fault of what a value declares.
@@ -158,4 +174,16 @@ pub fn spelled(
     }
     put::two_strings(buffer, building.next.index(), name, noname, value, novalue);
     Added::Next(building.with_header(end))
+}
+
+// Adds a header whose name is given as a text: by its code where the name is listed, else spelled out.
+pub fn named(building: Building, buffer: &mut [u8], name: &[u8], value: &[u8], null: bool) -> Added
+    ensures { λ r. ⌜ meaning r ≡ outcome (namedCall building (now (buffer .entry)) (now (name .entry)) null (now (value .entry))) (length (now (buffer .entry))) ⌝ }
+    ensures { λ _. ⌜ now (buffer .exit) ≡ bufferAfter (namedCall building (now (buffer .entry)) (now (name .entry)) null (now (value .entry))) (now (buffer .entry)) ⌝ }
+{
+    let kind = building.kind;
+    match of_header(kind, name) {
+        CodeFound::Code(code) => coded(building, buffer, code, value, null),
+        CodeFound::NotListed => spelled(building, buffer, name, false, value, null),
+    }
 }

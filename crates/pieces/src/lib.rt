@@ -12,6 +12,7 @@ use connection::Connection;
 use connection::Kind;
 use connection::Place;
 use fields::fault::unless;
+use fields::size::INTEGER;
 use payload::CODE_PLACE;
 use payload::PAYLOAD_PLACE;
 use payload::code_of;
@@ -20,12 +21,13 @@ use wire::Direction;
 use wire::refusal;
 
 pub mod attribute;
+pub mod code;
 pub mod forward;
 pub mod header;
 pub mod send_headers;
 
 // How many bytes the count of headers takes.
-const COUNT_SIZE: usize = 2;
+const COUNT_SIZE: usize = INTEGER;
 
 // The packets that are built in pieces.
 pub enum BuildingKind {

@@ -16,13 +16,14 @@ use connection::Kind;
 use fields::fault;
 use fields::put;
 use fields::size;
+use payload::AFTER_CODE;
 use payload::send_headers::GREATEST_STATUS;
 use payload::send_headers::LEAST_STATUS;
 use wire::StringField;
 use wire::refusal;
 
 // The bytes in front of the message: four, the code and the status.
-const BEFORE_MESSAGE: usize = 7;
+const BEFORE_MESSAGE: usize = AFTER_CODE + size::INTEGER;
 
 // How many bytes a buffer needs for the fixed fields, 8193 where no packet has room for them.
 pub fn needs(status: u16, message: &[u8], null: bool) -> usize
