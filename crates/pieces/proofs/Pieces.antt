@@ -16,7 +16,7 @@ use Rattle.fields.specs.Call.{Call, refused, done, refusalOf, outcome, bufferAf
 use Rattle.fields.proofs.Sizes.{or-second, told-exact, told-told}
 use Rattle.fields.proofs.Calls.{found-by, refused-answer, refused-buffer, done-answer, done-buffer, done-own, done-fits}
 use Rattle.pieces.specs.declared.Building.{Building}
-use Rattle.pieces.specs.Record.{fields, headerNow, countFault}
+use Rattle.pieces.specs.Record.{headerNow, countFault}
 use Rattle.pieces.specs.Header.{headerCall}
 
 -- the size of bytes and of more bytes behind them

@@ -1,6 +1,6 @@
 -- `fields::fault::fit` meets its contract, by whether the end is within a packet and within the room.
 -- Assumes nothing.
-use mathlib.Core.Path.{refl, sym, ap, _∙_}
+use mathlib.Core.Path.{refl, sym, _∙_}
 use mathlib.Core.Bool.{true, false}
 use borrow.Author.Tests.{not-true, not-false}
 use Rattle.fields.specs.Fault.{unless}

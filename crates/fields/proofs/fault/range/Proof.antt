@@ -1,6 +1,6 @@
 -- `fields::fault::range` meets its contract, by whether the number is under the least and over the greatest.
 -- Assumes nothing.
-use mathlib.Core.Path.{refl, sym, ap, _∙_}
+use mathlib.Core.Path.{refl, _∙_}
 use mathlib.Core.Bool.{true, false}
 use borrow.Author.Tests.{le-leb, lt-leb}
 use Rattle.fields.proofs.Sizes.{range-by}

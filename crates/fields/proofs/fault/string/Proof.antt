@@ -1,6 +1,6 @@
 -- `fields::fault::string` meets its contract: the string is allowed, or 6.
 -- Assumes nothing.
-use mathlib.Core.Path.{refl, sym, ap, _∙_}
+use mathlib.Core.Path.{ap, _∙_}
 use Rattle.wire.specs.Field.{stringAllowed}
 use Rattle.fields.specs.Fault.{unless, stringFault}
 use borrow.Author.Needs.{needs}

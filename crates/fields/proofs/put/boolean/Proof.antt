@@ -2,7 +2,7 @@
 -- Assumes nothing.
 use Prim.Native.Nat.{_+_}
 use Rattle.fields.proofs.Sizes.{boolean-one}
-use mathlib.Core.Path.{refl, sym, ap, _∙_}
+use mathlib.Core.Path.{sym, ap, _∙_}
 use Rattle.wire.proofs.Bytes.{put-fits}
 use borrow.Author.Needs.{needs}
 use Rattle.fields.proofs.put.boolean.Statement.{statement}

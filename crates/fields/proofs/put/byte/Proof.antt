@@ -1,6 +1,6 @@
 -- `fields::put::byte` meets its contract: a byte, where there is room.
 -- Assumes nothing.
-use mathlib.Core.Path.{refl, sym, ap, _∙_}
+use mathlib.Core.Path.{refl, _∙_}
 use Rattle.wire.proofs.Bytes.{put-fits}
 use borrow.Author.Needs.{needs}
 use Rattle.fields.proofs.put.byte.Statement.{statement}

@@ -1,7 +1,7 @@
 -- `fields::put::head` meets its contract: a packet's first four bytes, where there is room.
 -- Assumes nothing.
 use Rattle.wire.proofs.Field.{head-four}
-use mathlib.Core.Path.{refl, sym, ap, _∙_}
+use mathlib.Core.Path.{sym, _∙_}
 use Rattle.wire.proofs.Bytes.{put-fits}
 use borrow.Author.Needs.{needs}
 use Rattle.fields.proofs.put.head.Statement.{statement}

@@ -11,7 +11,6 @@ use Rattle.wire.specs.Bytes.{over}
 use Rattle.wire.specs.Packet.{head}
 use Rattle.connection.specs.Cycle.{directionOf}
 use Rattle.payload.specs.Code.{codeOf}
-use Rattle.fields.specs.Field.{Fits}
 use Rattle.fields.proofs.Rows.{fits-first, fits-later, joined, code-small}
 use Rattle.fields.proofs.put.open.Statement.{statement}
 use Rattle.fields.proofs.put.open.Tie as tie

@@ -1,6 +1,5 @@
 -- `fields::size::plus` meets its contract, by whether the sum is over 8193.
 -- Assumes nothing.
-use native.Mathlib.Omega.{arith}
 use mathlib.Core.Path.{sym}
 use Rattle.fields.proofs.Sizes.{told-exact, told-over}
 use borrow.Author.Needs.{needs}

@@ -1,6 +1,6 @@
 -- `Building::attribute_now` meets its contract, by whether the record can be.
 -- Assumes nothing.
-use mathlib.Core.Path.{sym, ap, _∙_}
+use mathlib.Core.Path.{ap, _∙_}
 use Rattle.wire.specs.Pick.{both}
 use Rattle.fields.specs.Fault.{unless}
 use Rattle.pieces.specs.Record.{isPossible, attributeNow}

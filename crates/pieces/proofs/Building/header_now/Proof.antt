@@ -1,10 +1,10 @@
 -- `Building::header_now` meets its contract, by whether the record can be.
 -- Assumes nothing.
-use mathlib.Core.Path.{sym, ap, _∙_}
+use mathlib.Core.Path.{ap, _∙_}
 use mathlib.Core.Bool.{not}
 use Rattle.wire.specs.Pick.{both}
 use Rattle.fields.specs.Fault.{unless}
-use Rattle.pieces.specs.Record.{isPossible, headerNow}
+use Rattle.pieces.specs.Record.{headerNow}
 use borrow.Author.Needs.{needs}
 use Rattle.pieces.proofs.Building.header_now.Statement.{statement}
 use Rattle.pieces.proofs.Building.header_now.Tie as tie

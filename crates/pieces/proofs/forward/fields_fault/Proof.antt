@@ -1,7 +1,5 @@
 -- `pieces::forward::fields_fault` meets its contract: the method, then each string.
 -- Assumes nothing.
-use mathlib.Core.Path.{sym, ap, _∙_}
-use Rattle.fields.proofs.Sizes.{or-none}
 use Rattle.pieces.proofs.Laws.{six-faults}
 use borrow.Author.Needs.{needs}
 use Rattle.pieces.proofs.forward.fields_fault.Statement.{statement}
