@@ -110,7 +110,7 @@ value-inside s at AttributeKind.Integer = number-value-inside s at
 value-inside s at AttributeKind.Pair = pair-inside s at
 
 -- no code of 16 or more is served
-high-unserved : (code : ℕ) → 16 ≤ code → attributeKind code ≡ AttributeKind.NotServed
+pub high-unserved : (code : ℕ) → 16 ≤ code → attributeKind code ≡ AttributeKind.NotServed
 unfolding attributeKind
 high-unserved code h =
     rw (le-leb 3 code (omega arith), lt-leb code 9 (omega arith), ne-eqb code 10 (omega arith), ne-eqb code 11 (omega arith), le-leb 12 code (omega arith), lt-leb code 13 (omega arith))

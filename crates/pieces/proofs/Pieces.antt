@@ -2,22 +2,26 @@
 -- Assumes nothing.
 use native.Mathlib.Omega.{arith}
 use native.Mathlib.Nat.{add-assoc}
-use borrow.Author.Tests.{ltb-true}
+use borrow.Author.Tests.{ltb-true, leb-true, leb-false}
 use mathlib.Core.Path.{_≡_, refl, sym, ap, _∙_}
 use mathlib.Core.Bool.{Bool, true, false}
 use mathlib.Core.List.{List, [], _∷_, _++_, append-nil}
 use Prim.Native.Nat.{ℕ, _+_, _≤_, _<_}
-use lib.Dec.{ltb}
+use lib.Dec.{ltb, leb}
 use lib.ListN.{length, length-append}
 use Rattle.wire.specs.Bytes.{over}
+use Rattle.names.specs.Attribute.{attributeKind}
+use Rattle.names.specs.declared.AttributeKind.{AttributeKind}
+use Rattle.attributes.proofs.Laws.{high-unserved}
 use Rattle.fields.specs.Fault.{unless, orElse, faultAfter, firstFault, fitFault}
 use Rattle.fields.specs.Field.{Field, faultsOf, sizeTold, Fits}
 use Rattle.fields.specs.Call.{Call, refused, done, refusalOf, outcome, bufferAfter}
-use Rattle.fields.proofs.Sizes.{or-second, told-exact, told-told}
+use Rattle.fields.proofs.Sizes.{or-second, first-none, told-exact, told-told}
 use Rattle.fields.proofs.Calls.{found-by, refused-answer, refused-buffer, done-answer, done-buffer, done-own, done-fits}
 use Rattle.pieces.specs.declared.Building.{Building}
-use Rattle.pieces.specs.Record.{headerNow, countFault}
+use Rattle.pieces.specs.Record.{headerNow, attributeNow, countFault}
 use Rattle.pieces.specs.Header.{headerCall}
+use Rattle.pieces.specs.Attribute.{codeField, attributeCall}
 
 -- the size of bytes and of more bytes behind them
 pub told-more : (at : ℕ) (a b : List ℕ) (x y : ℕ) → x ≡ sizeTold (at + length a) → y ≡ sizeTold (x + length b)
@@ -89,3 +93,20 @@ header-room {r} {buffer} {end} {found} own known h =
     let last : ℕ = countFault r in
     let none : _ = sym (fault-last first (faultsOf own) last) ∙ done-own (headerCall r buffer own) buffer found (known .is) h in
     (end-fits known h, count-none r (or-second (faultAfter first (faultsOf own)) last none))
+
+-- where no fault of an attribute is found, its code takes the kind of value given, and so is one byte
+pub code-byte : (r : Building) (takes : AttributeKind → Bool) (code : ℕ) (later : List Field) {buffer : List ℕ} {end found : ℕ}
+    → takes AttributeKind.NotServed ≡ false
+    → Checked (attributeCall r buffer (codeField (takes (attributeKind code)) code ∷ later)) buffer end found → found ≡ 0 → code ≤ 255
+code-byte r takes code later {buffer} {end} {found} unserved known h =
+    let first : ℕ = attributeNow r buffer in
+    let wrong : ℕ = unless (takes (attributeKind code)) 9 in
+    let own : List Field = codeField (takes (attributeKind code)) code ∷ later in
+    let none : firstFault (first ∷ faultsOf own) ≡ 0 = done-own (attributeCall r buffer own) buffer found (known .is) h in
+    go (leb 16 code) refl (or-second first wrong (first-none (orElse first wrong) (faultsOf later) none))
+  where
+    go : (t : Bool) → leb 16 code ≡ t → unless (takes (attributeKind code)) 9 ≡ 0 → code ≤ 255
+    go true e k =
+        let f : takes (attributeKind code) ≡ false = ap takes (high-unserved code (leb-true 16 code e)) ∙ unserved in
+        omega (arith, sym (ap (λ (t : Bool). unless t 9) f) ∙ k)
+    go false e k = omega (arith, leb-false 16 code e)

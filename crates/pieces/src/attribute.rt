@@ -1,10 +1,12 @@
 // An attribute of a Forward: with a string, an integer, or a name and a value.
 ghost use mathlib.Core.Path.{_≡_};
 ghost use mathlib.Core.List.{_∷_, _++_};
+ghost use Prim.Native.Nat.{_≤_};
 ghost use lib.ListN.{length};
 ghost use Rattle.wire.specs.Bytes.{over, integerBytes};
 ghost use Rattle.wire.specs.Field.{stringBytes};
 ghost use Rattle.wire.specs.Refusal.{attributeWrong};
+ghost use Rattle.names.specs.Attribute.{attributeKind};
 ghost use Rattle.fields.specs.Fault.{unless, orElse, firstFault};
 ghost use Rattle.fields.specs.Field.{neededAt, Fits};
 ghost use Rattle.fields.specs.Call.{outcome, bufferAfter};
@@ -21,10 +23,18 @@ use names::attribute::kind_of;
 use wire::StringField;
 use wire::refusal;
 
-// How many bytes an attribute's code takes, and a value that is an integer.
-const CODE_SIZE: usize = 1;
+// The greatest code that a byte holds.
+const MAX_CODE: u16 = 255;
 
-const INTEGER_SIZE: usize = 2;
+// What value the attribute with a code has; no code past a byte is served.
+fn kind_of_code(code: u16) -> AttributeKind
+    ensures { λ r. ⌜ r ≡ attributeKind code ⌝ }
+{
+    if MAX_CODE < code {
+        return AttributeKind::NotServed;
+    }
+    kind_of(code as u8)
+}
 
 // Whether a kind of value is a string.
 fn is_text(kind: AttributeKind) -> bool
@@ -63,23 +73,23 @@ fn is_pair(kind: AttributeKind) -> bool
 }
 
 // How many bytes a buffer needs for an attribute with a string, 8193 where no packet has room for it.
-pub fn text_needs(building: Building, code: u8, value: &[u8], null: bool) -> usize
+pub fn text_needs(building: Building, code: u16, value: &[u8], null: bool) -> usize
     ensures { λ r. ⌜ r ≡ neededAt (building .next .0) (textFields code null (now (value .entry))) ⌝ }
 {
-    size::string(size::plus(building.next.index(), CODE_SIZE), value, null)
+    size::string(size::plus(building.next.index(), size::BYTE), value, null)
 }
 
 // How many bytes a buffer needs for an attribute with an integer, 8193 where no packet has room for it.
-pub fn integer_needs(building: Building, code: u8, value: u16) -> usize
+pub fn integer_needs(building: Building, code: u16, value: u16) -> usize
     ensures { λ r. ⌜ r ≡ neededAt (building .next .0) (integerFields code value) ⌝ }
 {
-    size::plus(size::plus(building.next.index(), CODE_SIZE), INTEGER_SIZE)
+    size::plus(size::plus(building.next.index(), size::BYTE), size::INTEGER)
 }
 
 // How many bytes a buffer needs for an attribute with a name and a value, 8193 where no packet has room for it.
 pub fn pair_needs(
     building: Building,
-    code: u8,
+    code: u16,
     name: &[u8],
     noname: bool,
     value: &[u8],
@@ -87,7 +97,7 @@ pub fn pair_needs(
 ) -> usize
     ensures { λ r. ⌜ r ≡ neededAt (building .next .0) (pairFields code noname (now (name .entry)) novalue (now (value .entry))) ⌝ }
 {
-    let at = size::plus(building.next.index(), CODE_SIZE);
+    let at = size::plus(building.next.index(), size::BYTE);
     let at = size::string(at, name, noname);
     size::string(at, value, novalue)
 }
@@ -103,27 +113,27 @@ fn code_fault(building: Building, buffer: &[u8], takes: bool) -> u8
 }
 
 // The first fault of an attribute with a string.
-fn text_fault(building: Building, buffer: &[u8], code: u8, value: &[u8], null: bool) -> u8
+fn text_fault(building: Building, buffer: &[u8], code: u16, value: &[u8], null: bool) -> u8
     ensures { λ r. ⌜ r ≡ firstFault (textCall building (now (buffer .entry)) code null (now (value .entry)) .faults) ⌝ }
 {
     fault::or_else(
-        code_fault(building, buffer, is_text(kind_of(code))),
+        code_fault(building, buffer, is_text(kind_of_code(code))),
         fault::string(StringField::AttributeValue, value, null),
     )
 }
 
 // The first fault of an attribute with an integer.
-fn integer_fault(building: Building, buffer: &[u8], code: u8, value: u16) -> u8
+fn integer_fault(building: Building, buffer: &[u8], code: u16, value: u16) -> u8
     ensures { λ r. ⌜ r ≡ firstFault (integerCall building (now (buffer .entry)) code value .faults) ⌝ }
 {
-    code_fault(building, buffer, is_integer(kind_of(code)))
+    code_fault(building, buffer, is_integer(kind_of_code(code)))
 }
 
 // The first fault of an attribute with a name and a value.
 fn pair_fault(
     building: Building,
     buffer: &[u8],
-    code: u8,
+    code: u16,
     name: &[u8],
     noname: bool,
     value: &[u8],
@@ -132,7 +142,7 @@ fn pair_fault(
     ensures { λ r. ⌜ r ≡ firstFault (pairCall building (now (buffer .entry)) code noname (now (name .entry)) novalue (now (value .entry)) .faults) ⌝ }
 {
     let found = fault::or_else(
-        code_fault(building, buffer, is_pair(kind_of(code))),
+        code_fault(building, buffer, is_pair(kind_of_code(code))),
         fault::string(StringField::AttributeName, name, noname),
     );
     fault::or_else(
@@ -142,20 +152,20 @@ fn pair_fault(
 }
 
 // Writes an attribute with a string.
-fn write_text(buffer: &mut [u8], at: usize, code: u8, value: &[u8], null: bool)
-    requires { ⌜ Fits at (code ∷ stringBytes null (now value)) (now buffer) ⌝ }
+fn write_text(buffer: &mut [u8], at: usize, code: u16, value: &[u8], null: bool)
+    requires { ⌜ (code ≤ 255) × Fits at (code ∷ stringBytes null (now value)) (now buffer) ⌝ }
     ensures { λ _. ⌜ now (buffer .exit) ≡ over (now (buffer .entry)) at (code ∷ stringBytes null (now (value .entry))) ⌝ }
 {
-    let at = put::byte(buffer, at, code);
+    let at = put::byte(buffer, at, code as u8);
     put::string(buffer, at, value, null);
 }
 
 // Writes an attribute with an integer.
-fn write_integer(buffer: &mut [u8], at: usize, code: u8, value: u16)
-    requires { ⌜ Fits at (code ∷ integerBytes value) (now buffer) ⌝ }
+fn write_integer(buffer: &mut [u8], at: usize, code: u16, value: u16)
+    requires { ⌜ (code ≤ 255) × Fits at (code ∷ integerBytes value) (now buffer) ⌝ }
     ensures { λ _. ⌜ now (buffer .exit) ≡ over (now (buffer .entry)) at (code ∷ integerBytes value) ⌝ }
 {
-    let at = put::byte(buffer, at, code);
+    let at = put::byte(buffer, at, code as u8);
     put::integer(buffer, at, value);
 }
 
@@ -163,21 +173,21 @@ fn write_integer(buffer: &mut [u8], at: usize, code: u8, value: u16)
 fn write_pair(
     buffer: &mut [u8],
     at: usize,
-    code: u8,
+    code: u16,
     name: &[u8],
     noname: bool,
     value: &[u8],
     novalue: bool,
 )
-    requires { ⌜ Fits at (code ∷ (stringBytes noname (now name) ++ stringBytes novalue (now value))) (now buffer) ⌝ }
+    requires { ⌜ (code ≤ 255) × Fits at (code ∷ (stringBytes noname (now name) ++ stringBytes novalue (now value))) (now buffer) ⌝ }
     ensures { λ _. ⌜ now (buffer .exit) ≡ over (now (buffer .entry)) at (code ∷ (stringBytes noname (now (name .entry)) ++ stringBytes novalue (now (value .entry)))) ⌝ }
 {
-    let at = put::byte(buffer, at, code);
+    let at = put::byte(buffer, at, code as u8);
     put::two_strings(buffer, at, name, noname, value, novalue);
 }
 
 // Adds an attribute with a string.
-pub fn text(building: Building, buffer: &mut [u8], code: u8, value: &[u8], null: bool) -> Added
+pub fn text(building: Building, buffer: &mut [u8], code: u16, value: &[u8], null: bool) -> Added
     ensures { λ r. ⌜ meaning r ≡ outcome (textCall building (now (buffer .entry)) code null (now (value .entry))) (length (now (buffer .entry))) ⌝ }
     ensures { λ _. ⌜ now (buffer .exit) ≡ bufferAfter (textCall building (now (buffer .entry)) code null (now (value .entry))) (now (buffer .entry)) ⌝ }
 {
@@ -192,7 +202,7 @@ pub fn text(building: Building, buffer: &mut [u8], code: u8, value: &[u8], null:
 }
 
 // Adds an attribute with an integer.
-pub fn integer(building: Building, buffer: &mut [u8], code: u8, value: u16) -> Added
+pub fn integer(building: Building, buffer: &mut [u8], code: u16, value: u16) -> Added
     ensures { λ r. ⌜ meaning r ≡ outcome (integerCall building (now (buffer .entry)) code value) (length (now (buffer .entry))) ⌝ }
     ensures { λ _. ⌜ now (buffer .exit) ≡ bufferAfter (integerCall building (now (buffer .entry)) code value) (now (buffer .entry)) ⌝ }
 {
@@ -211,7 +221,7 @@ pub fn integer(building: Building, buffer: &mut [u8], code: u8, value: u16) -> A
 pub fn pair(
     building: Building,
     buffer: &mut [u8],
-    code: u8,
+    code: u16,
     name: &[u8],
     noname: bool,
     value: &[u8],

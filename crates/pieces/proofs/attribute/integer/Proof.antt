@@ -1,14 +1,15 @@
 -- `pieces::attribute::integer` meets its contract: refused with the fault found; else its bytes are written, and the record tells their end.
 -- Assumes nothing.
 use mathlib.Core.Path.{_≡_, refl}
-use mathlib.Core.List.{_∷_}
+use mathlib.Core.List.{[], _∷_}
 use borrow.Author.Needs.{needs}
 use Rattle.wire.specs.Bytes.{integerBytes}
+use Rattle.fields.specs.Field.{Field, plain}
 use Rattle.fields.specs.Call.{Call}
 use Rattle.pieces.specs.declared.Building.{Building}
-use Rattle.pieces.specs.Attribute.{integerCall}
+use Rattle.pieces.specs.Attribute.{isInteger, integerCall}
 use Rattle.pieces.specs.Record.{withAttribute}
-use Rattle.pieces.proofs.Pieces.{Checked, checked, refused-both, row-fits, end-fits, done-both}
+use Rattle.pieces.proofs.Pieces.{Checked, checked, refused-both, row-fits, code-byte, end-fits, done-both}
 use Rattle.pieces.proofs.attribute.integer.Statement.{statement}
 use Rattle.pieces.proofs.attribute.integer.Tie as tie
 
@@ -55,7 +56,12 @@ unfolding integerCall
 write-integer-requires c κs =
     let i = c .before .before in
     let o = i .before in
-    row-fits (known o) (i .if1 .left) (row (o .before .before .before .before .before .before)) (c .index .ensures)
+    let e = o .before .before .before .before .before .before in
+    let a = e .args in
+    let value : Field = plain (integerBytes (a .value)) in (
+      code-byte (a .building) isInteger (a .code) (value ∷ []) refl (known o) (i .if1 .left),
+      row-fits (known o) (i .if1 .left) (row e) (c .index .ensures),
+    )
 
 with-attribute-requires : tie.Need-with-attribute-requires
 with-attribute-requires c κs = let i = c .before .before .before .before .before in end-fits (known (i .before)) (i .if1 .left)

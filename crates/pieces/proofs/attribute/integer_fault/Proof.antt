@@ -6,8 +6,8 @@ use Rattle.fields.proofs.Sizes.{or-none}
 use Rattle.pieces.proofs.attribute.integer_fault.Statement.{statement}
 use Rattle.pieces.proofs.attribute.integer_fault.Tie as tie
 
-kind-of-requires : tie.Need-kind-of-requires
-kind-of-requires c κs = search needs
+kind-of-code-requires : tie.Need-kind-of-code-requires
+kind-of-code-requires c κs = search needs
 
 is-integer-requires : tie.Need-is-integer-requires
 is-integer-requires c κs = search needs
@@ -21,4 +21,4 @@ returns c = cc (or-none (c .code-fault .result))
 
 pub integer-fault-spec : {M : Type 1} → statement M
 integer-fault-spec =
-    tie.close (tie.spec kind-of-requires is-integer-requires code-fault-requires returns)
+    tie.close (tie.spec kind-of-code-requires is-integer-requires code-fault-requires returns)

@@ -1,14 +1,16 @@
 -- `pieces::attribute::pair` meets its contract: refused with the fault found; else its bytes are written, and the record tells their end.
 -- Assumes nothing.
 use mathlib.Core.Path.{_≡_, refl}
-use mathlib.Core.List.{_∷_, _++_, append-nil}
+use mathlib.Core.List.{[], _∷_, _++_, append-nil}
 use borrow.Author.Needs.{needs}
 use Rattle.wire.specs.Field.{stringBytes}
+use Rattle.wire.specs.declared.StringField.{StringField}
+use Rattle.fields.specs.Field.{Field, stringField}
 use Rattle.fields.specs.Call.{Call}
 use Rattle.pieces.specs.declared.Building.{Building}
-use Rattle.pieces.specs.Attribute.{pairCall}
+use Rattle.pieces.specs.Attribute.{isPair, pairCall}
 use Rattle.pieces.specs.Record.{withAttribute}
-use Rattle.pieces.proofs.Pieces.{Checked, checked, refused-both, row-fits, end-fits, done-both}
+use Rattle.pieces.proofs.Pieces.{Checked, checked, refused-both, row-fits, code-byte, end-fits, done-both}
 use Rattle.pieces.proofs.attribute.pair.Statement.{statement}
 use Rattle.pieces.proofs.attribute.pair.Tie as tie
 
@@ -55,7 +57,13 @@ unfolding pairCall
 write-pair-requires c κs =
     let i = c .before .before in
     let o = i .before in
-    row-fits (known o) (i .if1 .left) (row (o .before .before .before .before .before .before .before .before)) (c .index .ensures)
+    let e = o .before .before .before .before .before .before .before .before in
+    let a = e .args in
+    let name : Field = stringField StringField.AttributeName (a .noname) (a .name .now) in
+    let value : Field = stringField StringField.AttributeValue (a .novalue) (a .value .now) in (
+      code-byte (a .building) isPair (a .code) (name ∷ value ∷ []) refl (known o) (i .if1 .left),
+      row-fits (known o) (i .if1 .left) (row e) (c .index .ensures),
+    )
 
 with-attribute-requires : tie.Need-with-attribute-requires
 with-attribute-requires c κs = let i = c .before .before .before .before .before in end-fits (known (i .before)) (i .if1 .left)

@@ -5,8 +5,8 @@ use Rattle.pieces.specs.Attribute.{pairCall}
 use Rattle.pieces.proofs.attribute.pair_fault.Statement.{statement}
 use Rattle.pieces.proofs.attribute.pair_fault.Tie as tie
 
-kind-of-requires : tie.Need-kind-of-requires
-kind-of-requires c κs = search needs
+kind-of-code-requires : tie.Need-kind-of-code-requires
+kind-of-code-requires c κs = search needs
 
 is-pair-requires : tie.Need-is-pair-requires
 is-pair-requires c κs = search needs
@@ -34,7 +34,7 @@ pub pair-fault-spec : {M : Type 1} → statement M
 pair-fault-spec =
     tie.close
     (tie.spec
-    kind-of-requires
+    kind-of-code-requires
     is-pair-requires
     code-fault-requires
     string-requires

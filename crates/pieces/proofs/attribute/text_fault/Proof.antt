@@ -5,8 +5,8 @@ use Rattle.pieces.specs.Attribute.{textCall}
 use Rattle.pieces.proofs.attribute.text_fault.Statement.{statement}
 use Rattle.pieces.proofs.attribute.text_fault.Tie as tie
 
-kind-of-requires : tie.Need-kind-of-requires
-kind-of-requires c κs = search needs
+kind-of-code-requires : tie.Need-kind-of-code-requires
+kind-of-code-requires c κs = search needs
 
 is-text-requires : tie.Need-is-text-requires
 is-text-requires c κs = search needs
@@ -28,7 +28,7 @@ pub text-fault-spec : {M : Type 1} → statement M
 text-fault-spec =
     tie.close
     (tie.spec
-    kind-of-requires
+    kind-of-code-requires
     is-text-requires
     code-fault-requires
     string-requires

@@ -7,6 +7,9 @@ use Rattle.fields.proofs.Rows.{joined}
 use Rattle.pieces.proofs.attribute.write_integer.Statement.{statement}
 use Rattle.pieces.proofs.attribute.write_integer.Tie as tie
 
+cast-byte : tie.Need-cast-byte
+cast-byte c = search needs
+
 byte-requires : tie.Need-byte-requires
 byte-requires c κs = search needs
 
@@ -21,10 +24,10 @@ returns c =
     let e = c .before .before .before .before .before .before .before .before .before in
     let a = e .args in
     let first = c .before .before .before .before .before .before .byte .ensures in
-    joined (a .buffer .now) (a .at) (a .code ∷ []) (integerBytes (a .value)) (e .pre) _ _ _
+    joined (a .buffer .now) (a .at) (a .code ∷ []) (integerBytes (a .value)) (e .pre .1) _ _ _
     (first .1)
     (first .0)
     (c .before .before .integer .ensures .1)
 
 pub write-integer-spec : {M : Type 1} → statement M
-write-integer-spec = tie.close (tie.spec byte-requires integer-requires same-length returns)
+write-integer-spec = tie.close (tie.spec cast-byte byte-requires integer-requires same-length returns)

@@ -8,6 +8,9 @@ use Rattle.fields.proofs.Rows.{joined}
 use Rattle.pieces.proofs.attribute.write_pair.Statement.{statement}
 use Rattle.pieces.proofs.attribute.write_pair.Tie as tie
 
+cast-byte : tie.Need-cast-byte
+cast-byte c = search needs
+
 byte-requires : tie.Need-byte-requires
 byte-requires c κs = search needs
 
@@ -23,10 +26,10 @@ returns c =
     let a = e .args in
     let first = c .before .before .before .before .before .before .byte .ensures in
     let later : List ℕ = stringBytes (a .noname) (a .name .now) ++ stringBytes (a .novalue) (a .value .now) in
-    joined (a .buffer .now) (a .at) (a .code ∷ []) later (e .pre) _ _ _
+    joined (a .buffer .now) (a .at) (a .code ∷ []) later (e .pre .1) _ _ _
     (first .1)
     (first .0)
     (c .before .before .two-strings .ensures .1)
 
 pub write-pair-spec : {M : Type 1} → statement M
-write-pair-spec = tie.close (tie.spec byte-requires two-strings-requires same-length returns)
+write-pair-spec = tie.close (tie.spec cast-byte byte-requires two-strings-requires same-length returns)
