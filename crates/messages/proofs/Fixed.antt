@@ -1,0 +1,333 @@
+-- The fixed fields of a Forward or a Send Headers that were written: reading refuses them with their first fault, and where there is none it
+-- reads each where it was written, with its value.
+-- Assumes nothing.
+use native.Mathlib.Omega.{arith}
+use borrow.Author.Tests.{le-leb, ne-eqb}
+use mathlib.Core.Path.{_≡_, refl, sym, ap, _∙_}
+use mathlib.Core.Bool.{Bool, true, false}
+use mathlib.Core.List.{List, [], _∷_, _++_, append-assoc}
+use Prim.Native.Nat.{ℕ, _+_, _≤_, _<_}
+use lib.Dec.{eqb}
+use lib.ListN.{length, length-append}
+use Rattle.wire.specs.Pick.{pick, between}
+use Rattle.wire.specs.Bytes.{integerBytes}
+use Rattle.wire.specs.Field.{byteAt, integerAt, booleanAt, booleanBytes, stringAt, stringBytes, isOptional}
+use Rattle.wire.specs.declared.Direction.{Direction}
+use Rattle.wire.specs.declared.StringField.{StringField}
+use Rattle.wire.specs.declared.read.NumberRead.{NumberRead}
+use Rattle.wire.specs.declared.read.StringRead.{StringRead}
+use Rattle.wire.proofs.RoundTrip.{integer-written, byte-written, boolean-written}
+use Rattle.places.specs.Entries.{ended, ending}
+use Rattle.payload.specs.declared.field.FieldRead.{FieldRead}
+use Rattle.payload.specs.declared.packet.PacketRead.{PacketRead}
+use Rattle.payload.specs.Sequence.{afterCode, behind, stringField, stringFieldAt, stringAfter, booleanNumber, booleanField, booleanFieldAt, booleanAfter, numberField, byteAfter, anyIntegerAfter, integerAfter, bounded}
+use Rattle.payload.specs.Lists.{headersAfter, listsAt}
+use Rattle.payload.specs.Forward.{forwardOf, forwardAt}
+use Rattle.payload.specs.SendHeaders.{sendHeadersOf, sendHeadersAt}
+use Rattle.fields.specs.Fault.{unless, orElse, faultAfter, firstFault, stringFault, rangeFault}
+use Rattle.fields.specs.Field.{opening, faultsOf}
+use Rattle.fields.proofs.Sizes.{or-first, or-second, boolean-one}
+use Rattle.pieces.specs.declared.BuildingKind.{BuildingKind}
+use Rattle.pieces.specs.declared.forward.Numbers.{Numbers}
+use Rattle.pieces.specs.declared.forward.Nulls.{Nulls}
+use Rattle.pieces.specs.Record.{kindIn}
+use Rattle.pieces.specs.Fixed.{fixed, sendHeadersFields, forwardFields}
+use Rattle.messages.proofs.Judged.{stood, string-stood, among}
+
+-- from a place on, a list has these bytes
+pub record Ahead (s : List ℕ) (at : ℕ) (rest : List ℕ) : Type 0 where
+  pub front : List ℕ
+  pub is : s ≡ front ++ rest
+  pub place : length front ≡ at
+
+-- behind the first of them it has the later ones
+pub ahead-next : {s : List ℕ} {at : ℕ} (x rest : List ℕ) → Ahead s at (x ++ rest) → Ahead s (at + length x) rest
+ahead-next x rest r = record {
+  front = r .front ++ x;
+  is = r .is ∙ sym (append-assoc (r .front) x rest);
+  place = omega (arith, length-append (r .front) x, r .place);
+}
+
+-- what holds of them behind any bytes holds there
+pub ahead-holds : {s : List ℕ} {at : ℕ} {rest : List ℕ} (P : List ℕ → ℕ → Type 0)
+    → ((a : List ℕ) → P (a ++ rest) (length a)) → Ahead s at rest → P s at
+ahead-holds P h r = rw (r .is, ← r .place) (h (r .front))
+
+-- a field, unless it or one before it has a fault
+abbrev pub fieldUnless : ℕ → ℕ → ℕ → ℕ → FieldRead
+fieldUnless fault place value next = pick (eqb fault 0) (FieldRead.Field place value next) (FieldRead.Refused fault)
+
+-- a field behind another one
+behind-unless : (read : ℕ → FieldRead) (f g p v at q w n : ℕ) → read at ≡ fieldUnless g q w n
+    → behind read (fieldUnless f p v at) ≡ fieldUnless (orElse f g) q w n
+behind-unless read f g p v at q w n e = go (eqb f 0) refl
+  where
+    go : (t : Bool) → eqb f 0 ≡ t → behind read (pick t (FieldRead.Field p v at) (FieldRead.Refused f)) ≡ fieldUnless (pick t g f) q w n
+    go true h = e
+    go false h = rw h
+
+-- a field was read behind others: the first fault of them all; its place, value and end; and the bytes that stand behind it
+pub record Reads (s : List ℕ) (got : FieldRead) (fault place value next : ℕ) (rest : List ℕ) : Type 0 where
+  pub is : got ≡ fieldUnless fault place value next
+  pub ahead : Ahead s next rest
+
+-- the field behind it
+reads-next : {s : List ℕ} {got : FieldRead} {f p v at : ℕ} (x rest : List ℕ) (read : ℕ → FieldRead) (g w n : ℕ) → Reads s got f p v at (x ++ rest)
+    → length x ≡ n → read at ≡ fieldUnless g at w (at + n) → Reads s (behind read got) (orElse f g) at w (at + n) rest
+reads-next {s} {got} {f} {p} {v} {at} x rest read g w n r size e = record {
+  is = ap (behind read) (r .is) ∙ behind-unless read f g p v at at w (at + n) e;
+  ahead = rw size at (ahead-next x rest (r .ahead));
+}
+
+-- a number in a range, as a field
+bounded-unless : (at low high n next : ℕ) → bounded at low high 7 (NumberRead.Number n next) ≡ fieldUnless (rangeFault low high n) at n next
+unfolding rangeFault
+bounded-unless at low high n next = go (between low high n)
+  where
+    go : (t : Bool) → pick t (FieldRead.Field at n next) (FieldRead.Refused 7) ≡ fieldUnless (unless t 7) at n next
+    go true = refl
+    go false = refl
+
+-- a string, as a field
+string-unless : (n f next : ℕ) (null : Bool) (text : List ℕ) → stringField n (stood f n next null text) ≡ fieldUnless f n 0 next
+string-unless n f next null text = go (eqb f 0) null
+  where
+    go : (t u : Bool)
+        → stringField n (pick t (pick u (StringRead.Null next) (StringRead.Text (n + 2) (length text) next)) (StringRead.Refused f))
+        ≡ pick t (FieldRead.Field n 0 next) (FieldRead.Refused f)
+    go false u = refl
+    go true true = refl
+    go true false = refl
+
+module _ {s : List ℕ} {got : FieldRead} {f p v at : ℕ} (rest : List ℕ) where
+  -- a byte or an integer from `low` to `high`
+  pub byte-reads : (low high n : ℕ) → Reads s got f p v at (n ∷ rest)
+      → Reads s (byteAfter s low high 7 got) (orElse f (rangeFault low high n)) at n (at + 1) rest
+  unfolding byteAfter
+  byte-reads low high n r =
+      reads-next (n ∷ []) rest (λ i. bounded i low high 7 (byteAt s i)) (rangeFault low high n) n 1 r refl
+      (ahead-holds (λ (l : List ℕ) (i : ℕ). bounded i low high 7 (byteAt l i) ≡ fieldUnless (rangeFault low high n) i n (i + 1))
+      (λ a. ap (bounded (length a) low high 7) (byte-written a rest n) ∙ bounded-unless (length a) low high n (length a + 1))
+      (r .ahead))
+
+  pub integer-reads : (low high n : ℕ) → Reads s got f p v at (integerBytes n ++ rest) → n < 65536
+      → Reads s (integerAfter s low high 7 got) (orElse f (rangeFault low high n)) at n (at + 2) rest
+  unfolding integerAfter
+  integer-reads low high n r h =
+      reads-next (integerBytes n) rest (λ i. bounded i low high 7 (integerAt s i)) (rangeFault low high n) n 2 r refl
+      (ahead-holds (λ (l : List ℕ) (i : ℕ). bounded i low high 7 (integerAt l i) ≡ fieldUnless (rangeFault low high n) i n (i + 2))
+      (λ a. ap (bounded (length a) low high 7) (integer-written a rest n h) ∙ bounded-unless (length a) low high n (length a + 2))
+      (r .ahead))
+
+  -- an integer up to `high`, and any integer
+  pub count-reads : (high fault n : ℕ) → Reads s got f p v at (integerBytes n ++ rest) → n ≤ high → n < 65536
+      → Reads s (integerAfter s 0 high fault got) (orElse f 0) at n (at + 2) rest
+  unfolding integerAfter
+  count-reads high fault n r few h =
+      reads-next (integerBytes n) rest (λ i. bounded i 0 high fault (integerAt s i)) 0 n 2 r refl
+      (ahead-holds (λ (l : List ℕ) (i : ℕ). bounded i 0 high fault (integerAt l i) ≡ FieldRead.Field i n (i + 2))
+      (λ a. ap (bounded (length a) 0 high fault) (integer-written a rest n h) ∙ rw (le-leb 0 n (omega arith), le-leb n high few))
+      (r .ahead))
+
+  pub any-integer-reads : (n : ℕ) → Reads s got f p v at (integerBytes n ++ rest) → n < 65536
+      → Reads s (anyIntegerAfter s got) (orElse f 0) at n (at + 2) rest
+  unfolding anyIntegerAfter
+  any-integer-reads n r h =
+      reads-next (integerBytes n) rest (λ i. numberField i (integerAt s i)) 0 n 2 r refl
+      (ahead-holds (λ (l : List ℕ) (i : ℕ). numberField i (integerAt l i) ≡ FieldRead.Field i n (i + 2))
+      (λ a. ap (numberField (length a)) (integer-written a rest n h))
+      (r .ahead))
+
+  -- a boolean
+  pub boolean-reads : (value : Bool) → Reads s got f p v at (booleanBytes value ++ rest)
+      → Reads s (booleanAfter s got) (orElse f 0) at (booleanNumber value) (at + 1) rest
+  unfolding booleanAfter booleanFieldAt
+  boolean-reads value r =
+      reads-next (booleanBytes value) rest (booleanFieldAt s) 0 (booleanNumber value) 1 r (boolean-one value)
+      (ahead-holds (λ (l : List ℕ) (i : ℕ). booleanField i (booleanAt l i) ≡ FieldRead.Field i (booleanNumber value) (i + 1))
+      (λ a. ap (booleanField (length a)) (boolean-written a rest value))
+      (r .ahead))
+
+  -- a string
+  pub string-reads : (field : StringField) (null : Bool) (text : List ℕ) → Reads s got f p v at (stringBytes null text ++ rest) → length text ≤ 8192
+      → Reads s (stringAfter s field got) (orElse f (stringFault field null text)) at 0 (at + length (stringBytes null text)) rest
+  unfolding stringAfter stringFieldAt
+  string-reads field null text r h =
+      let g : ℕ = stringFault field null text in
+      let n : ℕ = length (stringBytes null text) in
+      reads-next (stringBytes null text) rest (stringFieldAt s field) g 0 n r refl
+      (ahead-holds (λ (l : List ℕ) (i : ℕ). stringField i (stringAt l i (isOptional field)) ≡ fieldUnless g i 0 (i + n))
+      (λ a. ap (stringField (length a)) (string-stood a rest field null text h) ∙ string-unless (length a) g (length a + n) null text)
+      (r .ahead))
+
+-- a boolean, from the number that it is read as
+pub boolean-back : (value : Bool) → eqb (booleanNumber value) 1 ≡ value
+boolean-back true = refl
+boolean-back false = refl
+
+-- no fault in a list
+abbrev pub Faultless : List ℕ → Type 0
+Faultless [] = Unit
+Faultless (fault ∷ later) = (fault ≡ 0) × Faultless later
+
+-- that is so where the first of them is none
+faultless-after : (before : ℕ) (faults : List ℕ) → faultAfter before faults ≡ 0 → (before ≡ 0) × Faultless faults
+faultless-after before [] h = (h, tt)
+faultless-after before (fault ∷ later) h =
+    let rest = faultless-after (orElse before fault) later h in
+    (or-first before fault (rest .0), (or-second before fault (rest .0), rest .1))
+
+pub faultless : (faults : List ℕ) → firstFault faults ≡ 0 → Faultless faults
+faultless faults h = faultless-after 0 faults h .1
+
+-- a field of so many bytes with this value, behind another one
+abbrev pub reached : ℕ → ℕ → FieldRead → FieldRead
+reached value size = behind (λ at. FieldRead.Field at value (at + size))
+
+-- before the first of them only the opening was read, which has five bytes
+reads-start : (s a rest : List ℕ) → length a ≡ 5 → s ≡ a ++ rest → Reads s afterCode 0 4 0 5 rest
+reads-start s a rest opened e = record { is = refl; ahead = record { front = a; is = e; place = opened } }
+
+pub opening-five : (kind : BuildingKind) (n : ℕ) → length (opening (kindIn kind) n) ≡ 5
+opening-five BuildingKind.Forward n = refl
+opening-five BuildingKind.SendHeaders n = refl
+
+-- the fixed fields of a Send Headers, behind an opening, and a count of headers
+module _ (a b : List ℕ) (status : ℕ) (null : Bool) (message : List ℕ) (count : ℕ) (opened : length a ≡ 5) (small : status < 65536)
+    (short : length message ≤ 8192) (few : count ≤ 100) where
+  -- each is read by the first fault up to it
+  send-headers-by : (
+      let s = among a (sendHeadersFields status null message) (integerBytes count ++ b) in
+      let g1 = rangeFault 100 599 status in
+      let g2 = orElse g1 (stringFault StringField.Message null message) in
+      let g3 = orElse g2 0 in
+      let n = 7 + length (stringBytes null message) in
+      (sendHeadersAt s
+      ≡ ending (sendHeadersOf (length s) (fieldUnless g1 5 status 7) (fieldUnless g2 7 0 n) (fieldUnless g3 n count (n + 2)))
+      (headersAfter Direction.ToServer s (fieldUnless g3 n count (n + 2))))
+      × Ahead s (n + 2) b)
+  unfolding sendHeadersAt
+  send-headers-by =
+      let y : List ℕ = stringBytes null message in
+      let tail : List ℕ = integerBytes count ++ b in
+      let s : List ℕ = among a (sendHeadersFields status null message) tail in
+      let r1 = integer-reads (y ++ tail) 100 599 status (reads-start s a (integerBytes status ++ (y ++ tail)) opened (simp append-assoc)) small in
+      let r2 = string-reads tail StringField.Message null message r1 short in
+      let r3 = count-reads b 100 11 count r2 few (omega arith) in
+      (rw (r3 .is, r2 .is, r1 .is), r3 .ahead)
+
+  -- they are refused with their first fault
+  pub send-headers-judged : (firstFault (faultsOf (fixed BuildingKind.SendHeaders (sendHeadersFields status null message))) ≡ 0 → ⊥)
+      → sendHeadersAt (among a (sendHeadersFields status null message) (integerBytes count ++ b))
+      ≡ ended (PacketRead.Refused (firstFault (faultsOf (fixed BuildingKind.SendHeaders (sendHeadersFields status null message)))))
+  unfolding headersAfter
+  send-headers-judged bad =
+      let g : ℕ = firstFault (faultsOf (fixed BuildingKind.SendHeaders (sendHeadersFields status null message))) in
+      rw (ne-eqb g 0 bad) at (send-headers-by .0)
+
+  -- and where there is none each is read where it is, with its value, and what stands behind the count is read on
+  pub send-headers-read : firstFault (faultsOf (fixed BuildingKind.SendHeaders (sendHeadersFields status null message))) ≡ 0
+      → (
+      let s = among a (sendHeadersFields status null message) (integerBytes count ++ b) in
+      let f1 = FieldRead.Field 5 status 7 in
+      let f2 = reached 0 (length (stringBytes null message)) f1 in
+      let f3 = reached count 2 f2 in
+      sendHeadersAt s ≡ ending (sendHeadersOf (length s) f1 f2 f3) (headersAfter Direction.ToServer s f3))
+  send-headers-read fine =
+      let none = faultless (faultsOf (fixed BuildingKind.SendHeaders (sendHeadersFields status null message))) fine in
+      rw (none .1 .0, none .1 .1 .0) at (send-headers-by .0)
+
+  pub send-headers-ahead : Ahead (among a (sendHeadersFields status null message) (integerBytes count ++ b)) (7 + length (stringBytes null message) + 2) b
+  send-headers-ahead = send-headers-by .1
+
+-- where a Forward's count of headers is
+abbrev pub forwardCount : Nulls → List ℕ → List ℕ → List ℕ → List ℕ → List ℕ → ℕ
+forwardCount nulls protocol uri addr host name =
+    6 + length (stringBytes (nulls .protocol) protocol)
+    + length (stringBytes (nulls .«req_uri») uri)
+    + length (stringBytes (nulls .«remote_addr») addr)
+    + length (stringBytes (nulls .«remote_host») host)
+    + length (stringBytes (nulls .«server_name») name)
+    + 2
+    + 1
+
+-- the fixed fields of a Forward, behind an opening, and a count of headers
+module _ (a b : List ℕ) (numbers : Numbers) (nulls : Nulls) (protocol uri addr host name : List ℕ) (count : ℕ) (opened : length a ≡ 5)
+    (port : numbers .«server_port» < 65536) (few : count ≤ 100) (protocol-short : length protocol ≤ 8192) (uri-short : length uri ≤ 8192)
+    (addr-short : length addr ≤ 8192) (host-short : length host ≤ 8192) (name-short : length name ≤ 8192) where
+  -- each is read by the first fault up to it
+  forward-by : (
+      let s = among a (forwardFields numbers nulls protocol uri addr host name) (integerBytes count ++ b) in
+      let g1 = rangeFault 1 27 (numbers .method) in
+      let g2 = orElse g1 (stringFault StringField.Protocol (nulls .protocol) protocol) in
+      let g3 = orElse g2 (stringFault StringField.ReqUri (nulls .«req_uri») uri) in
+      let g4 = orElse g3 (stringFault StringField.RemoteAddr (nulls .«remote_addr») addr) in
+      let g5 = orElse g4 (stringFault StringField.RemoteHost (nulls .«remote_host») host) in
+      let g6 = orElse g5 (stringFault StringField.ServerName (nulls .«server_name») name) in
+      let g7 = orElse g6 0 in
+      let g8 = orElse g7 0 in
+      let g9 = orElse g8 0 in
+      let n3 = 6 + length (stringBytes (nulls .protocol) protocol) in
+      let n4 = n3 + length (stringBytes (nulls .«req_uri») uri) in
+      let n5 = n4 + length (stringBytes (nulls .«remote_addr») addr) in
+      let n6 = n5 + length (stringBytes (nulls .«remote_host») host) in
+      let n7 = n6 + length (stringBytes (nulls .«server_name») name) in
+      (forwardAt s
+      ≡ ending
+      (forwardOf (fieldUnless g1 5 (numbers .method) 6) (fieldUnless g2 6 0 n3) (fieldUnless g3 n3 0 n4) (fieldUnless g4 n4 0 n5) (fieldUnless g5 n5 0 n6)
+      (fieldUnless g6 n6 0 n7) (fieldUnless g7 n7 (numbers .«server_port») (n7 + 2)) (fieldUnless g8 (n7 + 2) (booleanNumber (numbers .«is_ssl»)) (n7 + 2 + 1))
+      (fieldUnless g9 (n7 + 2 + 1) count (n7 + 2 + 1 + 2)))
+      (listsAt s (fieldUnless g9 (n7 + 2 + 1) count (n7 + 2 + 1 + 2))))
+      × Ahead s (n7 + 2 + 1 + 2) b)
+  unfolding forwardAt
+  forward-by =
+      let s : List ℕ = among a (forwardFields numbers nulls protocol uri addr host name) (integerBytes count ++ b) in
+      let t8 : List ℕ = integerBytes count ++ b in
+      let t7 : List ℕ = booleanBytes (numbers .«is_ssl») ++ t8 in
+      let t6 : List ℕ = integerBytes (numbers .«server_port») ++ t7 in
+      let t5 : List ℕ = stringBytes (nulls .«server_name») name ++ t6 in
+      let t4 : List ℕ = stringBytes (nulls .«remote_host») host ++ t5 in
+      let t3 : List ℕ = stringBytes (nulls .«remote_addr») addr ++ t4 in
+      let t2 : List ℕ = stringBytes (nulls .«req_uri») uri ++ t3 in
+      let t1 : List ℕ = stringBytes (nulls .protocol) protocol ++ t2 in
+      let r1 = byte-reads t1 1 27 (numbers .method) (reads-start s a (numbers .method ∷ t1) opened (simp append-assoc)) in
+      let r2 = string-reads t2 StringField.Protocol (nulls .protocol) protocol r1 protocol-short in
+      let r3 = string-reads t3 StringField.ReqUri (nulls .«req_uri») uri r2 uri-short in
+      let r4 = string-reads t4 StringField.RemoteAddr (nulls .«remote_addr») addr r3 addr-short in
+      let r5 = string-reads t5 StringField.RemoteHost (nulls .«remote_host») host r4 host-short in
+      let r6 = string-reads t6 StringField.ServerName (nulls .«server_name») name r5 name-short in
+      let r7 = any-integer-reads t7 (numbers .«server_port») r6 port in
+      let r8 = boolean-reads t8 (numbers .«is_ssl») r7 in
+      let r9 = count-reads b 100 11 count r8 few (omega arith) in
+      (rw (r9 .is, r8 .is, r7 .is, r6 .is, r5 .is, r4 .is, r3 .is, r2 .is, r1 .is), r9 .ahead)
+
+  -- they are refused with their first fault
+  pub forward-judged : (firstFault (faultsOf (fixed BuildingKind.Forward (forwardFields numbers nulls protocol uri addr host name))) ≡ 0 → ⊥)
+      → forwardAt (among a (forwardFields numbers nulls protocol uri addr host name) (integerBytes count ++ b))
+      ≡ ended (PacketRead.Refused (firstFault (faultsOf (fixed BuildingKind.Forward (forwardFields numbers nulls protocol uri addr host name)))))
+  unfolding listsAt headersAfter
+  forward-judged bad =
+      let g : ℕ = firstFault (faultsOf (fixed BuildingKind.Forward (forwardFields numbers nulls protocol uri addr host name))) in
+      rw (ne-eqb g 0 bad) at (forward-by .0)
+
+  -- and where there is none each is read where it is, with its value, and what stands behind the count is read on
+  pub forward-read : firstFault (faultsOf (fixed BuildingKind.Forward (forwardFields numbers nulls protocol uri addr host name))) ≡ 0
+      → (
+      let s = among a (forwardFields numbers nulls protocol uri addr host name) (integerBytes count ++ b) in
+      let f1 = FieldRead.Field 5 (numbers .method) 6 in
+      let f2 = reached 0 (length (stringBytes (nulls .protocol) protocol)) f1 in
+      let f3 = reached 0 (length (stringBytes (nulls .«req_uri») uri)) f2 in
+      let f4 = reached 0 (length (stringBytes (nulls .«remote_addr») addr)) f3 in
+      let f5 = reached 0 (length (stringBytes (nulls .«remote_host») host)) f4 in
+      let f6 = reached 0 (length (stringBytes (nulls .«server_name») name)) f5 in
+      let f7 = reached (numbers .«server_port») 2 f6 in
+      let f8 = reached (booleanNumber (numbers .«is_ssl»)) 1 f7 in
+      let f9 = reached count 2 f8 in
+      forwardAt s ≡ ending (forwardOf f1 f2 f3 f4 f5 f6 f7 f8 f9) (listsAt s f9))
+  forward-read fine =
+      let none = faultless (faultsOf (fixed BuildingKind.Forward (forwardFields numbers nulls protocol uri addr host name))) fine in
+      rw (none .1 .0, none .1 .1 .0, none .1 .1 .1 .0, none .1 .1 .1 .1 .0, none .1 .1 .1 .1 .1 .0, none .1 .1 .1 .1 .1 .1 .0) at (forward-by .0)
+
+  pub forward-ahead : Ahead (among a (forwardFields numbers nulls protocol uri addr host name) (integerBytes count ++ b))
+      (forwardCount nulls protocol uri addr host name + 2) b
+  forward-ahead = forward-by .1
