@@ -3,4 +3,5 @@
 pub mod expand;
 pub mod parse;
 pub mod put;
+pub mod string;
 pub mod text;

@@ -51,6 +51,16 @@ pub fn to_u32(n: u64) -> u32 {
     n as u32
 }
 
+// The number of a word in decimal, in two bytes.
+pub fn number(word: &[u8]) -> u16 {
+    to_u16(decimal(word))
+}
+
+// What a word says by 1 or 0.
+pub fn flag(word: &[u8]) -> bool {
+    decimal(word) == 1
+}
+
 // The byte of the two hexadecimal digits at a place.
 fn byte(s: &[u8], at: usize) -> u8 {
     digit(text::byte_at(s, at)) * 16 + digit(text::byte_at(s, text::after(at)))
@@ -94,9 +104,9 @@ pub fn places(s: &[u8], into: &mut [u16]) -> usize {
 pub fn connection(s: &[u8]) -> Connection {
     let state = state(text::byte_at(s, 0));
     let left = BodyLeft(to_u32(decimal(text::field(s, b',', 1))));
-    let due = decimal(text::field(s, b',', 2)) == 1;
-    let asked = to_u16(decimal(text::field(s, b',', 3)));
-    let headers = decimal(text::field(s, b',', 4)) == 1;
+    let due = flag(text::field(s, b',', 2));
+    let asked = number(text::field(s, b',', 3));
+    let headers = flag(text::field(s, b',', 4));
     Connection::with_fields(state, left, due, asked, headers)
 }
 

@@ -70,6 +70,12 @@ pub fn bytes(out: &mut [u8], at: usize, s: &[u8]) -> usize {
     next
 }
 
+// What stands before bytes, and the bytes.
+pub fn named_bytes(out: &mut [u8], at: usize, name: &[u8], s: &[u8]) -> usize {
+    let start = text(out, at, name);
+    bytes(out, start, s)
+}
+
 // A table of places in hexadecimal, - where it is empty.
 pub fn places(out: &mut [u8], at: usize, table: &[u16]) -> usize {
     if table.len() == 0 {

@@ -32,6 +32,10 @@ fn compared(line: &[u8], number: usize, answer: &mut [u8], tallies: Tallies) -> 
     let expected = text::between(line, text::after(end), line.len());
     let command = command::of(case);
     let n = command::answer(command, case, answer);
+    if n == command::NOT_UNDERSTOOD {
+        report(number, case, expected, b"not understood");
+        return tallies.with(command, true);
+    }
     let came = part_of(answer, 0, n);
     if text::equal(came, expected) {
         return tallies.with(command, false);

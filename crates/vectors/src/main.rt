@@ -1,11 +1,19 @@
 // Runs the library on the cases that standard input lists, one a line, and compares its answers with those of the list. It prints each case
 // that differs, and at the end how many there were. The list itself says how a case is written.
 mod answer;
+mod attribute;
+mod built;
 mod command;
+mod forward;
+mod header;
 mod input;
 mod line;
+mod piece;
 mod print;
 mod read;
+mod record;
+mod send;
+mod send_headers;
 mod tally;
 
 use crate::input::Unread;
@@ -15,7 +23,7 @@ use cases::text;
 // How long the buffers are: a line as it is listed fits the first, a line that is written out and an answer are shorter than the others.
 const LISTED: usize = 65536;
 
-const WRITTEN_OUT: usize = 65536;
+const WRITTEN_OUT: usize = 262144;
 
 fn main() {
     let mut buffer = [0u8; LISTED];

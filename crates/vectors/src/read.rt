@@ -9,16 +9,14 @@ use reader::Received;
 use wire::Direction;
 use wire::part_of;
 
-// The most bytes and the most places of a case.
-const BYTES: usize = 16384;
-
+// The most places of a case.
 const PLACES: usize = 1024;
 
 // Writes the library's answer to a case; the place behind it.
 pub fn answer(direction: Direction, case: &[u8], out: &mut [u8]) -> usize {
     let mut table = [0u16; PLACES];
     let places = parse::places(text::field(case, b' ', 3), &mut table);
-    let mut packet = [0u8; BYTES];
+    let mut packet = [0u8; command::BYTES];
     let count = parse::bytes(text::field(case, b' ', 4), &mut packet);
     lent(
         direction,
@@ -40,7 +38,7 @@ fn lent(
     out: &mut [u8],
 ) -> usize {
     if table.len() < places {
-        return command::not_understood(out);
+        return command::NOT_UNDERSTOOD;
     }
     understood(direction, case, bytes, &mut table[0..places], out)
 }
@@ -56,7 +54,7 @@ fn understood(
     let connection = parse::connection(text::field(case, b' ', 2));
     let n = case_anew(direction, connection, table, bytes, out);
     if !text::equal(part_of(out, 0, n), case) {
-        return command::not_understood(out);
+        return command::NOT_UNDERSTOOD;
     }
     let answer = received(direction, connection, bytes, table);
     answer::received(out, answer, table, text::field(case, b' ', 3))
@@ -87,8 +85,7 @@ fn first_words(direction: Direction, out: &mut [u8]) -> usize {
 fn last_words(table: &[u16], bytes: &[u8], out: &mut [u8], at: usize) -> usize {
     let at = put::text(out, at, b" ");
     let at = put::places(out, at, table);
-    let at = put::text(out, at, b" ");
-    put::bytes(out, at, bytes)
+    put::named_bytes(out, at, b" ", bytes)
 }
 
 // Reads at the end to which a direction leads.
