@@ -43,6 +43,7 @@ unfoldable pub valueFault : Bool → Bool → List ℕ → ℕ
 valueFault declaring null text =
     orElse (stringFault StringField.HeaderValue null text) (declaringFault (declaredBy declaring Declared.Absent null text))
 
+-- a value
 abbrev pub headerValue : Bool → Bool → List ℕ → Field
 headerValue declaring null text = record { fault = valueFault declaring null text; bytes = stringBytes null text }
 
@@ -55,7 +56,7 @@ abbrev pub spelledFields : Direction → Bool → List ℕ → Bool → List ℕ
 spelledFields direction nameNull name valueNull value =
     spelledName direction nameNull name ∷ headerValue false valueNull value ∷ []
 
--- the call that writes a header: 16, its fields, 11
+-- the call that writes a header: 16, its fields, 11 for one too many
 abbrev pub headerCall : Building → List ℕ → List Field → Call Building
 headerCall r buffer own = record {
   faults = headerNow r buffer ∷ (faultsOf own ++ (countFault r ∷ []));

@@ -37,8 +37,8 @@ fields kind next count headers attributes =
 abbrev pub countSize : ℕ
 countSize = 2
 
--- a record that can be, over the buffer in which its packet stands: the next place is within 8192 and within the buffer, the count lies
--- behind the payload's start and wholly before the next place, at most 100 headers came, and the packet's code is where it belongs
+-- a record that can be, over the buffer in which its packet stands: the next place is within 8192 and within the buffer; the count does
+-- not begin before the payload, and ends no later than at the next place; at most 100 headers came; the packet's code is where it belongs
 unfoldable pub isPossible : Building → List ℕ → Bool
 isPossible r buffer =
     both (leb (r .next .0) maxPacket)

@@ -2,6 +2,7 @@
 use crate::command;
 use crate::print;
 use crate::tally::Tallies;
+use cases::commands;
 use cases::expand;
 use cases::text;
 use wire::part_of;
@@ -20,7 +21,7 @@ pub fn judged(
     let n = expand::line(listed, case);
     if n == case.len() {
         report(number, listed, b"", b"cannot be written out");
-        return tallies.with(command::UNKNOWN, true);
+        return tallies.with(commands::UNKNOWN, true);
     }
     compared(part_of(case, 0, n), number, answer, tallies)
 }
@@ -32,7 +33,7 @@ fn compared(line: &[u8], number: usize, answer: &mut [u8], tallies: Tallies) -> 
     let expected = text::between(line, text::after(end), line.len());
     let command = command::of(case);
     let n = command::answer(command, case, answer);
-    if n == command::NOT_UNDERSTOOD {
+    if n == commands::NOT_UNDERSTOOD {
         report(number, case, expected, b"not understood");
         return tallies.with(command, true);
     }

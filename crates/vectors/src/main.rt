@@ -1,23 +1,16 @@
 // Runs the library on the cases that standard input lists, one a line, and compares its answers with those of the list. It prints each case
 // that differs, and at the end how many there were. The list itself says how a case is written.
 mod answer;
-mod attribute;
-mod built;
 mod command;
-mod forward;
-mod header;
 mod input;
 mod line;
-mod piece;
 mod print;
 mod read;
-mod record;
-mod send;
-mod send_headers;
 mod tally;
 
 use crate::input::Unread;
 use crate::tally::Tallies;
+use cases::commands;
 use cases::text;
 
 // How long the buffers are: a line as it is listed fits the first, a line that is written out and an answer are shorter than the others.
@@ -50,7 +43,7 @@ fn run(buffer: &mut [u8], case: &mut [u8], answer: &mut [u8]) -> Tallies {
         }
     }
     if unread.is_cut {
-        return tallies.with(command::UNKNOWN, true);
+        return tallies.with(commands::UNKNOWN, true);
     }
     tallies
 }

@@ -1,6 +1,6 @@
 // The command `read`: read END CONNECTION TABLE BYTES.
 use crate::answer;
-use crate::command;
+use cases::commands;
 use cases::parse;
 use cases::put;
 use cases::text;
@@ -16,7 +16,7 @@ const PLACES: usize = 1024;
 pub fn answer(direction: Direction, case: &[u8], out: &mut [u8]) -> usize {
     let mut table = [0u16; PLACES];
     let places = parse::places(text::field(case, b' ', 3), &mut table);
-    let mut packet = [0u8; command::BYTES];
+    let mut packet = [0u8; commands::BYTES];
     let count = parse::bytes(text::field(case, b' ', 4), &mut packet);
     lent(
         direction,
@@ -38,7 +38,7 @@ fn lent(
     out: &mut [u8],
 ) -> usize {
     if table.len() < places {
-        return command::NOT_UNDERSTOOD;
+        return commands::NOT_UNDERSTOOD;
     }
     understood(direction, case, bytes, &mut table[0..places], out)
 }
@@ -54,7 +54,7 @@ fn understood(
     let connection = parse::connection(text::field(case, b' ', 2));
     let n = case_anew(direction, connection, table, bytes, out);
     if !text::equal(part_of(out, 0, n), case) {
-        return command::NOT_UNDERSTOOD;
+        return commands::NOT_UNDERSTOOD;
     }
     let answer = received(direction, connection, bytes, table);
     answer::received(out, answer, table, text::field(case, b' ', 3))

@@ -1,9 +1,10 @@
 // How many cases there were, and how many differ: a row for each command, and one for all.
 use crate::command;
 use crate::print;
+use cases::commands;
 
 // The row for all, behind those of the commands, and how many rows there are. A case that is not understood counts in that row alone.
-const ALL: usize = command::UNKNOWN;
+const ALL: usize = commands::UNKNOWN;
 
 const ROWS: usize = ALL + 1;
 
@@ -22,7 +23,7 @@ impl Tallies {
 
     // With one more case of a command.
     pub fn with(self, command: usize, differs: bool) -> Tallies {
-        if command == command::UNKNOWN {
+        if command == commands::UNKNOWN {
             return self.with_row(ALL, differs);
         }
         self.with_row(command, differs).with_row(ALL, differs)

@@ -1,7 +1,7 @@
 // The command `attribute`: attribute RECORD BUFFER CODE VALUE, where VALUE is str:STRING, int:N or pair:STRING:STRING.
 use crate::built;
-use crate::command;
 use crate::record;
+use cases::commands;
 use cases::parse;
 use cases::put;
 use cases::string;
@@ -40,7 +40,7 @@ pub fn answer(case: &[u8], buffer: &mut [u8], texts: &mut [u8], out: &mut [u8]) 
     let asked = asked_in(case, texts);
     let n = case_anew(asked, buffer, texts, out);
     if !text::equal(part_of(out, 0, n), case) {
-        return command::NOT_UNDERSTOOD;
+        return commands::NOT_UNDERSTOOD;
     }
     let answer = add(asked, buffer, texts);
     built::added(out, answer, buffer, text::field(case, b' ', BUFFER))

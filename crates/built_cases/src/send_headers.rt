@@ -1,6 +1,6 @@
 // The command `sendheaders`: sendheaders BUFFER STATUS MESSAGE.
 use crate::built;
-use crate::command;
+use cases::commands;
 use cases::parse;
 use cases::put;
 use cases::string;
@@ -22,7 +22,7 @@ pub fn answer(case: &[u8], buffer: &mut [u8], texts: &mut [u8], out: &mut [u8]) 
     let message = string::parse(text::field(case, b' ', MESSAGE), texts, 0);
     let n = case_anew(buffer, status, message, texts, out);
     if !text::equal(part_of(out, 0, n), case) {
-        return command::NOT_UNDERSTOOD;
+        return commands::NOT_UNDERSTOOD;
     }
     let answer = send_headers::begin(buffer, status, string::bytes(message, texts), message.null);
     built::added(out, answer, buffer, text::field(case, b' ', BUFFER))

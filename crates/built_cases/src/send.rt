@@ -1,6 +1,6 @@
 // The commands that send a packet in one call: COMMAND CONNECTION BUFFER, and behind it what the packet says, if it says anything.
 use crate::built;
-use crate::command;
+use cases::commands;
 use cases::parse;
 use cases::put;
 use cases::text;
@@ -27,9 +27,9 @@ enum Packet {
 
 // Writes the library's answer to a case; the place behind it.
 pub fn answer(command: usize, case: &[u8], out: &mut [u8]) -> usize {
-    let mut buffer = [0u8; command::BYTES];
+    let mut buffer = [0u8; commands::BYTES];
     let room = parse::bytes(text::field(case, b' ', BUFFER), &mut buffer);
-    let mut content = [0u8; command::BYTES];
+    let mut content = [0u8; commands::BYTES];
     let count = parse::bytes(text::field(case, b' ', CONTENT), &mut content);
     lent(
         command,
@@ -51,7 +51,7 @@ fn lent(
     out: &mut [u8],
 ) -> usize {
     if buffer.len() < room {
-        return command::NOT_UNDERSTOOD;
+        return commands::NOT_UNDERSTOOD;
     }
     understood(command, case, bytes, &mut buffer[0..room], out)
 }
@@ -69,7 +69,7 @@ fn understood(
     let at = first_words(case, connection, buffer, out);
     let n = last_word(packet, bytes, out, at);
     if !text::equal(part_of(out, 0, n), case) {
-        return command::NOT_UNDERSTOOD;
+        return commands::NOT_UNDERSTOOD;
     }
     let sent = send(packet, connection, buffer, bytes);
     built::sent(out, sent, buffer, text::field(case, b' ', BUFFER))
@@ -78,11 +78,11 @@ fn understood(
 // The packet of a command.
 fn packet_of(command: usize, content: &[u8]) -> Packet {
     match command {
-        command::CPING => Packet::CPing,
-        command::CPONG => Packet::CPong,
-        command::BODY => Packet::Body,
-        command::CHUNK => Packet::Chunk,
-        command::GET => Packet::Get(parse::number(content)),
+        commands::CPING => Packet::CPing,
+        commands::CPONG => Packet::CPong,
+        commands::BODY => Packet::Body,
+        commands::CHUNK => Packet::Chunk,
+        commands::GET => Packet::Get(parse::number(content)),
         _ => Packet::End(parse::flag(content)),
     }
 }

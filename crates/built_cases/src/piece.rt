@@ -1,9 +1,9 @@
 // The commands that make a piece. Each is lent the buffer of its case, and room for the bytes of its strings.
 use crate::attribute;
-use crate::command;
 use crate::forward;
 use crate::header;
 use crate::send_headers;
+use cases::commands;
 use cases::parse;
 use cases::text;
 
@@ -12,7 +12,7 @@ const TEXTS: usize = 131072;
 
 // Writes the library's answer to a case; the place behind it.
 pub fn answer(command: usize, case: &[u8], out: &mut [u8]) -> usize {
-    let mut buffer = [0u8; command::BYTES];
+    let mut buffer = [0u8; commands::BYTES];
     let listed = text::field(case, b' ', buffer_word(command));
     let room = parse::bytes(listed, &mut buffer);
     let mut texts = [0u8; TEXTS];
@@ -22,9 +22,9 @@ pub fn answer(command: usize, case: &[u8], out: &mut [u8]) -> usize {
 // The word that is the buffer.
 fn buffer_word(command: usize) -> usize {
     match command {
-        command::FORWARD => forward::BUFFER,
-        command::SEND_HEADERS => send_headers::BUFFER,
-        command::HEADER => header::BUFFER,
+        commands::FORWARD => forward::BUFFER,
+        commands::SEND_HEADERS => send_headers::BUFFER,
+        commands::HEADER => header::BUFFER,
         _ => attribute::BUFFER,
     }
 }
@@ -39,7 +39,7 @@ fn lent(
     out: &mut [u8],
 ) -> usize {
     if buffer.len() < room {
-        return command::NOT_UNDERSTOOD;
+        return commands::NOT_UNDERSTOOD;
     }
     made(command, case, &mut buffer[0..room], texts, out)
 }
@@ -47,9 +47,9 @@ fn lent(
 // The answer to a command.
 fn made(command: usize, case: &[u8], buffer: &mut [u8], texts: &mut [u8], out: &mut [u8]) -> usize {
     match command {
-        command::FORWARD => forward::answer(case, buffer, texts, out),
-        command::SEND_HEADERS => send_headers::answer(case, buffer, texts, out),
-        command::HEADER => header::answer(case, buffer, texts, out),
+        commands::FORWARD => forward::answer(case, buffer, texts, out),
+        commands::SEND_HEADERS => send_headers::answer(case, buffer, texts, out),
+        commands::HEADER => header::answer(case, buffer, texts, out),
         _ => attribute::answer(case, buffer, texts, out),
     }
 }

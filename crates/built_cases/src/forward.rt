@@ -1,6 +1,6 @@
 // The command `forward`: forward BUFFER METHOD PROTOCOL REQ_URI REMOTE_ADDR REMOTE_HOST SERVER_NAME PORT SSL.
 use crate::built;
-use crate::command;
+use cases::commands;
 use cases::parse;
 use cases::put;
 use cases::string;
@@ -46,7 +46,7 @@ pub fn answer(case: &[u8], buffer: &mut [u8], texts: &mut [u8], out: &mut [u8]) 
     let strings = strings_in(case, texts);
     let n = case_anew(buffer, numbers, strings, texts, out);
     if !text::equal(part_of(out, 0, n), case) {
-        return command::NOT_UNDERSTOOD;
+        return commands::NOT_UNDERSTOOD;
     }
     let answer = begin(buffer, numbers, strings, texts);
     built::added(out, answer, buffer, text::field(case, b' ', BUFFER))
