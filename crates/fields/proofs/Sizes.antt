@@ -35,6 +35,11 @@ or-second fault later h = go (or-first fault later h) h
     go : fault ≡ 0 → orElse fault later ≡ 0 → later ≡ 0
     go e h = rw e at h
 
+-- a test without its fault holds
+pub unless-none : (t : Bool) (fault : ℕ) → 0 < fault → unless t fault ≡ 0 → t ≡ true
+unless-none true fault some h = refl
+unless-none false fault some h = absurd (omega (arith, some, h))
+
 -- a size up to 8193 is told as it is, a greater one as 8193
 pub told-exact : (n : ℕ) → n ≤ 8193 → sizeTold n ≡ n
 unfolding sizeTold
@@ -48,6 +53,10 @@ told-over n h = omega arith
 pub told-told : (a b : ℕ) → sizeTold (sizeTold a + b) ≡ sizeTold (a + b)
 unfolding sizeTold
 told-told a b = omega arith
+
+-- and what is told of it
+pub told-behind : (before size told behind : ℕ) → told ≡ sizeTold before → behind ≡ sizeTold (told + size) → behind ≡ sizeTold (before + size)
+told-behind before size told behind p q = q ∙ ap (λ (n : ℕ). sizeTold (n + size)) p ∙ told-told before size
 
 -- bytes fit the packet and the buffer as they do by the size that is told
 pub fit-told : (n room : ℕ) → fitFault (sizeTold n) room ≡ fitFault n room

@@ -4,6 +4,7 @@ ghost use Prim.Native.Nat.{_+_};
 ghost use lib.ListN.{length};
 ghost use Rattle.wire.specs.Field.{stringBytes};
 ghost use Rattle.fields.specs.Field.{sizeTold};
+use connection::Connection;
 use wire::write::string_size;
 
 // How many bytes a byte and an integer take.
@@ -12,7 +13,7 @@ pub const BYTE: usize = 1;
 pub const INTEGER: usize = 2;
 
 // The size that is told of all that is longer than a packet may be.
-const OVER_PACKET: usize = 8193;
+const OVER_PACKET: usize = Connection::MAX_PACKET + 1;
 
 // Two sizes together.
 pub fn plus(size: usize, more: usize) -> usize

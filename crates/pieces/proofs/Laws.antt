@@ -2,24 +2,25 @@
 -- Assumes nothing.
 use native.Mathlib.Omega.{arith}
 use borrow.Author.Tests.{leb-true}
-use mathlib.Core.Path.{_≡_, refl, sym, ap, _∙_}
-use mathlib.Core.Bool.{Bool, true, false}
+use mathlib.Core.Path.{_≡_, sym, ap, _∙_}
+use mathlib.Core.Bool.{Bool}
 use mathlib.Core.List.{List, [], _∷_, _++_, append-nil}
 use Prim.Native.Nat.{ℕ, _+_, _≤_}
 use lib.Dec.{leb, eqb}
 use lib.ListN.{length, getD, length-append}
-use Rattle.wire.specs.Pick.{both}
+use Rattle.wire.specs.Pick.{both, between}
 use Rattle.wire.specs.Bytes.{integerBytes}
 use Rattle.wire.specs.Field.{booleanBytes, stringBytes}
+use Rattle.wire.proofs.Tests.{both-second}
 use Rattle.connection.specs.declared.Kind.{Kind}
 use Rattle.payload.specs.Code.{codeOf}
 use Rattle.names.specs.Header.{headerNames}
 use Rattle.names.specs.Names.{codeIn}
 use Rattle.names.specs.declared.CodeFound.{CodeFound}
-use Rattle.fields.specs.Fault.{unless, orElse, firstFault, rangeFault}
+use Rattle.fields.specs.Fault.{orElse, firstFault, rangeFault}
 use Rattle.fields.specs.Call.{Outcome, outcome, bufferAfter}
-use Rattle.fields.specs.Field.{Field, opening, bytesOf, sizeTold}
-use Rattle.fields.proofs.Sizes.{or-none, or-first, told-told, boolean-one}
+use Rattle.fields.specs.Field.{Field, opening, faultsOf, bytesOf}
+use Rattle.fields.proofs.Sizes.{or-none, first-none, unless-none, boolean-one}
 use Rattle.fields.proofs.Rows.{bytes-append}
 use Rattle.pieces.specs.declared.BuildingKind.{BuildingKind}
 use Rattle.pieces.specs.declared.forward.Numbers.{Numbers}
@@ -36,10 +37,6 @@ pub possible-by : (r : Building) (buffer : List ℕ) (a b c d e f : Bool) → le
     → eqb (getD buffer 4 0) (codeOf (kindIn (r .kind))) ≡ f → both a (both b (both c (both d (both e f)))) ≡ isPossible r buffer
 unfolding isPossible
 possible-by r buffer a b c d e f p q s t u v = rw (← p, ← q, ← s, ← t, ← u, ← v)
-
--- a size behind one that was told
-pub told-behind : (before size told behind : ℕ) → told ≡ sizeTold before → behind ≡ sizeTold (told + size) → behind ≡ sizeTold (before + size)
-told-behind before size told behind p q = q ∙ ap (λ (n : ℕ). sizeTold (n + size)) p ∙ told-told before size
 
 -- how many bytes the fixed fields of a Send Headers are
 pub send-headers-size : (status : ℕ) (null : Bool) (message : List ℕ)
@@ -97,21 +94,13 @@ forward-parts numbers nulls protocol uri addr host name =
     ∙ ap (λ (l : List ℕ). bytesOf own ++ l) (sym (append-nil (bytesOf (forwardTail numbers)))))
 
 -- where a Forward has no fault, its method is one byte
-pub method-within : (n : ℕ) (a b c d e : ℕ) → firstFault (0 ∷ rangeFault 1 27 n ∷ a ∷ b ∷ c ∷ d ∷ e ∷ 0 ∷ 0 ∷ 0 ∷ []) ≡ 0 → n ≤ 27
+pub method-within : (numbers : Numbers) (nulls : Nulls) (protocol uri addr host name : List ℕ)
+    → firstFault (faultsOf (fixed BuildingKind.Forward (forwardFields numbers nulls protocol uri addr host name))) ≡ 0 → numbers .method ≤ 27
 unfolding rangeFault
-method-within n a b c d e h = go (leb 1 n) (leb n 27) refl refl (first (rangeFault 1 27 n) a b c d e h)
-  where
-    first : (f a b c d e : ℕ) → firstFault (0 ∷ f ∷ a ∷ b ∷ c ∷ d ∷ e ∷ 0 ∷ 0 ∷ 0 ∷ []) ≡ 0 → f ≡ 0
-    first f a b c d e h =
-        let g : ℕ = orElse (orElse (orElse (orElse (orElse f a) b) c) d) e in
-        let h1 : orElse (orElse g 0) 0 ≡ 0 = or-first (orElse (orElse g 0) 0) 0 h in
-        let h2 : g ≡ 0 = or-first g 0 (or-first (orElse g 0) 0 h1) in
-        or-first f a (or-first (orElse f a) b (or-first (orElse (orElse f a) b) c (or-first (orElse (orElse (orElse f a) b) c) d (or-first (orElse (orElse (orElse (orElse f a) b) c) d) e h2))))
-
-    go : (s t : Bool) → leb 1 n ≡ s → leb n 27 ≡ t → unless (both s t) 7 ≡ 0 → n ≤ 27
-    go true true p q h = leb-true n 27 q
-    go true false p q h = omega (arith, h)
-    go false t p q h = omega (arith, h)
+method-within numbers nulls protocol uri addr host name h =
+    let n : ℕ = numbers .method in
+    let later : List ℕ = faultsOf (forwardStrings nulls protocol uri addr host name ++ forwardTail numbers) in
+    leb-true n 27 (both-second (leb 1 n) (leb n 27) (unless-none (between 1 27 n) 7 (omega arith) (first-none (rangeFault 1 27 n) later h)))
 
 -- a header whose name is given as a text, by whether it is listed
 pub named-both : (r : Building) (buffer name : List ℕ) (null : Bool) (value : List ℕ) (found : CodeFound) (answer : Outcome Building) (after : List ℕ)

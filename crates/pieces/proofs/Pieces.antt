@@ -4,7 +4,7 @@ use native.Mathlib.Omega.{arith}
 use native.Mathlib.Nat.{add-assoc}
 use borrow.Author.Tests.{ltb-true, leb-true, leb-false}
 use mathlib.Core.Path.{_≡_, refl, sym, ap, _∙_}
-use mathlib.Core.Bool.{Bool, true, false}
+use mathlib.Core.Bool.{Bool, true, false, false≢true}
 use mathlib.Core.List.{List, [], _∷_, _++_, append-nil}
 use Prim.Native.Nat.{ℕ, _+_, _≤_, _<_}
 use lib.Dec.{ltb, leb}
@@ -16,7 +16,7 @@ use Rattle.attributes.proofs.Laws.{high-unserved}
 use Rattle.fields.specs.Fault.{unless, orElse, faultAfter, firstFault, fitFault}
 use Rattle.fields.specs.Field.{Field, faultsOf, sizeTold, Fits}
 use Rattle.fields.specs.Call.{Call, refused, done, refusalOf, outcome, bufferAfter}
-use Rattle.fields.proofs.Sizes.{or-second, first-none, told-exact, told-told}
+use Rattle.fields.proofs.Sizes.{or-second, first-none, told-exact, told-behind, unless-none}
 use Rattle.fields.proofs.Calls.{found-by, refused-answer, refused-buffer, done-answer, done-buffer, done-own, done-fits}
 use Rattle.pieces.specs.declared.Building.{Building}
 use Rattle.pieces.specs.Record.{headerNow, attributeNow, countFault}
@@ -26,7 +26,7 @@ use Rattle.pieces.specs.Attribute.{codeField, attributeCall}
 -- the size of bytes and of more bytes behind them
 pub told-more : (at : ℕ) (a b : List ℕ) (x y : ℕ) → x ≡ sizeTold (at + length a) → y ≡ sizeTold (x + length b)
     → y ≡ sizeTold (at + length (a ++ b))
-told-more at a b x y p q = rw (q, p, told-told, add-assoc, length-append)
+told-more at a b x y p q = rw (length-append, ← add-assoc) (told-behind (at + length a) (length b) x y p q)
 
 -- the last of a row
 pub told-last : (at : ℕ) (a b : List ℕ) (x y : ℕ) → x ≡ sizeTold (at + length a) → y ≡ sizeTold (x + length b)
@@ -41,11 +41,7 @@ fault-last before (fault ∷ later) last = fault-last (orElse before fault) late
 -- no fault of the count says that one more header may come
 count-none : (r : Building) → countFault r ≡ 0 → r .headers < 100
 unfolding countFault
-count-none r h = go (ltb (r .headers) 100) refl h
-  where
-    go : (t : Bool) → ltb (r .headers) 100 ≡ t → unless t 11 ≡ 0 → r .headers < 100
-    go true e h = ltb-true (r .headers) 100 e
-    go false e h = omega (arith, h)
+count-none r h = ltb-true (r .headers) 100 (unless-none (ltb (r .headers) 100) 11 (omega arith) h)
 
 -- what a call has come to before it writes: the end that was told, and the fault that was found
 pub record Checked (call : Call Building) (buffer : List ℕ) (end found : ℕ) : Type 0 where
@@ -103,10 +99,10 @@ code-byte r takes code later {buffer} {end} {found} unserved known h =
     let wrong : ℕ = unless (takes (attributeKind code)) 9 in
     let own : List Field = codeField (takes (attributeKind code)) code ∷ later in
     let none : firstFault (first ∷ faultsOf own) ≡ 0 = done-own (attributeCall r buffer own) buffer found (known .is) h in
-    go (leb 16 code) refl (or-second first wrong (first-none (orElse first wrong) (faultsOf later) none))
+    let holds : takes (attributeKind code) ≡ true =
+    unless-none (takes (attributeKind code)) 9 (omega arith) (or-second first wrong (first-none (orElse first wrong) (faultsOf later) none)) in
+    go (leb 16 code) refl holds
   where
-    go : (t : Bool) → leb 16 code ≡ t → unless (takes (attributeKind code)) 9 ≡ 0 → code ≤ 255
-    go true e k =
-        let f : takes (attributeKind code) ≡ false = ap takes (high-unserved code (leb-true 16 code e)) ∙ unserved in
-        omega (arith, sym (ap (λ (t : Bool). unless t 9) f) ∙ k)
+    go : (t : Bool) → leb 16 code ≡ t → takes (attributeKind code) ≡ true → code ≤ 255
+    go true e k = absurd (false≢true (sym unserved ∙ sym (ap takes (high-unserved code (leb-true 16 code e))) ∙ k))
     go false e k = omega (arith, leb-false 16 code e)

@@ -3,7 +3,7 @@
 use native.Mathlib.Omega.{arith}
 use borrow.Author.Tests.{le-leb, leb-true, eq-eqb, eqb-true}
 use mathlib.Core.Path.{_≡_, refl, sym, ap, _∙_}
-use mathlib.Core.Bool.{Bool, true, false, not}
+use mathlib.Core.Bool.{Bool, true, not}
 use mathlib.Core.List.{List, [], _∷_, _++_}
 use Prim.Native.Nat.{ℕ, _+_, _≤_, _<_}
 use lib.Dec.{leb, eqb}
@@ -16,10 +16,9 @@ use Rattle.wire.proofs.Tests.{both-first, both-second}
 use Rattle.wire.proofs.Field.{head-four}
 use Rattle.connection.specs.Cycle.{directionOf}
 use Rattle.payload.specs.Code.{codeOf}
-use Rattle.fields.specs.Fault.{unless}
 use Rattle.fields.specs.Field.{Field, opening, faultsOf, bytesOf}
 use Rattle.fields.specs.Call.{Call, refusalOf, bufferAfter}
-use Rattle.fields.proofs.Sizes.{first-none}
+use Rattle.fields.proofs.Sizes.{first-none, unless-none}
 use Rattle.fields.proofs.Rows.{bytes-append}
 use Rattle.fields.proofs.Calls.{done-own, done-fits, after-length, after-written, after-before}
 use Rattle.pieces.specs.declared.Building.{Building}
@@ -81,11 +80,6 @@ byte-kept call buffer i none h =
     ∙ ap (λ (l : List ℕ). getD l i 0) (after-before call buffer none)
     ∙ getD-take (call .at) buffer i 0 h
 
--- no fault of a test says that it holds
-test-holds : (t : Bool) → unless t 16 ≡ 0 → t ≡ true
-test-holds true h = refl
-test-holds false h = absurd (omega (arith, h))
-
 -- a piece that begins at the next place of a record that can be, and the record behind it
 module _ (r s : Building) (buffer : List ℕ) (call : Call Building) (can : Possible r buffer) (none : refusalOf call (length buffer) ≡ 0) where
   behind-possible : call .at ≡ r .next .0 → s .next .0 ≡ call .at + length (call .bytes) → s .count ≡ r .count → s .kind ≡ r .kind
@@ -112,7 +106,7 @@ header-possible r buffer own none =
     let known : Checked call buffer _ _ = record { told = refl; is = refl } in
     let ok : isPossible r buffer ≡ true =
     both-first (isPossible r buffer) (not (r .attributes))
-    (test-holds (both (isPossible r buffer) (not (r .attributes)))
+    (unless-none (both (isPossible r buffer) (not (r .attributes))) 16 (omega arith)
     (first-none (headerNow r buffer) (faultsOf own ++ (countFault r ∷ [])) (done-own call buffer (refusalOf call (length buffer)) refl none))) in
     yes-possible (withHeader r (r .next .0 + length (bytesOf own))) (bufferAfter call buffer)
     (behind-possible r (withHeader r (r .next .0 + length (bytesOf own))) buffer call (possible-yes r buffer ok) none refl refl refl refl
@@ -126,7 +120,7 @@ attribute-possible r buffer own none =
     let call : Call Building = attributeCall r buffer own in
     let ok : isPossible r buffer ≡ true =
     both-first (isPossible r buffer) (isForward (r .kind))
-    (test-holds (both (isPossible r buffer) (isForward (r .kind)))
+    (unless-none (both (isPossible r buffer) (isForward (r .kind))) 16 (omega arith)
     (first-none (attributeNow r buffer) (faultsOf own) (done-own call buffer (refusalOf call (length buffer)) refl none))) in
     let can : Possible r buffer = possible-yes r buffer ok in
     yes-possible (withAttribute r (r .next .0 + length (bytesOf own))) (bufferAfter call buffer)

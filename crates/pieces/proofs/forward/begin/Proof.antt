@@ -48,7 +48,7 @@ write-requires c κs =
     let o = i .before in
     let e = o .before .before .before .before .before .before .before .before .before .before in (
       row-fits (known o) (i .if1 .left) refl refl,
-      method-within (e .args .numbers .method) _ _ _ _ _ (done-own (call e) (e .args .buffer .now) _ (known o .is) (i .if1 .left)),
+      method-within (e .args .numbers) (e .args .nulls) (e .args .protocol .now) (e .args .uri .now) (e .args .addr .now) (e .args .host .now) (e .args .name .now) (done-own (call e) (e .args .buffer .now) _ (known o .is) (i .if1 .left)),
     )
 
 opened-requires : tie.Need-opened-requires

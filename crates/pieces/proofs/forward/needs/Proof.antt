@@ -5,7 +5,8 @@ use Prim.Native.Nat.{_+_}
 use lib.ListN.{length}
 use Rattle.wire.specs.Field.{stringBytes}
 use Rattle.fields.specs.Field.{sizeTold}
-use Rattle.pieces.proofs.Laws.{told-behind, forward-size}
+use Rattle.fields.proofs.Sizes.{told-behind}
+use Rattle.pieces.proofs.Laws.{forward-size}
 use borrow.Author.Needs.{needs}
 use Rattle.pieces.proofs.forward.needs.Statement.{statement}
 use Rattle.pieces.proofs.forward.needs.Tie as tie
