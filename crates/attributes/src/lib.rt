@@ -23,7 +23,7 @@ use wire::refusal;
 pub mod seen;
 
 // The byte behind the last attribute.
-const LAST: u8 = 0xFF;
+pub const LAST_MARK: u8 = 0xFF;
 
 // An attribute's value: refused, or its place and the place after it.
 pub enum ValueRead {
@@ -110,7 +110,7 @@ pub fn attribute_at(packet: &[u8], at: usize, full: bool, set: u16) -> Attribute
         return AttributeRead::Refused(refusal::CUT_SHORT);
     }
     let code = packet[at];
-    if code == LAST {
+    if code == LAST_MARK {
         return AttributeRead::Last { next: at + 1 };
     }
     if full {

@@ -2,6 +2,7 @@
 ghost use mathlib.Core.Path.{_≡_};
 ghost use Rattle.wire.specs.declared.read.NumberRead.{NumberRead};
 ghost use Rattle.reader.specs.Frame.{leadingDiffers, differs, frameAt, lengthAt};
+use crate::LENGTH_PLACE;
 use connection::Connection;
 use wire::Direction;
 use wire::has_room;
@@ -12,9 +13,6 @@ use wire::refusal;
 
 // A packet's first four bytes: the leading bytes and the payload's length.
 const HEAD: usize = 4;
-
-// The place of the payload's length.
-const LENGTH_PLACE: usize = 2;
 
 // The first packet of the bytes: how many bytes it needs, refused, or how many bytes it has.
 pub enum FrameRead {

@@ -27,6 +27,9 @@ pub mod view;
 
 use crate::frame::FrameRead;
 
+// Where a packet's length is: behind the two leading bytes.
+pub const LENGTH_PLACE: usize = 2;
+
 // What reading answers: how many bytes it needs in all, the refusal's number, or the packet, how many bytes were taken, and the connection
 // after it.
 pub enum Received {

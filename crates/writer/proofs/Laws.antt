@@ -29,8 +29,8 @@ use Rattle.fields.proofs.Sizes.{told-exact}
 use Rattle.fields.proofs.Rows.{fits-later, joined}
 use Rattle.fields.proofs.Calls.{found-by, refused-buffer, done-buffer, done-fits}
 use Rattle.writer.specs.declared.Sent.{Sent}
-use Rattle.writer.specs.Meaning.{Written, meaning}
-use Rattle.writer.specs.Private.{isWritten, readyOf}
+use Rattle.writer.specs.Meaning.{Written, meaning, isWritten}
+use Rattle.writer.specs.Private.{readyOf}
 use Rattle.writer.specs.Sending.{packetOf, sending, barePayload, bodyPayload, chunkPayload, endPayload}
 
 -- what `ready` promises: what the step comes to, and then whether the packet fits

@@ -2,6 +2,7 @@
 -- connection after it.
 -- Document 01, 'Building'.
 -- Assumes nothing.
+use mathlib.Core.Bool.{Bool, true, false}
 use Prim.Native.Nat.{ℕ}
 use Rattle.connection.specs.declared.Connection.{Connection}
 use Rattle.fields.specs.Call.{Outcome, refused, done}
@@ -16,3 +17,8 @@ pub record Written : Type 0 where
 abbrev pub meaning : Sent → Outcome Written
 meaning (Sent.Refused n) = refused n
 meaning (Sent.Written length connection) = done (record { length = length; connection = connection })
+
+-- an answer that says the packet is written
+abbrev pub isWritten : Sent → Bool
+isWritten (Sent.Refused n) = false
+isWritten (Sent.Written length connection) = true

@@ -1,20 +1,13 @@
 -- What the writer's own functions promise to one another.
 -- Assumes nothing.
-use mathlib.Core.Bool.{Bool, true, false}
 use Prim.Native.Nat.{ℕ}
 use Rattle.connection.specs.Cycle.{after}
 use Rattle.connection.specs.declared.Connection.{Connection}
 use Rattle.connection.specs.declared.Move.{Move}
 use Rattle.fields.specs.Fault.{orElse, firstFault, fitFault}
 use Rattle.fields.specs.Call.{Outcome, answered}
-use Rattle.writer.specs.declared.Sent.{Sent}
 use Rattle.writer.specs.Meaning.{Written}
 use Rattle.writer.specs.Sending.{sendingFaults}
-
--- an answer that says the packet is written
-abbrev pub isWritten : Sent → Bool
-isWritten (Sent.Refused n) = false
-isWritten (Sent.Written length connection) = true
 
 -- what a packet of so many bytes that makes a move comes to on a buffer with so much room
 unfoldable pub readyOf : Connection → Move → ℕ → ℕ → Outcome Written

@@ -9,8 +9,8 @@ ghost use Rattle.wire.specs.Bytes.{over};
 ghost use Rattle.connection.specs.declared.Move.{Move};
 ghost use Rattle.fields.specs.Field.{sizeTold, Fits};
 ghost use Rattle.fields.specs.Call.{outcome, bufferAfter};
-ghost use Rattle.writer.specs.Meaning.{meaning};
-ghost use Rattle.writer.specs.Private.{isWritten, readyOf};
+ghost use Rattle.writer.specs.Meaning.{meaning, isWritten};
+ghost use Rattle.writer.specs.Private.{readyOf};
 ghost use Rattle.writer.specs.Sending.{packetOf, bodyPayload, chunkPayload, getPayload, endPayload, bareCall, cpingCall, cpongCall, bodyCall, chunkCall, getCall, endCall};
 use connection::Connection;
 use connection::Kind;
@@ -65,7 +65,7 @@ pub fn body_chunk_needs(bytes: &[u8]) -> usize
 }
 
 // Whether an answer says that the packet is written.
-fn is_written(sent: Sent) -> bool
+pub fn is_written(sent: Sent) -> bool
     ensures { λ r. ⌜ r ≡ isWritten sent ⌝ }
 {
     match sent {

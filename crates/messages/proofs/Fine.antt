@@ -1,0 +1,24 @@
+-- Headers and attributes without fault, one by one: what every piece asks of its own fields.
+-- Assumes nothing.
+use mathlib.Core.Path.{_≡_}
+use mathlib.Core.List.{List, [], _∷_}
+use Prim.Native.Nat.{ℕ}
+use Rattle.wire.specs.declared.Direction.{Direction}
+use Rattle.fields.specs.Fault.{firstFault}
+use Rattle.fields.specs.Field.{Field, faultsOf}
+use Rattle.messages.specs.Message.{Header, Attribute}
+use Rattle.messages.specs.Bytes.{headerFields, attributeFields}
+
+-- fields without fault
+abbrev pub FieldsFine : List Field → Type 0
+FieldsFine own = firstFault (faultsOf own) ≡ 0
+
+-- each header's fields are
+abbrev pub HeadersFine : Direction → List Header → Type 0
+HeadersFine direction [] = Unit
+HeadersFine direction (header ∷ later) = FieldsFine (headerFields direction header) × HeadersFine direction later
+
+-- each attribute's fields are
+abbrev pub AttributesFine : List Attribute → Type 0
+AttributesFine [] = Unit
+AttributesFine (attribute ∷ later) = FieldsFine (attributeFields attribute) × AttributesFine later
