@@ -21,6 +21,12 @@ use wire::refusal;
 use writer::Sent;
 use writer::is_written;
 
+struct Old {
+    count: u16,
+    length: u16,
+    last: u8,
+}
+
 pub fn close(connection: Connection, building: Building, buffer: &mut [u8]) -> Sent {
     Sent::Refused(refusal::NONE)
 }

@@ -51,7 +51,7 @@ refusalIn (HeaderRead.Refused n) = n
 refusalIn (HeaderRead.Header value declared next) = none
 
 -- the text of a string that was written
-text-part : (a b text : List ℕ) → part (a ++ (stringBytes false text ++ b)) (length a + 2) (length text) ≡ text
+pub text-part : (a b text : List ℕ) → part (a ++ (stringBytes false text ++ b)) (length a + 2) (length text) ≡ text
 unfolding stringBytes
 text-part a b text =
     let p : List ℕ = a ++ integerBytes (length text) in
@@ -110,11 +110,11 @@ value-judged a b declaring before null text h =
     go f next true false = rw (text-part a b text)
 
 -- a name, unless it has a fault
-abbrev nameUnless : ℕ → NameRead → NameRead
+abbrev pub nameUnless : ℕ → NameRead → NameRead
 nameUnless fault name = pick (eqb fault 0) name (NameRead.Refused fault)
 
 -- a name by its code, which begins with A0, by its fault
-coded-name : (a b : List ℕ) (d : Direction) (code : ℕ) → 40960 ≤ code → code < 41216
+pub coded-name : (a b : List ℕ) (d : Direction) (code : ℕ) → 40960 ≤ code → code < 41216
     → nameAt d (a ++ (integerBytes code ++ b)) (length a) ≡ nameUnless (codeFault d code) (NameRead.Code code (length a + 2))
 coded-name a b d code low high =
     let f : ℕ = codeFault d code in
@@ -145,7 +145,7 @@ unfolding stringFault stringAllowed
 null-name text = refl
 
 -- a name that is spelled out, by its fault
-spelled-name : (a b : List ℕ) (d : Direction) (null : Bool) (text : List ℕ) → length text ≤ 8192
+pub spelled-name : (a b : List ℕ) (d : Direction) (null : Bool) (text : List ℕ) → length text ≤ 8192
     → nameAt d (a ++ (stringBytes null text ++ b)) (length a)
     ≡ nameUnless (spelledName d null text .fault) (NameRead.Spelled (length a + 2) (length text) (length a + length (stringBytes null text)))
 spelled-name a b d null text h =
@@ -375,19 +375,19 @@ pair-unless-judged code n v at next = go (eqb n 0)
     go false = refl
 
 -- the kind of value by its test
-text-kind : (kind : AttributeKind) → isText kind ≡ true → kind ≡ AttributeKind.Text
+pub text-kind : (kind : AttributeKind) → isText kind ≡ true → kind ≡ AttributeKind.Text
 text-kind AttributeKind.NotServed e = absurd (false≢true e)
 text-kind AttributeKind.Text e = refl
 text-kind AttributeKind.Integer e = absurd (false≢true e)
 text-kind AttributeKind.Pair e = absurd (false≢true e)
 
-integer-kind : (kind : AttributeKind) → isInteger kind ≡ true → kind ≡ AttributeKind.Integer
+pub integer-kind : (kind : AttributeKind) → isInteger kind ≡ true → kind ≡ AttributeKind.Integer
 integer-kind AttributeKind.NotServed e = absurd (false≢true e)
 integer-kind AttributeKind.Text e = absurd (false≢true e)
 integer-kind AttributeKind.Integer e = refl
 integer-kind AttributeKind.Pair e = absurd (false≢true e)
 
-pair-kind : (kind : AttributeKind) → isPair kind ≡ true → kind ≡ AttributeKind.Pair
+pub pair-kind : (kind : AttributeKind) → isPair kind ≡ true → kind ≡ AttributeKind.Pair
 pair-kind AttributeKind.NotServed e = absurd (false≢true e)
 pair-kind AttributeKind.Text e = absurd (false≢true e)
 pair-kind AttributeKind.Integer e = absurd (false≢true e)

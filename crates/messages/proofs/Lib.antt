@@ -1,3 +1,15 @@
 pub mod Judged
 pub mod Fixed
 pub mod Fine
+pub mod Frames
+pub mod Tables
+pub mod RoundTrip
+pub mod OneCall
+pub mod KeptFields
+pub mod Kept
+pub mod BuiltLaws
+pub mod Built
+pub mod ShownFields
+pub mod ReadShown
+pub mod InPieces
+pub mod RoundTrips

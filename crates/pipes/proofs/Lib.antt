@@ -1,0 +1,8 @@
+pub mod Moves
+pub mod Facts
+pub mod Packets
+pub mod Sends
+pub mod Meeting
+pub mod Counting
+pub mod Invariant
+pub mod Theorem

@@ -1,0 +1,284 @@
+-- Laws of closing. The packet is judged as the end to which it goes would read it with a table that is long enough, and the length that is
+-- set is the packet's: so "needs" is never the answer, and a packet that is closed is one that this end accepts, all of it.
+-- Assumes nothing.
+use native.Mathlib.Omega.{arith}
+use borrow.Author.Tests.{le-leb, le-ltb, eq-eqb, ne-eqb, eqb-true}
+use mathlib.Core.Path.{_≡_, refl, sym, ap, subst, _∙_}
+use mathlib.Core.Bool.{Bool, true, false}
+use mathlib.Core.List.{List}
+use Prim.Native.Nat.{ℕ, _+_, _-_, _≤_}
+use lib.Dec.{eqb}
+use lib.ListN.{length, drop}
+use Rattle.wire.specs.Pick.{pick}
+use Rattle.wire.specs.Bytes.{part, integerIn}
+use Rattle.wire.specs.Field.{integerAt}
+use Rattle.wire.specs.declared.Direction.{Direction}
+use Rattle.wire.specs.declared.read.NumberRead.{NumberRead}
+use Rattle.wire.proofs.Field.{number-read}
+use Rattle.connection.specs.Cycle.{inState, stepOf}
+use Rattle.connection.specs.declared.Connection.{Connection}
+use Rattle.connection.specs.declared.Kind.{Kind}
+use Rattle.connection.specs.declared.Step.{Step}
+use Rattle.payload.specs.Code.{kindAt}
+use Rattle.payload.specs.Kinds.{packetAt, moveIn}
+use Rattle.payload.specs.declared.KindRead.{KindRead}
+use Rattle.payload.specs.declared.packet.PacketRead.{PacketRead}
+use Rattle.fields.specs.Fault.{unless, orElse, fitFault}
+use Rattle.fields.specs.Call.{Outcome, refused, done}
+use Rattle.fields.proofs.Sizes.{or-first, or-second, unless-none, fit-none, fit-by}
+use Rattle.pieces.specs.declared.Building.{Building}
+use Rattle.pieces.specs.Record.{kindIn, directionIn, isPossible}
+use Rattle.pieces.proofs.Possible.{possible-yes}
+use Rattle.writer.specs.Meaning.{Written}
+use Rattle.reader.specs.declared.frame.FrameRead.{FrameRead}
+use Rattle.reader.specs.Frame.{leadingDiffers, lengthAt, frameOf, frameAt}
+use Rattle.reader.specs.Meaning as read
+use Rattle.reader.specs.Reading.{parsedOf, parseWhole, parseFrame, parse, readAsBody, stepped, accepting, judging, withRoom, reading}
+use Rattle.reader.proofs.Framing.{length-is}
+use Rattle.reader.proofs.Acceptance.{Acceptance, accepted-is}
+use Rattle.reader.proofs.Inside.{told-inside}
+use Rattle.closing.specs.Closing.{closedLength, closingFault, closed, closedPacket, judgement, verdict, closeOutcome, whereDone, closeBuffer}
+use Rattle.closing.specs.Private.{Closable}
+use Rattle.closing.proofs.Setting.{set-length, packet-length, packet-payload, set-behind}
+
+-- a table that has room for the places that are asked for
+room-enough : (t : read.Told) (taken : ℕ) (next : Connection) (room : ℕ) → read.placesNeeded t ≤ room
+    → withRoom room (read.accepted t taken next) ≡ read.accepted t taken next
+room-enough t taken next room h =
+    ap (λ (enough : Bool). pick enough (read.accepted t taken next) (read.refused 15)) (le-leb (read.placesNeeded t) room h)
+
+module _ (d : Direction) (c : Connection) (s : List ℕ) where
+  -- what bytes are judged to be
+  abbrev judged : read.Meaning
+  judged = judging c (parse d (readAsBody d c) s)
+
+  -- a packet that passes asks for no more than 328 places
+  few-places : (t : read.Told) (taken : ℕ) (next : Connection) → judged ≡ read.accepted t taken next → read.placesNeeded t ≤ 328
+  unfolding reading
+  few-places t taken next e =
+      let room : ℕ = read.placesNeeded t in
+      let a : Acceptance d c s room t taken next =
+      accepted-is d c s room t taken next (ap (withRoom room) e ∙ room-enough t taken next room (omega arith)) in
+      let most = told-inside (a .kind) (part s 0 taken) (a .packet) (a .fields-are) .places-most in
+      omega (arith, most, ap read.placesNeeded (a .tells))
+
+  -- reading with 328 places or more is judging with the table aside
+  pub aside : (room : ℕ) → 328 ≤ room → reading d c s room ≡ judging c (parse d (readAsBody d c) s)
+  unfolding reading
+  aside room h = go judged refl
+    where
+      go : (m : read.Meaning) → judged ≡ m → withRoom room m ≡ m
+      go (read.needs n) e = refl
+      go (read.refused n) e = refl
+      go (read.accepted t taken next) e = room-enough t taken next room (omega (arith, few-places t taken next e))
+
+-- where nothing is found before the packet is judged: the record can be, the state allows the packet, and all of it fits
+pub record Ready (c : Connection) (r : Building) (buffer : List ℕ) : Type 0 where
+  pub possible : isPossible r buffer ≡ true
+  pub allowed : inState c (kindIn (r .kind)) ≡ true
+  pub within : closedLength r ≤ 8192
+  pub inside : closedLength r ≤ length buffer
+
+module _ (c : Connection) (r : Building) (buffer : List ℕ) where
+  pub fault-ready : closingFault c r buffer ≡ 0 → Ready c r buffer
+  unfolding closingFault
+  fault-ready none =
+      let possible : ℕ = unless (isPossible r buffer) 16 in
+      let state : ℕ = unless (inState c (kindIn (r .kind))) 13 in
+      let fit : ℕ = fitFault (closedLength r) (length buffer) in
+      let first : orElse possible state ≡ 0 = or-first (orElse possible state) fit none in
+      let fits = fit-none (closedLength r) (length buffer) (or-second (orElse possible state) fit none) in
+      record {
+        possible = unless-none (isPossible r buffer) 16 (omega arith) (or-first possible state first);
+        allowed = unless-none (inState c (kindIn (r .kind))) 13 (omega arith) (or-second possible state first);
+        within = fits .0;
+        inside = fits .1;
+      }
+
+  pub ready-fault : Ready c r buffer → closingFault c r buffer ≡ 0
+  unfolding closingFault
+  ready-fault h =
+      rw (h .possible, h .allowed)
+      (sym (fit-by (closedLength r) (length buffer) true true (le-leb (closedLength r) 8192 (h .within)) (le-leb (closedLength r) (length buffer) (h .inside))))
+
+  -- then the packet can be closed
+  pub ready-closable : Ready c r buffer → Closable r buffer
+  ready-closable h =
+      let can = possible-yes r buffer (h .possible) in
+      record {
+        behind = can .behind;
+        apart = can .apart;
+        within = h .within;
+        inside = h .inside;
+      }
+
+-- a packet whose fields were read is not answered with "needs"
+accepting-whole : (c : Connection) (taken n : ℕ) (r : PacketRead) → accepting c taken r ≡ read.needs n → ⊥
+unfolding accepting
+accepting-whole c taken n (PacketRead.Refused k) e = let z : _≡_ {A = ℕ} 0 1 = cc in omega arith
+accepting-whole c taken n (PacketRead.Packet packet) e = go (stepOf c (moveIn packet)) e
+  where
+    go : (step : Step) → stepped packet taken step ≡ read.needs n → ⊥
+    go (Step.Refused k) e = let z : _≡_ {A = ℕ} 0 1 = cc in omega arith
+    go (Step.Next next) e = let z : _≡_ {A = ℕ} 0 1 = cc in omega arith
+
+-- nor is a whole packet
+whole-answered : (d : Direction) (body : Bool) (c : Connection) (s : List ℕ) (n : ℕ) → judging c (parseWhole d body s) ≡ read.needs n → ⊥
+unfolding parseWhole
+whole-answered d body c s n = by-kind (kindAt d body s)
+  where
+    by-state : (kind : Kind) (now : Bool) → pick now (accepting c (length s) (packetAt kind s .end)) (read.refused 13) ≡ read.needs n → ⊥
+    by-state kind true e = accepting-whole c (length s) n (packetAt kind s .end) e
+    by-state kind false e = let z : _≡_ {A = ℕ} 0 1 = cc in omega arith
+
+    by-kind : (k : KindRead) → judging c (parsedOf s k) ≡ read.needs n → ⊥
+    by-kind (KindRead.Refused k) e = let z : _≡_ {A = ℕ} 0 1 = cc in omega arith
+    by-kind (KindRead.Kind kind) e = by-state kind (inState c kind) e
+
+-- the frame of a packet that is closed: its leading bytes are wrong, or it is whole, with the packet's length
+module _ (r : Building) (buffer : List ℕ) (can : Closable r buffer) (d : Direction) where
+  abbrev framed : Bool → FrameRead
+  framed differ = pick differ (FrameRead.Refused 1) (FrameRead.Whole (closedLength r))
+
+  closed-frame : frameAt d (closedPacket r buffer) ≡ framed (leadingDiffers d (closedPacket r buffer))
+  unfolding frameAt integerAt
+  closed-frame =
+      let s : List ℕ = closedPacket r buffer in
+      let size : length s ≡ closedLength r = packet-length r buffer can in
+      let least : 6 ≤ closedLength r = omega (arith, can .behind, can .apart) in
+      let whole : 4 + (closedLength r - 4) ≡ closedLength r = omega arith in
+      let payload : integerAt s 2 ≡ NumberRead.Number (closedLength r - 4) 4 =
+      sym (number-read 2 (integerIn s 2) s 2 (omega arith)) ∙ ap (λ (n : ℕ). NumberRead.Number n 4) (packet-payload r buffer can) in
+      let sized : lengthAt (length s) (closedLength r - 4) ≡ FrameRead.Whole (closedLength r) =
+      sym (length-is (length s) (closedLength r - 4) true false (le-leb (closedLength r - 4) 8188 (omega (arith, can .within))) (le-ltb (length s) (4 + (closedLength r - 4)) (omega arith)))
+      ∙ ap FrameRead.Whole whole in
+      ap (λ (f : FrameRead). pick (leadingDiffers d s) (FrameRead.Refused 1) f) (ap (frameOf (length s)) payload ∙ sized)
+
+  -- so "needs" is not the answer
+  frame-answered : (body : Bool) (c : Connection) (n : ℕ) → judging c (parse d body (closedPacket r buffer)) ≡ read.needs n → ⊥
+  unfolding parse
+  frame-answered body c n e =
+      go (leadingDiffers d (closedPacket r buffer)) (ap (λ (f : FrameRead). judging c (parseFrame d body (closedPacket r buffer) f)) (sym closed-frame) ∙ e)
+    where
+      go : (differ : Bool) → judging c (parseFrame d body (closedPacket r buffer) (framed differ)) ≡ read.needs n → ⊥
+      go true q = let z : _≡_ {A = ℕ} 0 1 = cc in omega arith
+      go false q = whole-answered d body c (part (closedPacket r buffer) 0 (closedLength r)) n q
+
+  -- and where it is whole, all of it is taken
+  frame-taken : (taken : ℕ) → frameAt d (closedPacket r buffer) ≡ FrameRead.Whole taken → taken ≡ closedLength r
+  frame-taken taken e = go (leadingDiffers d (closedPacket r buffer)) (sym closed-frame ∙ e)
+    where
+      go : (differ : Bool) → framed differ ≡ FrameRead.Whole taken → taken ≡ closedLength r
+      go true q = absurd (let z : _≡_ {A = ℕ} 0 1 = cc in omega arith)
+      go false q = cc
+
+module _ (c : Connection) (r : Building) (buffer : List ℕ) where
+  -- "needs" is never the judge's answer to a packet that is closed
+  pub closed-whole : closingFault c r buffer ≡ 0 → (n : ℕ) → judgement c r (closedPacket r buffer) ≡ read.needs n → ⊥
+  unfolding judgement
+  closed-whole none n e =
+      frame-answered r buffer (ready-closable c r buffer (fault-ready c r buffer none)) (directionIn r) (readAsBody (directionIn r) c) c n e
+
+  -- where a packet that is closed passes, all of it is taken
+  closed-taken : Ready c r buffer → (t : read.Told) (taken : ℕ) (next : Connection)
+      → judgement c r (closedPacket r buffer) ≡ read.accepted t taken next → taken ≡ closedLength r
+  unfolding judgement
+  closed-taken ready t taken next e =
+      let s : List ℕ = closedPacket r buffer in
+      let reads : reading (directionIn r) c s 328 ≡ read.accepted t taken next = aside (directionIn r) c s 328 (omega arith) ∙ e in
+      frame-taken r buffer (ready-closable c r buffer ready) (directionIn r) taken (accepted-is (directionIn r) c s 328 t taken next reads .whole-is)
+
+  -- closing by the fault that was found: it is refused with it, and the buffer is as it was
+  pub found-refused : (found : ℕ) → found ≡ closingFault c r buffer → (found ≡ 0 → ⊥) → refused found ≡ closeOutcome c r buffer
+  unfolding closeOutcome
+  found-refused found is h = rw (← is, ne-eqb found 0 h)
+
+  -- where there is none, it is what the judge says
+  pub found-judged : (found : ℕ) → found ≡ closingFault c r buffer → found ≡ 0
+      → verdict (closedLength r) (judgement c r (closedPacket r buffer)) ≡ closeOutcome c r buffer
+  unfolding closeOutcome
+  found-judged found is h = rw (← is, eq-eqb found 0 h)
+
+  -- the buffer by what closing comes to
+  pub outcome-buffer : (o : Outcome Written) → o ≡ closeOutcome c r buffer → whereDone o (closed r buffer) buffer ≡ closeBuffer c r buffer
+  unfolding closeBuffer
+  outcome-buffer o e = ap (λ (x : Outcome Written). whereDone x (closed r buffer) buffer) e
+
+  -- what there is where closing is done: nothing was found before, the packet stands in the buffer and has its length, and the end to which
+  -- it goes accepts it, all of it, with every table of 328 places or more, and has the same connection after it
+  pub record CloseDone (w : Written) : Type 0 where
+    pub ready : Ready c r buffer
+    pub length-is : w .length ≡ closedLength r
+    pub buffer-is : closeBuffer c r buffer ≡ closed r buffer
+    pub packet-is : part (closeBuffer c r buffer) 0 (w .length) ≡ closedPacket r buffer
+    pub packet-size : length (closedPacket r buffer) ≡ closedLength r
+    pub told : read.Told
+    pub judged-is : judgement c r (closedPacket r buffer) ≡ read.accepted told (closedLength r) (w .connection)
+    pub reads : (room : ℕ) → 328 ≤ room → reading (directionIn r) c (closedPacket r buffer) room ≡ read.accepted told (closedLength r) (w .connection)
+
+  -- the record that holds where the judge accepts
+  done-by : Ready c r buffer → (t : read.Told) (taken : ℕ) (w : Written) → closeOutcome c r buffer ≡ done w → w .length ≡ closedLength r
+      → judgement c r (closedPacket r buffer) ≡ read.accepted t taken (w .connection) → CloseDone w
+  unfolding judgement closedPacket
+  done-by ready t taken w o size e =
+      let stands : closeBuffer c r buffer ≡ closed r buffer = sym (outcome-buffer (done w) (sym o)) in
+      let all : judgement c r (closedPacket r buffer) ≡ read.accepted t (closedLength r) (w .connection) =
+      e ∙ ap (λ (n : ℕ). read.accepted t n (w .connection)) (closed-taken ready t taken (w .connection) e) in
+      record {
+        ready = ready;
+        length-is = size;
+        buffer-is = stands;
+        packet-is = ap (λ (l : List ℕ). part l 0 (w .length)) stands ∙ ap (part (closed r buffer) 0) size;
+        packet-size = packet-length r buffer (ready-closable c r buffer ready);
+        told = t;
+        judged-is = all;
+        reads = λ room h. aside (directionIn r) c (closedPacket r buffer) room h ∙ all;
+      }
+
+  pub close-done : (w : Written) → closeOutcome c r buffer ≡ done w → CloseDone w
+  unfolding closeOutcome
+  close-done w e = by-fault (eqb (closingFault c r buffer) 0) refl e
+    where
+      by-judge : Ready c r buffer → (m : read.Meaning) → judgement c r (closedPacket r buffer) ≡ m → verdict (closedLength r) m ≡ done w → CloseDone w
+      by-judge ready (read.needs n) j q = absurd (let z : _≡_ {A = ℕ} 0 1 = cc in omega arith)
+      by-judge ready (read.refused n) j q = absurd (let z : _≡_ {A = ℕ} 0 1 = cc in omega arith)
+      by-judge ready (read.accepted t taken next) j q =
+          let is : record { length = closedLength r; connection = next } ≡ w = cc in
+          done-by ready t taken w e (ap (λ (x : Written). x .length) (sym is)) (j ∙ ap (λ (x : Written). read.accepted t taken (x .connection)) is)
+
+      by-fault : (none : Bool) → eqb (closingFault c r buffer) 0 ≡ none
+          → pick none (verdict (closedLength r) (judgement c r (closedPacket r buffer))) (refused (closingFault c r buffer)) ≡ done w → CloseDone w
+      by-fault true f q = by-judge (fault-ready c r buffer (eqb-true (closingFault c r buffer) 0 f)) (judgement c r (closedPacket r buffer)) refl q
+      by-fault false f q = absurd (let z : _≡_ {A = ℕ} 0 1 = cc in omega arith)
+
+  -- and the other way: where nothing is found before and the judge accepts, closing is done
+  pub done-close : Ready c r buffer → (t : read.Told) (taken : ℕ) (next : Connection)
+      → judgement c r (closedPacket r buffer) ≡ read.accepted t taken next
+      → (closeOutcome c r buffer ≡ done (record { length = closedLength r; connection = next })) × (closeBuffer c r buffer ≡ closed r buffer)
+  done-close ready t taken next e =
+      let w : Written = record { length = closedLength r; connection = next } in
+      let o : done w ≡ closeOutcome c r buffer =
+      ap (verdict (closedLength r)) (sym e) ∙ found-judged (closingFault c r buffer) refl (ready-fault c r buffer ready) in
+      (sym o, sym (outcome-buffer (done w) o))
+
+  -- a refusal leaves the buffer
+  pub close-refused : (n : ℕ) → closeOutcome c r buffer ≡ refused n → closeBuffer c r buffer ≡ buffer
+  close-refused n e = sym (outcome-buffer (refused n) (sym e))
+
+  -- what holds of the buffer as it was and of the buffer with the packet closed holds of the buffer after closing
+  after-closing : (P : List ℕ → Type 0) → P buffer → (Closable r buffer → P (closed r buffer)) → P (closeBuffer c r buffer)
+  after-closing P was now = go (closeOutcome c r buffer) refl
+    where
+      go : (o : Outcome Written) → closeOutcome c r buffer ≡ o → P (closeBuffer c r buffer)
+      go (refused n) e = subst P (sym (close-refused n e)) was
+      go (done w) e =
+          let d = close-done w e in
+          subst P (sym (d .buffer-is)) (now (ready-closable c r buffer (d .ready)))
+
+  -- closing keeps the buffer's length
+  pub close-length : length (closeBuffer c r buffer) ≡ length buffer
+  close-length = after-closing (λ (l : List ℕ). length l ≡ length buffer) refl (set-length r buffer)
+
+  -- and all behind the packet
+  pub close-behind : drop (closedLength r) (closeBuffer c r buffer) ≡ drop (closedLength r) buffer
+  close-behind = after-closing (λ (l : List ℕ). drop (closedLength r) l ≡ drop (closedLength r) buffer) refl (set-behind r buffer)

@@ -1,0 +1,127 @@
+-- What closing sets in a buffer in which the packet can be closed: it keeps the buffer's length and all behind the packet, the length that
+-- it sets is the packet's, and what stood there, put back from the last to the first, gives the buffer as it was.
+-- Assumes nothing.
+use native.Mathlib.Omega.{arith}
+use borrow.Author.Tests.{le-leb}
+use mathlib.Core.Path.{_≡_, refl, sym, ap, _∙_}
+use mathlib.Core.List.{List, [], _∷_}
+use Prim.Native.Nat.{ℕ, _+_, _-_, _<_, _≤_}
+use lib.ListN.{length, getD, take, drop}
+use lib.Seq.{getD-take, length-take-le, drop-drop}
+use Rattle.wire.specs.Bytes.{part, over, integerIn, integerBytes}
+use Rattle.wire.proofs.Bytes.{length-part, part-one, length-over, over-before, over-behind, over-again, over-same}
+use Rattle.wire.proofs.RoundTrip.{Bytes, integer-back, integer-kept}
+use Rattle.pieces.specs.declared.BuildingKind.{BuildingKind}
+use Rattle.pieces.specs.declared.Building.{Building}
+use Rattle.reader.specs.View.{integerView}
+use Rattle.closing.specs.declared.Old.{Old}
+use Rattle.closing.specs.Closing.{lastBytes, closedLength, withCount, withLength, closed, closedPacket}
+use Rattle.closing.specs.Private.{lastWith, Closable, putBack}
+
+-- what stands behind the last piece is as long whatever the byte is, and with FF it is the last bytes
+last-length : (kind : BuildingKind) (byte : ℕ) → length (lastWith kind byte) ≡ length (lastBytes kind)
+last-length BuildingKind.Forward byte = refl
+last-length BuildingKind.SendHeaders byte = refl
+
+pub last-mark : (kind : BuildingKind) → lastWith kind 255 ≡ lastBytes kind
+last-mark BuildingKind.Forward = refl
+last-mark BuildingKind.SendHeaders = refl
+
+-- what stood there, by the byte that was seen there
+pub last-saved : (s : List ℕ) (at byte : ℕ) (kind : BuildingKind) → at + length (lastBytes kind) ≤ length s → byte ≡ getD s at 0
+    → lastWith kind byte ≡ part s at (length (lastBytes kind))
+unfolding part
+last-saved s at byte BuildingKind.Forward h e = ap (λ (b : ℕ). b ∷ []) e ∙ sym (part-one s at (omega arith))
+last-saved s at byte BuildingKind.SendHeaders h e = refl
+
+-- two bytes, by the integer that was seen there
+pub integer-saved : (s : List ℕ) (at n : ℕ) → Bytes s → at + 2 ≤ length s → n ≡ integerView s at → integerBytes n ≡ part s at 2
+unfolding integerView
+integer-saved s at n bytes h e =
+    let there : integerView s at ≡ integerIn s at = rw (le-leb (at + 2) (length s) h) in
+    ap integerBytes (e ∙ there) ∙ sym (integer-kept s at bytes h)
+
+-- bytes written over others, and the others written back
+undone : (l : List ℕ) (at len : ℕ) (a b : List ℕ) → length a ≡ len → at + len ≤ length l → b ≡ part l at len → over (over l at a) at b ≡ l
+undone l at len a b e h q =
+    let same : length b ≡ length a = ap length q ∙ length-part l at len h ∙ sym e in
+    over-again l at a (omega arith) b same ∙ ap (over l at) q ∙ over-same l at len h
+
+-- a byte before the bytes that are laid over a list
+byte-before : (l : List ℕ) (at : ℕ) (a : List ℕ) (i : ℕ) → at + length a ≤ length l → i < at → getD (over l at a) i 0 ≡ getD l i 0
+byte-before l at a i fits h =
+    sym (getD-take at (over l at a) i 0 h) ∙ ap (λ (s : List ℕ). getD s i 0) (over-before l at a fits) ∙ getD-take at l i 0 h
+
+-- an integer that is laid over a list reads back
+integer-laid : (l : List ℕ) (at n : ℕ) → at ≤ length l → n < 65536 → integerIn (over l at (integerBytes n)) at ≡ n
+unfolding over
+integer-laid l at n h small =
+    ap (integerIn (over l at (integerBytes n))) (sym (length-take-le at l h)) ∙ integer-back (take at l) (drop (at + 2) l) n small
+
+-- all behind a place that the bytes do not reach
+behind : (l : List ℕ) (at : ℕ) (a : List ℕ) (place : ℕ) → at + length a ≤ place → place ≤ length l → drop place (over l at a) ≡ drop place l
+behind l at a place h k =
+    let e : at + length a + (place - (at + length a)) ≡ place = omega arith in
+    let far : (s : List ℕ) → drop place s ≡ drop (place - (at + length a)) (drop (at + length a) s) =
+    λ s. ap (λ (n : ℕ). drop n s) (sym e) ∙ sym (drop-drop (place - (at + length a)) (at + length a) s) in
+    far (over l at a) ∙ ap (drop (place - (at + length a))) (over-behind l at a (omega arith)) ∙ sym (far l)
+
+module _ (r : Building) (buffer : List ℕ) (can : Closable r buffer) where
+  -- the count fits, and keeps the buffer's length
+  count-fits : r .count .0 + 2 ≤ length buffer
+  count-fits = omega (arith, can .apart, can .inside)
+
+  pub count-length : length (withCount r buffer) ≡ length buffer
+  count-length = length-over buffer (r .count .0) (integerBytes (r .headers)) count-fits
+
+  -- so does the length
+  length-fits : 4 ≤ length (withCount r buffer)
+  length-fits = omega (arith, can .behind, count-fits, count-length)
+
+  pub length-length : length (withLength r buffer) ≡ length buffer
+  length-length = length-over (withCount r buffer) 2 (integerBytes (closedLength r - 4)) length-fits ∙ count-length
+
+  -- and so do the last bytes
+  last-fits : r .next .0 + length (lastBytes (r .kind)) ≤ length (withLength r buffer)
+  last-fits = omega (arith, can .inside, length-length)
+
+  pub set-length : length (closed r buffer) ≡ length buffer
+  unfolding closed
+  set-length = length-over (withLength r buffer) (r .next .0) (lastBytes (r .kind)) last-fits ∙ length-length
+
+  -- the packet has its length
+  pub packet-length : length (closedPacket r buffer) ≡ closedLength r
+  unfolding closedPacket
+  packet-length = length-part (closed r buffer) 0 (closedLength r) (omega (arith, can .inside, set-length))
+
+  -- all behind the packet is as it was
+  pub set-behind : drop (closedLength r) (closed r buffer) ≡ drop (closedLength r) buffer
+  unfolding closed
+  set-behind =
+      behind (withLength r buffer) (r .next .0) (lastBytes (r .kind)) (closedLength r) (omega arith) (omega (arith, can .inside, length-length))
+      ∙ behind (withCount r buffer) 2 (integerBytes (closedLength r - 4)) (closedLength r) (omega (arith, can .behind, can .apart)) (omega (arith, can .inside, count-length))
+      ∙ behind buffer (r .count .0) (integerBytes (r .headers)) (closedLength r) (omega (arith, can .apart)) (can .inside)
+
+  -- a byte before the last bytes
+  packet-byte : (i : ℕ) → i < r .next .0 → getD (closedPacket r buffer) i 0 ≡ getD (withLength r buffer) i 0
+  unfolding closedPacket closed part
+  packet-byte i h =
+      getD-take (closedLength r) (closed r buffer) i 0 (omega arith) ∙ byte-before (withLength r buffer) (r .next .0) (lastBytes (r .kind)) i last-fits h
+
+  -- the length that is set is the packet's
+  pub packet-payload : integerIn (closedPacket r buffer) 2 ≡ closedLength r - 4
+  unfolding integerIn
+  packet-payload =
+      rw (packet-byte 2 (omega (arith, can .behind, can .apart)), packet-byte 3 (omega (arith, can .behind, can .apart)))
+      (integer-laid (withCount r buffer) 2 (closedLength r - 4) (omega (arith, length-fits)) (omega (arith, can .within)))
+
+  -- what stood there, put back
+  pub set-back : (old : Old) → integerBytes (old .count) ≡ part buffer (r .count .0) 2 → integerBytes (old .length) ≡ part (withCount r buffer) 2 2
+      → lastWith (r .kind) (old .last) ≡ part (withLength r buffer) (r .next .0) (length (lastBytes (r .kind))) → putBack r old (closed r buffer) ≡ buffer
+  unfolding closed
+  set-back old count size last =
+      ap (λ (l : List ℕ). over (over l 2 (integerBytes (old .length))) (r .count .0) (integerBytes (old .count)))
+      (undone (withLength r buffer) (r .next .0) (length (lastBytes (r .kind))) (lastBytes (r .kind)) (lastWith (r .kind) (old .last)) refl last-fits last)
+      ∙ ap (λ (l : List ℕ). over l (r .count .0) (integerBytes (old .count)))
+      (undone (withCount r buffer) 2 2 (integerBytes (closedLength r - 4)) (integerBytes (old .length)) refl length-fits size)
+      ∙ undone buffer (r .count .0) 2 (integerBytes (r .headers)) (integerBytes (old .count)) refl count-fits count

@@ -1,0 +1,612 @@
+-- The packets that one call writes, there and back. The call is done exactly where the connection allows its move and the packet fits, and
+-- then the packet stands in the buffer. Each of these packets parses as what was written, and each packet of these kinds that parses has
+-- the bytes that are written for the message that it shows.
+-- Assumes nothing.
+use mathlib.Core.Path.{_≡_, refl, sym, ap, _∙_}
+use mathlib.Core.Bool.{Bool, true, false}
+use mathlib.Core.List.{List, [], _∷_, _++_}
+use Prim.Native.Nat.{ℕ, _+_, _≤_, _<_}
+use native.Mathlib.Omega.{arith}
+use borrow.Author.Tests.{le-ltb, ltb-false, eq-eqb, ne-eqb, eqb-true, eqb-false}
+use lib.Dec.{leb, ltb, eqb}
+use lib.ListN.{length, getD, drop, length-append, length-drop}
+use lib.Seq.{take-all, take-length, getD-append-seam, getD-append-add}
+use Rattle.wire.specs.Pick.{pick}
+use Rattle.wire.specs.Bytes.{part, over, integerIn, integerBytes}
+use Rattle.wire.specs.Field.{byteAt, integerAt, booleanAt, booleanBytes}
+use Rattle.wire.specs.Packet.{head, packet}
+use Rattle.wire.specs.declared.Direction.{Direction}
+use Rattle.wire.specs.declared.read.NumberRead.{NumberRead}
+use Rattle.wire.specs.declared.read.BooleanRead.{BooleanRead}
+use Rattle.wire.proofs.Tests.{both-first, both-second}
+use Rattle.wire.proofs.Bytes.{over-there, length-part, part-middle, part-add, part-one}
+use Rattle.wire.proofs.Field.{boolean-inside}
+use Rattle.wire.proofs.RoundTrip.{Bytes, integer-written, integer-kept, boolean-kept}
+use Rattle.connection.specs.Cycle.{kindOf, directionOf, inState, inSize, allowed, after}
+use Rattle.connection.specs.declared.Connection.{Connection}
+use Rattle.connection.specs.declared.Kind.{Kind}
+use Rattle.connection.specs.declared.Move.{Move}
+use Rattle.payload.specs.declared.packet.Part.{Part}
+use Rattle.payload.specs.declared.packet.Packet.{Packet}
+use Rattle.payload.specs.declared.packet.PacketRead.{PacketRead}
+use Rattle.payload.specs.Kinds.{packetAt, kindIn, moveIn}
+use Rattle.payload.specs.Packet.{partFrom, finished}
+use Rattle.payload.specs.Code.{payloadPlace, codeOf, kindAt}
+use Rattle.payload.specs.Bare.{bareAt}
+use Rattle.payload.specs.End.{endOf, endAt}
+use Rattle.payload.specs.GetBody.{getOf, getAt}
+use Rattle.payload.specs.Body.{bodyStart, sizedAt, sizedOf, bodyAt}
+use Rattle.payload.specs.BodyChunk.{chunkStart, chunkOf, chunkBy, chunkAt}
+use Rattle.payload.proofs.Laws.{get-is, chunk-is, chunk-closed, body-is, sized-by}
+use Rattle.fields.specs.Fault.{firstFault}
+use Rattle.fields.specs.Field.{opening}
+use Rattle.fields.specs.Call.{Call, Outcome, refused, done, refusalOf, answered, outcome, bufferAfter}
+use Rattle.fields.proofs.Sizes.{unless-none}
+use Rattle.fields.proofs.Calls.{done-own, done-fits, after-written, fits-done}
+use Rattle.writer.specs.Meaning.{Written}
+use Rattle.writer.specs.Sending.{packetOf, sendingFaults, sending, bodyPayload, chunkPayload, bareCall, bodyCall, chunkCall, getCall, endCall}
+use Rattle.reader.specs.declared.frame.FrameRead.{FrameRead}
+use Rattle.reader.specs.Meaning.{told}
+use Rattle.reader.proofs.Framing.{frame-inside}
+use Rattle.messages.specs.Message.{Message, cping, cpong, forward, body, getBody, sendHeaders, bodyChunk, end, wayOf, Fit}
+use Rattle.messages.specs.Bytes.{payloadOf, messageBytes}
+use Rattle.messages.specs.Writing.{wrote, wroteBy, oneCall, writing}
+use Rattle.messages.specs.Shown.{messageShown}
+use Rattle.messages.proofs.Fixed.{faultless, boolean-back}
+use Rattle.messages.proofs.Frames.{isBody, Parses, frame-written, head-kept, coded-parses, coded-kept}
+use Rattle.messages.proofs.RoundTrip.{Forth, Back, tableOf, Stands, stands-back}
+
+-- a call that is done: there was no fault, and its answer is what was answered
+answered-done : (fault : ℕ) (v w : Written) → answered fault v ≡ done w → (fault ≡ 0) × (v ≡ w)
+answered-done fault v w = go (eqb fault 0) refl
+  where
+    go : (t : Bool) → eqb fault 0 ≡ t → pick t (done v) (refused fault) ≡ done w → (fault ≡ 0) × (v ≡ w)
+    go true p e = (eqb-true fault 0 p, cc)
+    go false p e = absurd (let z : _≡_ {A = ℕ} 0 1 = cc in omega arith)
+
+-- what a call that wrote a packet has done
+pub record OneWritten (c : Connection) (m : Move) (payload buffer : List ℕ) (w : Written) (left : List ℕ) : Type 0 where
+  pub allows : allowed c m ≡ true
+  pub most : length (packetOf m payload) ≤ 8192
+  pub room : length (packetOf m payload) ≤ length buffer
+  pub size : w .length ≡ length (packetOf m payload)
+  pub steps : w .connection ≡ after c m
+  pub buffer-is : left ≡ over buffer 0 (packetOf m payload)
+  pub stands : part left 0 (w .length) ≡ packetOf m payload
+
+module _ (c : Connection) (m : Move) (payload buffer : List ℕ) where
+  -- by what the call comes to
+  pub done-written : (w : Written) → outcome (sending c m payload) (length buffer) ≡ done w
+      → OneWritten c m payload buffer w (bufferAfter (sending c m payload) buffer)
+  unfolding outcome
+  done-written w e =
+      let call : Call Written = sending c m payload in
+      let d = answered-done (refusalOf call (length buffer)) (call .answer) w e in
+      let fine = faultless (sendingFaults c m) (done-own call buffer (refusalOf call (length buffer)) refl (d .0)) in
+      let state : inState c (kindOf m) ≡ true = unless-none (inState c (kindOf m)) 13 (omega arith) (fine .0) in
+      let size : inSize c m ≡ true = unless-none (inSize c m) 14 (omega arith) (fine .1 .0) in
+      let fits = done-fits call buffer (refusalOf call (length buffer)) refl (d .0) in
+      let own : List ℕ = packetOf m payload in
+      let length-is : w .length ≡ length own = ap (λ (v : Written). v .length) (sym (d .1)) in
+      let buffer-is : bufferAfter call buffer ≡ over buffer 0 own = after-written call buffer (d .0) in
+      record {
+        allows = rw (state, size);
+        most = omega (arith, fits .1);
+        room = omega (arith, fits .0);
+        size = length-is;
+        steps = ap (λ (v : Written). v .connection) (sym (d .1));
+        buffer-is = buffer-is;
+        stands = ap (part (bufferAfter call buffer) 0) length-is
+            ∙ ap (λ (l : List ℕ). part l 0 (length own)) buffer-is ∙ over-there buffer 0 own (fits .0);
+      }
+
+  -- and by what it leaves
+  pub one-written : (w : Written) (left : List ℕ) → oneCall (sending c m payload) buffer ≡ wrote w left → OneWritten c m payload buffer w left
+  one-written w left = go (outcome (sending c m payload) (length buffer)) refl
+    where
+      go : (o : Outcome Written) → outcome (sending c m payload) (length buffer) ≡ o
+          → wroteBy (bufferAfter (sending c m payload) buffer) o ≡ wrote w left → OneWritten c m payload buffer w left
+      go (refused n) p e = absurd (let z : _≡_ {A = ℕ} 0 1 = cc in omega arith)
+      go (done v) p e =
+          let same : v ≡ w = cc in
+          let lies : bufferAfter (sending c m payload) buffer ≡ left = cc in
+          rw (← same, ← lies) (done-written v p)
+
+  -- the call is done where the connection allows its move and the packet fits
+  pub done-outcome : allowed c m ≡ true → length (packetOf m payload) ≤ 8192 → length (packetOf m payload) ≤ length buffer
+      → outcome (sending c m payload) (length buffer) ≡ done (sending c m payload .answer)
+  done-outcome a most room =
+      let state : inState c (kindOf m) ≡ true = both-first (inState c (kindOf m)) (inSize c m) a in
+      let size : inSize c m ≡ true = both-second (inState c (kindOf m)) (inSize c m) a in
+      let fine : firstFault (sendingFaults c m) ≡ 0 = rw (state, size) in
+      fits-done (sending c m payload) (length buffer) fine (omega arith) (omega arith)
+
+  -- and then it leaves the packet at the start of the buffer
+  pub one-done : allowed c m ≡ true → length (packetOf m payload) ≤ 8192 → length (packetOf m payload) ≤ length buffer
+      → oneCall (sending c m payload) buffer
+      ≡ wrote (record { length = length (packetOf m payload); connection = after c m }) (over buffer 0 (packetOf m payload))
+  one-done a most room =
+      let call : Call Written = sending c m payload in
+      let e = done-outcome a most room in
+      ap (wroteBy (bufferAfter call buffer)) e ∙ ap (wrote (call .answer)) (done-written (call .answer) e .buffer-is)
+
+-- CPing parses
+pub cping-parses : Parses Direction.ToContainer (messageBytes cping) Packet.CPing
+unfolding messageBytes
+cping-parses = coded-parses Packet.CPing [] refl (omega arith) refl
+
+-- CPong parses
+pub cpong-parses : Parses Direction.ToServer (messageBytes cpong) Packet.CPong
+unfolding messageBytes
+cpong-parses = coded-parses Packet.CPong [] refl (omega arith) refl
+
+-- so does a Get Body Chunk, with what it asks for
+pub get-parses : (asked : ℕ) → asked < 65536 → Parses Direction.ToServer (messageBytes (getBody asked)) (Packet.GetBody asked)
+unfolding messageBytes
+get-parses asked small =
+    coded-parses (Packet.GetBody asked) (integerBytes asked) refl (omega arith)
+    (get-is _ (NumberRead.Number asked 7) (integer-written (opening Kind.GetBody 3) [] asked small))
+
+-- and an End, with whether the connection is used again
+pub end-parses : (reuse : Bool) → Parses Direction.ToServer (messageBytes (end reuse)) (Packet.End reuse)
+unfolding messageBytes endAt booleanAt byteAt
+end-parses true = coded-parses (Packet.End true) (booleanBytes true) refl (omega arith) refl
+end-parses false = coded-parses (Packet.End false) (booleanBytes false) refl (omega arith) refl
+
+-- where the bytes of a chunk stand
+abbrev pub chunkPart : List ℕ → Part
+chunkPart bytes = partFrom chunkStart (length bytes)
+
+-- a chunk parses
+pub chunk-parses : (bytes : List ℕ) → length bytes ≤ 8184
+    → Parses Direction.ToServer (messageBytes (bodyChunk bytes)) (Packet.BodyChunk (chunkPart bytes))
+unfolding messageBytes
+chunk-parses bytes most =
+    let n : ℕ = length bytes in
+    let rest : List ℕ = bytes ++ (0 ∷ []) in
+    let s : List ℕ = packet Direction.ToServer (payloadOf (bodyChunk bytes)) in
+    let front : List ℕ = opening Kind.BodyChunk (length (payloadOf (bodyChunk bytes))) in
+    let behind : length rest ≡ n + 1 = length-append bytes (0 ∷ []) in
+    let zero : getD s (7 + n) 0 ≡ 0 = getD-append-add (front ++ integerBytes n) rest n 0 ∙ getD-append-seam bytes 0 [] 0 in
+    let size : eqb (7 + n + 1) (length s) ≡ true = eq-eqb (7 + n + 1) (length s) (omega arith) in
+    coded-parses (Packet.BodyChunk (chunkPart bytes)) (integerBytes n ++ rest) refl (omega arith)
+    (chunk-is s (NumberRead.Number n 7) (integer-written front rest n (omega arith))
+    ∙ sym (chunk-closed s n (omega arith) zero)
+    ∙ rw size)
+
+-- and its bytes stand there
+pub chunk-stands : (bytes : List ℕ) → part (messageBytes (bodyChunk bytes)) chunkStart (length bytes) ≡ bytes
+unfolding messageBytes
+chunk-stands bytes =
+    part-middle (opening Kind.BodyChunk (length (payloadOf (bodyChunk bytes))) ++ integerBytes (length bytes)) bytes (0 ∷ [])
+
+-- where the bytes of a body packet stand: behind the size, and behind the head where there are none
+abbrev pub bodyPart : List ℕ → Part
+bodyPart bytes = pick (eqb (length bytes) 0) (partFrom payloadPlace 0) (partFrom bodyStart (length bytes))
+
+-- a body packet with a size
+sized-fields : (bytes : List ℕ) → length bytes ≤ 8186 → eqb (length bytes) 0 ≡ false
+    → bodyAt (packet Direction.ToContainer (integerBytes (length bytes) ++ bytes)) ≡ PacketRead.Packet (Packet.Body (partFrom bodyStart (length bytes)))
+sized-fields bytes most some =
+    let n : ℕ = length bytes in
+    let s : List ℕ = packet Direction.ToContainer (integerBytes n ++ bytes) in
+    body-is s false (NumberRead.Number n 6) (ne-eqb (length s) 4 (λ e. eqb-false n 0 some (omega arith)))
+    (integer-written (head Direction.ToContainer (length (integerBytes n ++ bytes))) bytes n (omega arith))
+    ∙ sym (sized-by (length s) n false false false (le-ltb (length s) (6 + n) (omega arith)) (le-ltb (6 + n) (length s) (omega arith)) some)
+
+-- a body packet parses
+pub body-parses : (bytes : List ℕ) → length bytes ≤ 8186 → Parses Direction.ToContainer (messageBytes (body bytes)) (Packet.Body (bodyPart bytes))
+unfolding messageBytes kindAt
+body-parses bytes most = go (eqb (length bytes) 0) refl
+  where
+    go : (t : Bool) → eqb (length bytes) 0 ≡ t
+        → Parses Direction.ToContainer (packet Direction.ToContainer (pick t [] (integerBytes (length bytes) ++ bytes)))
+        (Packet.Body (pick t (partFrom payloadPlace 0) (partFrom bodyStart (length bytes))))
+    go true e = record {
+      way = refl;
+      whole-is = frame-written Direction.ToContainer [] (omega arith);
+      kind-is = refl;
+      fields-are = body-is (packet Direction.ToContainer []) true _ refl refl;
+    }
+    go false e = record {
+      way = refl;
+      whole-is = frame-written Direction.ToContainer (integerBytes (length bytes) ++ bytes) (omega arith);
+      kind-is = refl;
+      fields-are = sized-fields bytes most e;
+    }
+
+-- a list without elements
+none-there : (l : List ℕ) → length l ≡ 0 → l ≡ []
+none-there [] e = refl
+none-there (x ∷ l) e = absurd (omega (arith, e))
+
+-- and its bytes stand there
+pub body-stands : (bytes : List ℕ) → part (messageBytes (body bytes)) (bodyPart bytes .start .0) (bodyPart bytes .len) ≡ bytes
+unfolding messageBytes part
+body-stands bytes = go (eqb (length bytes) 0) refl
+  where
+    go : (t : Bool) → eqb (length bytes) 0 ≡ t
+        → (let p = pick t (partFrom payloadPlace 0) (partFrom bodyStart (length bytes)) in
+        part (packet Direction.ToContainer (pick t [] (integerBytes (length bytes) ++ bytes))) (p .start .0) (p .len) ≡ bytes)
+    go true e = sym (none-there bytes (eqb-true (length bytes) 0 e))
+    go false e = take-length bytes
+
+-- a body packet's part has as many bytes as were given
+body-long : (bytes : List ℕ) → bodyPart bytes .len ≡ length bytes
+body-long bytes = go (eqb (length bytes) 0) refl
+  where
+    go : (t : Bool) → eqb (length bytes) 0 ≡ t → pick t (partFrom payloadPlace 0) (partFrom bodyStart (length bytes)) .len ≡ length bytes
+    go true e = sym (eqb-true (length bytes) 0 e)
+    go false e = refl
+
+-- bytes whose body packet fits a packet's size
+body-most : (bytes : List ℕ) → length (messageBytes (body bytes)) ≤ 8192 → length bytes ≤ 8186
+unfolding messageBytes
+body-most bytes = go (eqb (length bytes) 0) refl
+  where
+    go : (t : Bool) → eqb (length bytes) 0 ≡ t → length (packet Direction.ToContainer (pick t [] (integerBytes (length bytes) ++ bytes))) ≤ 8192
+        → length bytes ≤ 8186
+    go true e h = omega (arith, eqb-true (length bytes) 0 e)
+    go false e h = omega arith
+
+-- bytes whose chunk does
+chunk-most : (bytes : List ℕ) → length (messageBytes (bodyChunk bytes)) ≤ 8192 → length bytes ≤ 8184
+unfolding messageBytes
+chunk-most bytes h = omega (arith, h, length-append bytes (0 ∷ []))
+
+-- a message is written by one call: the call that makes a packet's move with the message's payload
+pub record Calls (m : Message) (p : Packet) : Type 0 where
+  pub call-is : (c : Connection) (buffer : List ℕ) → writing c m buffer ≡ oneCall (sending c (moveIn p) (payloadOf m)) buffer
+  pub bytes-are : packetOf (moveIn p) (payloadOf m) ≡ messageBytes m
+
+-- CPing is
+cping-calls : Calls cping Packet.CPing
+unfolding writing bareCall messageBytes
+cping-calls = record { call-is = λ c buffer. refl; bytes-are = refl }
+
+-- CPong is
+cpong-calls : Calls cpong Packet.CPong
+unfolding writing bareCall messageBytes
+cpong-calls = record { call-is = λ c buffer. refl; bytes-are = refl }
+
+-- so is Get Body Chunk
+get-calls : (asked : ℕ) → Calls (getBody asked) (Packet.GetBody asked)
+unfolding writing getCall messageBytes
+get-calls asked = record { call-is = λ c buffer. refl; bytes-are = refl }
+
+-- and End
+end-calls : (reuse : Bool) → Calls (end reuse) (Packet.End reuse)
+unfolding writing endCall messageBytes
+end-calls reuse = record { call-is = λ c buffer. refl; bytes-are = refl }
+
+-- a body packet is, with as many bytes as the part has
+body-calls : (bytes : List ℕ) (p : Part) → length bytes ≡ p .len → Calls (body bytes) (Packet.Body p)
+unfolding writing bodyCall messageBytes
+body-calls bytes p e = record {
+  call-is = λ c buffer. ap (λ (k : ℕ). oneCall (sending c (Move.Body k) (bodyPayload bytes)) buffer) e;
+  bytes-are = refl;
+}
+
+-- and so is a chunk
+chunk-calls : (bytes : List ℕ) (p : Part) → length bytes ≡ p .len → Calls (bodyChunk bytes) (Packet.BodyChunk p)
+unfolding writing chunkCall messageBytes
+chunk-calls bytes p e = record {
+  call-is = λ c buffer. ap (λ (k : ℕ). oneCall (sending c (Move.BodyChunk k) (chunkPayload bytes)) buffer) e;
+  bytes-are = refl;
+}
+
+-- a message that one call writes
+abbrev pub IsOne : Message → Type 0
+IsOne cping = Unit
+IsOne cpong = Unit
+IsOne (forward request) = ⊥
+IsOne (body bytes) = Unit
+IsOne (getBody asked) = Unit
+IsOne (sendHeaders response) = ⊥
+IsOne (bodyChunk bytes) = Unit
+IsOne (end reuse) = Unit
+
+-- as a packet: it is written by its call, parses where it fits, and shows the message
+pub record OnePacket (m : Message) : Type 0 where
+  pub packet : Packet
+  pub calls : Calls m packet
+  pub parses : length (messageBytes m) ≤ 8192 → Parses (wayOf m) (messageBytes m) packet
+  pub shows : (table : List ℕ) → messageShown (told packet) (messageBytes m) table ≡ m
+
+-- each such message has such a packet
+pub one-packet : (m : Message) → IsOne m → Fit m → OnePacket m
+unfolding messageShown
+one-packet cping one fit = record { packet = Packet.CPing; calls = cping-calls; parses = λ h. cping-parses; shows = λ table. refl }
+one-packet cpong one fit = record { packet = Packet.CPong; calls = cpong-calls; parses = λ h. cpong-parses; shows = λ table. refl }
+one-packet (forward request) one fit = absurd one
+one-packet (body bytes) one fit = record {
+  packet = Packet.Body (bodyPart bytes);
+  calls = body-calls bytes (bodyPart bytes) (sym (body-long bytes));
+  parses = λ h. body-parses bytes (body-most bytes h);
+  shows = λ table. ap body (body-stands bytes);
+}
+one-packet (getBody asked) one fit = record {
+  packet = Packet.GetBody asked;
+  calls = get-calls asked;
+  parses = λ h. get-parses asked fit;
+  shows = λ table. refl;
+}
+one-packet (sendHeaders response) one fit = absurd one
+one-packet (bodyChunk bytes) one fit = record {
+  packet = Packet.BodyChunk (chunkPart bytes);
+  calls = chunk-calls bytes (chunkPart bytes) refl;
+  parses = λ h. chunk-parses bytes (chunk-most bytes h);
+  shows = λ table. ap bodyChunk (chunk-stands bytes);
+}
+one-packet (end reuse) one fit = record {
+  packet = Packet.End reuse;
+  calls = end-calls reuse;
+  parses = λ h. end-parses reuse;
+  shows = λ table. ap end (boolean-back reuse);
+}
+
+-- what a call wrote stands at the start of the buffer
+pub one-stands : {m : Message} (k : OnePacket m) {c : Connection} {buffer left : List ℕ} {w : Written}
+    → OneWritten c (moveIn (k .packet)) (payloadOf m) buffer w left → Stands m c w left
+one-stands {m} k {c} {buffer} {left} {w} o =
+    let own : messageBytes m ≡ part left 0 (w .length) = sym (o .stands ∙ k .calls .bytes-are) in
+    record {
+      packet = k .packet;
+      size = ap length (o .stands) ∙ sym (o .size);
+      parses = rw (← own) (k .parses (rw (k .calls .bytes-are) at (o .most)));
+      allows = o .allows;
+      steps = sym (o .steps);
+      shows = λ table. rw (← own) (k .shows (tableOf (k .packet) (messageBytes m) table));
+    }
+
+-- and reads back
+pub one-forth : (m : Message) → IsOne m → Forth m
+one-forth m one c buffer w left fit e =
+    let k = one-packet m one fit in
+    stands-back (one-stands k (one-written c (moveIn (k .packet)) (payloadOf m) buffer w left (sym (k .calls .call-is c buffer) ∙ e)))
+
+-- nothing stands behind a packet's last field, and the packet is the one that was found
+finished-is : (size next : ℕ) (found p : Packet) → finished size next found ≡ PacketRead.Packet p → (next ≡ size) × (found ≡ p)
+finished-is size next found p = go (eqb next size) refl
+  where
+    go : (t : Bool) → eqb next size ≡ t → pick t (PacketRead.Packet found) (PacketRead.Refused 12) ≡ PacketRead.Packet p
+        → (next ≡ size) × (found ≡ p)
+    go true q e = (eqb-true next size q, cc)
+    go false q e = absurd (let z : _≡_ {A = ℕ} 0 1 = cc in omega arith)
+
+-- what a Get Body Chunk was read from
+get-read : (s : List ℕ) (asked : ℕ) → getAt s ≡ PacketRead.Packet (Packet.GetBody asked) → (length s ≡ 7) × (integerIn s 5 ≡ asked)
+unfolding getAt integerAt
+get-read s asked = go (leb 7 (length s))
+  where
+    go : (t : Bool) → getOf (length s) (pick t (NumberRead.Number (integerIn s 5) 7) (NumberRead.Refused 3)) ≡ PacketRead.Packet (Packet.GetBody asked)
+        → (length s ≡ 7) × (integerIn s 5 ≡ asked)
+    go true e =
+        let f = finished-is (length s) 7 (Packet.GetBody (integerIn s 5)) (Packet.GetBody asked) e in
+        let g : Packet.GetBody (integerIn s 5) ≡ Packet.GetBody asked = f .1 in
+        (sym (f .0), cc)
+    go false e = absurd (let z : _≡_ {A = ℕ} 0 1 = cc in omega arith)
+
+-- what an End was read from
+end-read : (s : List ℕ) (reuse : Bool) → endAt s ≡ PacketRead.Packet (Packet.End reuse)
+    → (length s ≡ 6) × (booleanAt s 5 ≡ BooleanRead.Boolean reuse 6)
+unfolding endAt
+end-read s reuse = go (booleanAt s 5) refl
+  where
+    go : (r : BooleanRead) → booleanAt s 5 ≡ r → endOf (length s) r ≡ PacketRead.Packet (Packet.End reuse)
+        → (length s ≡ 6) × (booleanAt s 5 ≡ BooleanRead.Boolean reuse 6)
+    go (BooleanRead.Refused n) q e = absurd (let z : _≡_ {A = ℕ} 0 1 = cc in omega arith)
+    go (BooleanRead.Boolean value next) q e =
+        let inside = boolean-inside s 5 (BooleanRead.Boolean value next) q in
+        let f = finished-is (length s) next (Packet.End value) (Packet.End reuse) e in
+        let g : Packet.End value ≡ Packet.End reuse = f .1 in
+        let v : value ≡ reuse = cc in
+        let six : next ≡ 6 = inside .0 in
+        (sym (f .0) ∙ six, rw (← v, ← six) q)
+
+-- what a chunk was read from
+record ChunkRead (s : List ℕ) (p : Part) : Type 0 where
+  starts : p .start .0 ≡ 7
+  len-is : integerIn s 5 ≡ p .len
+  zero : getD s (7 + p .len) 0 ≡ 0
+  size : length s ≡ 7 + (p .len + 1)
+
+-- a chunk was read from these
+chunk-read : (s : List ℕ) (p : Part) → chunkAt s ≡ PacketRead.Packet (Packet.BodyChunk p) → ChunkRead s p
+unfolding chunkAt integerAt chunkOf
+chunk-read s p = go (leb 7 (length s))
+  where
+    n : ℕ
+    n = integerIn s 5
+
+    by : (t u v : Bool) → eqb (getD s (7 + n) 0) 0 ≡ u → eqb (7 + n + 1) (length s) ≡ v
+        → pick t
+        (pick u (pick v (PacketRead.Packet (Packet.BodyChunk (partFrom 7 n))) (PacketRead.Refused 12)) (PacketRead.Refused 6))
+        (PacketRead.Refused 3) ≡ PacketRead.Packet (Packet.BodyChunk p) → ChunkRead s p
+    by true true true q r e =
+        let same : partFrom 7 n ≡ p = cc in
+        rw (← same) (record {
+          starts = refl;
+          len-is = refl;
+          zero = eqb-true (getD s (7 + n) 0) 0 q;
+          size = omega (arith, eqb-true (7 + n + 1) (length s) r);
+        })
+    by true true false q r e = absurd (let z : _≡_ {A = ℕ} 0 1 = cc in omega arith)
+    by true false v q r e = absurd (let z : _≡_ {A = ℕ} 0 1 = cc in omega arith)
+    by false u v q r e = absurd (let z : _≡_ {A = ℕ} 0 1 = cc in omega arith)
+
+    go : (t : Bool) → chunkBy s (pick t (NumberRead.Number n 7) (NumberRead.Refused 3)) ≡ PacketRead.Packet (Packet.BodyChunk p) → ChunkRead s p
+    go true e = by (leb (7 + (n + 1)) (length s)) (eqb (getD s (7 + n) 0) 0) (eqb (7 + n + 1) (length s)) refl refl e
+    go false e = absurd (let z : _≡_ {A = ℕ} 0 1 = cc in omega arith)
+
+-- what a body packet was read from: nothing behind the head, or a size and so many bytes
+data BodyRead (s : List ℕ) : Part → Type 0 where
+  empty : length s ≡ 4 → BodyRead s (partFrom 4 0)
+  sized : (n : ℕ) → integerIn s 4 ≡ n → eqb n 0 ≡ false → length s ≡ 6 + n → BodyRead s (partFrom 6 n)
+
+-- a body packet was read from one of the two
+body-read : (s : List ℕ) (p : Part) → bodyAt s ≡ PacketRead.Packet (Packet.Body p) → BodyRead s p
+unfolding bodyAt integerAt sizedAt
+body-read s p = go (eqb (length s) 4) (leb 6 (length s)) refl
+  where
+    n : ℕ
+    n = integerIn s 4
+
+    by : (t u v : Bool) → ltb (length s) (6 + n) ≡ t → ltb (6 + n) (length s) ≡ u → eqb n 0 ≡ v
+        → pick t (PacketRead.Refused 3)
+        (pick u (PacketRead.Refused 12) (pick v (PacketRead.Refused 14) (PacketRead.Packet (Packet.Body (partFrom 6 n)))))
+        ≡ PacketRead.Packet (Packet.Body p) → BodyRead s p
+    by true u v q r k e = absurd (let z : _≡_ {A = ℕ} 0 1 = cc in omega arith)
+    by false true v q r k e = absurd (let z : _≡_ {A = ℕ} 0 1 = cc in omega arith)
+    by false false true q r k e = absurd (let z : _≡_ {A = ℕ} 0 1 = cc in omega arith)
+    by false false false q r k e =
+        let same : partFrom 6 n ≡ p = cc in
+        rw (← same) (sized n refl k (omega (arith, ltb-false (length s) (6 + n) q, ltb-false (6 + n) (length s) r)))
+
+    go : (t u : Bool) → eqb (length s) 4 ≡ t
+        → pick t (PacketRead.Packet (Packet.Body (partFrom 4 0)))
+        (sizedOf (length s) (pick u (NumberRead.Number n 6) (NumberRead.Refused 3))) ≡ PacketRead.Packet (Packet.Body p) → BodyRead s p
+    go true u q e =
+        let same : partFrom 4 0 ≡ p = cc in
+        rw (← same) (empty (eqb-true (length s) 4 q))
+    go false true q e = by (ltb (length s) (6 + n)) (ltb (6 + n) (length s)) (eqb n 0) refl refl refl e
+    go false false q e = absurd (let z : _≡_ {A = ℕ} 0 1 = cc in omega arith)
+
+-- what stands behind a place is a part of its own length
+rest-part : (s : List ℕ) (at n : ℕ) → length s ≡ at + n → drop at s ≡ part s at n
+unfolding part
+rest-part s at n e = sym (take-all n (drop at s) (omega (arith, length-drop at s)))
+
+-- a packet with a code, and so many bytes behind it
+behind-kept : {d : Direction} {s : List ℕ} {p : Packet} → Parses d s p → isBody (kindIn p) ≡ false → Bytes s → (n : ℕ) → length s ≡ 5 + n
+    → (behind : List ℕ) → part s 5 n ≡ behind → s ≡ packet (directionOf (kindIn p)) (codeOf (kindIn p) ∷ behind)
+behind-kept {d} {s} {p} r b bytes n size behind e =
+    coded-kept r b bytes ∙ ap (λ (l : List ℕ). packet (directionOf (kindIn p)) (codeOf (kindIn p) ∷ l)) (rest-part s 5 n size ∙ e)
+
+-- no bytes
+part-zero : (s : List ℕ) (at : ℕ) → part s at 0 ≡ []
+unfolding part
+part-zero s at = refl
+
+-- the payload of a body packet is that of its bytes
+body-payload : {s : List ℕ} {p : Part} → Bytes s → BodyRead s p
+    → (drop 4 s ≡ bodyPayload (part s (p .start .0) (p .len))) × (length (part s (p .start .0) (p .len)) ≡ p .len)
+body-payload {s} bytes (empty e) = rw (part-zero s 4) (rest-part s 4 0 (omega (arith, e)) ∙ part-zero s 4, refl)
+body-payload {s} bytes (sized n e some size) =
+    let long : length (part s 6 n) ≡ n = length-part s 6 n (omega (arith, size)) in
+    let behind : drop 4 s ≡ integerBytes n ++ part s 6 n =
+    rest-part s 4 (2 + n) (omega (arith, size)) ∙ part-add s 4 2 n ∙ rw (integer-kept s 4 bytes (omega (arith, size)), e) in
+    (behind ∙ rw (long, some), long)
+
+module _ {d : Direction} {s : List ℕ} (bytes : Bytes s) where
+  -- the bytes of a packet that is its code alone
+  bare-kept : (p : Packet) → isBody (kindIn p) ≡ false → packetAt (kindIn p) s .end ≡ bareAt s p → Parses d s p
+      → s ≡ packet (directionOf (kindIn p)) (codeOf (kindIn p) ∷ [])
+  bare-kept p b e r =
+      let f = finished-is (length s) 5 p p (sym e ∙ r .fields-are) in
+      behind-kept r b bytes 0 (sym (f .0)) [] (part-zero s 5)
+
+  -- of CPing
+  cping-kept : Parses d s Packet.CPing → s ≡ messageBytes cping
+  unfolding messageBytes
+  cping-kept r = bare-kept Packet.CPing refl refl r
+
+  -- of CPong
+  cpong-kept : Parses d s Packet.CPong → s ≡ messageBytes cpong
+  unfolding messageBytes
+  cpong-kept r = bare-kept Packet.CPong refl refl r
+
+  -- of a Get Body Chunk, which asks for an integer
+  get-kept : (asked : ℕ) → Parses d s (Packet.GetBody asked) → (s ≡ messageBytes (getBody asked)) × (asked < 65536)
+  unfolding messageBytes integerIn
+  get-kept asked r =
+      let f = get-read s asked (r .fields-are) in (
+        behind-kept r refl bytes 2 (f .0) (integerBytes asked)
+            (integer-kept s 5 bytes (omega (arith, f .0)) ∙ ap integerBytes (f .1)),
+        omega (arith, f .1, bytes 5, bytes 6),
+      )
+
+  -- of an End
+  end-kept : (reuse : Bool) → Parses d s (Packet.End reuse) → s ≡ messageBytes (end reuse)
+  unfolding messageBytes
+  end-kept reuse r =
+      let f = end-read s reuse (r .fields-are) in
+      behind-kept r refl bytes 1 (f .0) (booleanBytes reuse) (boolean-kept s 5 reuse 6 (f .1))
+
+  -- of a chunk
+  chunk-kept : (p : Part) → Parses d s (Packet.BodyChunk p)
+      → (s ≡ messageBytes (bodyChunk (part s (p .start .0) (p .len)))) × (length (part s (p .start .0) (p .len)) ≡ p .len)
+  unfolding messageBytes
+  chunk-kept p r =
+      let f = chunk-read s p (r .fields-are) in
+      let n : ℕ = p .len in
+      let size : length (part s 7 n) ≡ n = length-part s 7 n (omega (arith, f .size)) in
+      let behind : part s 5 (2 + (n + 1)) ≡ integerBytes (length (part s 7 n)) ++ (part s 7 n ++ (0 ∷ [])) =
+      part-add s 5 2 (n + 1) ∙ rw (part-add s 7 n 1, part-one s (7 + n) (omega (arith, f .size)), f .zero, integer-kept s 5 bytes (omega (arith, f .size)), f .len-is, size) in
+      rw (f .starts) (behind-kept r refl bytes (2 + (n + 1)) (omega (arith, f .size)) _ behind, size)
+
+  -- of a body packet
+  body-kept : (p : Part) → Parses d s (Packet.Body p)
+      → (s ≡ messageBytes (body (part s (p .start .0) (p .len)))) × (length (part s (p .start .0) (p .len)) ≡ p .len)
+  unfolding messageBytes
+  body-kept p r =
+      let f = body-payload bytes (body-read s p (r .fields-are)) in (
+        head-kept d s (length s) bytes (r .whole-is) refl
+            ∙ ap (λ (way : Direction). packet way (drop 4 s)) (sym (r .way))
+            ∙ ap (packet Direction.ToContainer) (f .0),
+        f .1,
+      )
+
+-- a packet that one call writes
+abbrev pub IsOneCall : Packet → Type 0
+IsOneCall Packet.CPing = Unit
+IsOneCall Packet.CPong = Unit
+IsOneCall (Packet.Forward f) = ⊥
+IsOneCall (Packet.Body p) = Unit
+IsOneCall (Packet.GetBody asked) = Unit
+IsOneCall (Packet.SendHeaders h) = ⊥
+IsOneCall (Packet.BodyChunk p) = Unit
+IsOneCall (Packet.End reuse) = Unit
+
+-- as a message: it has the message's bytes, and its call writes it
+pub record OneShown (d : Direction) (s : List ℕ) (p : Packet) (m : Message) : Type 0 where
+  pub calls : Calls m p
+  pub kept : s ≡ messageBytes m
+  pub fit : Fit m
+  pub way : wayOf m ≡ d
+
+-- each such packet shows such a message
+pub one-shown : (d : Direction) (s table : List ℕ) (p : Packet) → IsOneCall p → Bytes s → Parses d s p
+    → OneShown d s p (messageShown (told p) s table)
+unfolding messageShown
+one-shown d s table Packet.CPing one bytes r = record { calls = cping-calls; kept = cping-kept bytes r; fit = tt; way = r .way }
+one-shown d s table Packet.CPong one bytes r = record { calls = cpong-calls; kept = cpong-kept bytes r; fit = tt; way = r .way }
+one-shown d s table (Packet.Forward f) one bytes r = absurd one
+one-shown d s table (Packet.Body p) one bytes r =
+    let k = body-kept bytes p r in
+    record { calls = body-calls (part s (p .start .0) (p .len)) p (k .1); kept = k .0; fit = tt; way = r .way }
+one-shown d s table (Packet.GetBody asked) one bytes r =
+    let k = get-kept bytes asked r in
+    record { calls = get-calls asked; kept = k .0; fit = k .1; way = r .way }
+one-shown d s table (Packet.SendHeaders h) one bytes r = absurd one
+one-shown d s table (Packet.BodyChunk p) one bytes r =
+    let k = chunk-kept bytes p r in
+    record { calls = chunk-calls (part s (p .start .0) (p .len)) p (k .1); kept = k .0; fit = tt; way = r .way }
+one-shown d s table (Packet.End reuse) one bytes r =
+    rw (boolean-back reuse) (record { calls = end-calls reuse; kept = end-kept bytes reuse r; fit = tt; way = r .way })
+
+-- a packet that one call writes, once read, is written back
+pub one-back : (p : Packet) → IsOneCall p → Back p
+one-back p one d c s table bytes r a places buffer room =
+    let m : Message = messageShown (told p) s (tableOf p s table) in
+    let k = one-shown d s (tableOf p s table) p one bytes r in
+    let same : packetOf (moveIn p) (payloadOf m) ≡ s = k .calls .bytes-are ∙ sym (k .kept) in
+    let inside = frame-inside d s (FrameRead.Whole (length s)) (r .whole-is) in
+    let most : length (packetOf (moveIn p) (payloadOf m)) ≤ 8192 = rw same (inside .1 .0) in
+    let fits : length (packetOf (moveIn p) (payloadOf m)) ≤ length buffer = rw same room in
+    record {
+      written = k .calls .call-is c buffer ∙ one-done c (moveIn p) (payloadOf m) buffer a most fits
+          ∙ ap (λ (l : List ℕ). wrote (record { length = length l; connection = after c (moveIn p) }) (over buffer 0 l)) same;
+      fit = k .fit;
+      way = k .way;
+    }

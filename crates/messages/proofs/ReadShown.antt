@@ -1,0 +1,297 @@
+-- From written to read, for packets in pieces: a Forward or a Send Headers whose fields have no fault, where reading accepts it, shows the
+-- message that was written. The fixed fields are read as they were written (`Fixed`), and at every place that is handed out the field is shown
+-- that was written there (`ShownFields`).
+-- Assumes nothing.
+use native.Mathlib.Omega.{arith}
+use borrow.Author.Tests.{leb-true}
+use mathlib.Core.Path.{_≡_, refl, sym, ap, subst, _∙_}
+use mathlib.Core.Bool.{Bool, true, false}
+use mathlib.Core.List.{List, [], _∷_, _++_, append-assoc, append-nil}
+use Prim.Native.Nat.{ℕ, _+_, _≤_, _<_}
+use lib.Dec.{leb, eqb}
+use lib.ListN.{length, length-append}
+use Rattle.wire.specs.Pick.{pick, both}
+use Rattle.wire.specs.Bytes.{part, integerBytes}
+use Rattle.wire.specs.Field.{booleanBytes}
+use Rattle.wire.specs.declared.Direction.{Direction}
+use Rattle.wire.specs.declared.StringField.{StringField}
+use Rattle.places.specs.Entries.{Entries}
+use Rattle.attributes.specs.Attributes.{lastMark}
+use Rattle.headers.specs.declared.HeadersRead.{HeadersRead}
+use Rattle.connection.specs.declared.Connection.{Connection}
+use Rattle.connection.specs.declared.Kind.{Kind}
+use Rattle.payload.specs.Sequence.{booleanNumber, placeOf, valueOf}
+use Rattle.payload.specs.Forward.{forwardOf, forwardAt}
+use Rattle.payload.specs.SendHeaders.{sendHeadersOf, sendHeadersAt}
+use Rattle.payload.specs.Lists.{headersAfter, listsAt}
+use Rattle.payload.specs.declared.field.FieldRead.{FieldRead}
+use Rattle.payload.specs.declared.lists.ListsRead.{ListsRead}
+use Rattle.payload.specs.declared.packet.Forward.{Forward}
+use Rattle.payload.specs.declared.packet.SendHeaders.{SendHeaders}
+use Rattle.payload.specs.declared.packet.Packet.{Packet}
+use Rattle.payload.specs.declared.packet.PacketRead.{PacketRead}
+use Rattle.payload.proofs.Parsed.{forward-places, send-headers-places}
+use Rattle.reader.specs.Meaning.{Told, accepted, told}
+use Rattle.reader.specs.Reading.{reading, tableAfter}
+use Rattle.reader.proofs.Acceptance.{accepted-is}
+use Rattle.reader.proofs.Handed.{forward-handed, head-handed}
+use Rattle.fields.specs.Fault.{unless, rangeFault}
+use Rattle.fields.specs.Field.{opening, faultsOf, bytesOf}
+use Rattle.fields.proofs.Sizes.{boolean-one}
+use Rattle.messages.specs.Message.{Request, Response, forward, sendHeaders, isNull, bytesIn, AttributesFit}
+use Rattle.messages.specs.Bytes.{headersBytes, attributesBytes, numbersOf, nullsOf, requestFields, responseFields, payloadOf, messageBytes}
+use Rattle.messages.specs.Shown.{shownBy, messageShown}
+use Rattle.messages.proofs.Judged.{among}
+use Rattle.messages.proofs.Fixed.{Ahead, ahead-next, forward-read, send-headers-read, reached, boolean-back, faultless}
+use Rattle.messages.proofs.Fine.{FieldsFine, HeadersFine, AttributesFine}
+use Rattle.messages.proofs.Tables.{packet-read, packet-shown}
+use Rattle.messages.proofs.ShownFields.{textBytes, string-fits, string-shows, headers-show, attributes-show}
+
+-- the numbers of a Forward, by its fixed fields
+forward-numbers : (method protocol uri addr host name port ssl headers : FieldRead) (r : ListsRead) (f : Forward)
+    → forwardOf method protocol uri addr host name port ssl headers r ≡ PacketRead.Packet (Packet.Forward f)
+    → (f .method ≡ valueOf method) × (f .«server_port» ≡ valueOf port) × (f .«is_ssl» ≡ eqb (valueOf ssl) 1) × (f .headers ≡ valueOf headers)
+forward-numbers method protocol uri addr host name port ssl headers (ListsRead.Refused n) f e =
+    absurd (let z : _≡_ {A = ℕ} 0 1 = cc in omega arith)
+forward-numbers method protocol uri addr host name port ssl headers (ListsRead.Lists declared attributes) f e =
+    let method-is : f .method ≡ valueOf method = cc in
+    let port-is : f .«server_port» ≡ valueOf port = cc in
+    let ssl-is : f .«is_ssl» ≡ eqb (valueOf ssl) 1 = cc in
+    let headers-are : f .headers ≡ valueOf headers = cc in
+    (method-is, port-is, ssl-is, headers-are)
+
+-- the bytes of a Forward behind its count of headers
+abbrev pub listsBytes : Request → List ℕ
+listsBytes request = headersBytes Direction.ToContainer (request .headers) ++ (attributesBytes (request .attributes) ++ (lastMark ∷ []))
+
+-- a Forward without fault, behind five bytes
+module _ {s : List ℕ} (short : length s ≤ 8192) (request : Request) (own : FieldsFine (requestFields request))
+    (headers-fine : HeadersFine Direction.ToContainer (request .headers)) (attributes-fine : AttributesFine (request .attributes))
+    (port-fits : request .port < 65536) (fit : AttributesFit (request .attributes)) (few : length (request .headers) ≤ 100)
+    (stands : Ahead s 5 (bytesOf (requestFields request) ++ (integerBytes (length (request .headers)) ++ listsBytes request))) where
+  -- where it is read, its numbers are those that were written
+  forward-counts : (f : Forward) → forwardAt s .end ≡ PacketRead.Packet (Packet.Forward f) → length (bytesIn (request .protocol)) ≤ 8192
+      → length (bytesIn (request .uri)) ≤ 8192 → length (bytesIn (request .addr)) ≤ 8192 → length (bytesIn (request .host)) ≤ 8192
+      → length (bytesIn (request .name)) ≤ 8192
+      → (f .method ≡ request .method) × (f .«server_port» ≡ request .port) × (eqb (booleanNumber (f .«is_ssl»)) 1 ≡ request .ssl)
+      × (f .headers ≡ length (request .headers))
+  forward-counts f e h1 h2 h3 h4 h5 =
+      let count : ℕ = length (request .headers) in
+      let read =
+      forward-read (stands .front) (listsBytes request) (numbersOf request) (nullsOf request) (bytesIn (request .protocol)) (bytesIn (request .uri))
+      (bytesIn (request .addr)) (bytesIn (request .host)) (bytesIn (request .name)) count (stands .place) port-fits few h1 h2 h3 h4 h5 (rw own) in
+      let f1 : FieldRead = FieldRead.Field 5 (request .method) 6 in
+      let f2 : FieldRead = reached 0 (length (textBytes (request .protocol))) f1 in
+      let f3 : FieldRead = reached 0 (length (textBytes (request .uri))) f2 in
+      let f4 : FieldRead = reached 0 (length (textBytes (request .addr))) f3 in
+      let f5 : FieldRead = reached 0 (length (textBytes (request .host))) f4 in
+      let f6 : FieldRead = reached 0 (length (textBytes (request .name))) f5 in
+      let f7 : FieldRead = reached (request .port) 2 f6 in
+      let f8 : FieldRead = reached (booleanNumber (request .ssl)) 1 f7 in
+      let f9 : FieldRead = reached count 2 f8 in
+      let l : List ℕ = among (stands .front) (requestFields request) (integerBytes count ++ listsBytes request) in
+      let there : forwardAt l .end ≡ PacketRead.Packet (Packet.Forward f) =
+      subst (λ (l : List ℕ). forwardAt l .end ≡ PacketRead.Packet (Packet.Forward f)) (stands .is) e in
+      let numbers =
+      forward-numbers f1 f2 f3 f4 f5 f6 f7 f8 f9 (listsAt l f9 .end) f (sym (ap (λ (x : Entries PacketRead). x .end) read) ∙ there) in
+      (numbers .0, numbers .1, rw (numbers .2, boolean-back (request .ssl), boolean-back (request .ssl)), numbers .3)
+
+  -- and its fields and the places of its lists show the message
+  pub forward-shows : (f : Forward) (e : forwardAt s .end ≡ PacketRead.Packet (Packet.Forward f)) → let lists = forward-handed s f e .lists in
+      shownBy (told (Packet.Forward f)) s (lists .of-headers) (lists .of-attributes) Kind.Forward ≡ forward request
+  forward-shows f e =
+      let b : List ℕ = listsBytes request in
+      let t8 : List ℕ = integerBytes (length (request .headers)) ++ b in
+      let t7 : List ℕ = booleanBytes (request .ssl) ++ t8 in
+      let t6 : List ℕ = integerBytes (request .port) ++ t7 in
+      let t5 : List ℕ = textBytes (request .name) ++ t6 in
+      let t4 : List ℕ = textBytes (request .host) ++ t5 in
+      let t3 : List ℕ = textBytes (request .addr) ++ t4 in
+      let t2 : List ℕ = textBytes (request .uri) ++ t3 in
+      let t1 : List ℕ = textBytes (request .protocol) ++ t2 in
+      let none = faultless (faultsOf (requestFields request)) own in
+      let handed = forward-handed s f e in
+      let fields : Ahead s 5 (request .method ∷ t1) = simp append-assoc at stands in
+      let r1 : Ahead s (f .protocol .0) t1 = rw (handed .protocol-place) (ahead-next (request .method ∷ []) t1 fields) in
+      let r2 = string-shows short t2 StringField.Protocol (request .protocol) r1 (none .1 .0) (f .«req_uri» .0) (handed .protocol-there) in
+      let r3 = string-shows short t3 StringField.ReqUri (request .uri) (r2 .1) (none .1 .1 .0) (f .«remote_addr» .0) (handed .uri-there) in
+      let r4 = string-shows short t4 StringField.RemoteAddr (request .addr) (r3 .1) (none .1 .1 .1 .0) (f .«remote_host» .0) (handed .addr-there) in
+      let r5 = string-shows short t5 StringField.RemoteHost (request .host) (r4 .1) (none .1 .1 .1 .1 .0) (f .«server_name» .0) (handed .host-there) in
+      let r6 = string-shows short t6 StringField.ServerName (request .name) (r5 .1) (none .1 .1 .1 .1 .1 .0) (handed .port) (handed .name-there) in
+      let numbers =
+      forward-counts f e (string-fits short t2 (request .protocol) r1) (string-fits short t3 (request .uri) (r2 .1))
+      (string-fits short t4 (request .addr) (r3 .1)) (string-fits short t5 (request .host) (r4 .1)) (string-fits short t6 (request .name) (r5 .1)) in
+      let lists = handed .lists in
+      let counted =
+      ahead-next (integerBytes (length (request .headers))) b
+      (ahead-next (booleanBytes (request .ssl)) t8 (ahead-next (integerBytes (request .port)) t7 (r6 .1))) in
+      let place : handed .port + 2 + length (booleanBytes (request .ssl)) + 2 ≡ handed .port + 5 = omega (arith, boolean-one (request .ssl)) in
+      let behind : Ahead s (handed .port + 5) b = subst (λ (at : ℕ). Ahead s at b) place counted in
+      let many : length (lists .of-headers) ≡ length (request .headers) + length (request .headers) = omega (arith, lists .many, numbers .3) in
+      let headers =
+      headers-show short (attributesBytes (request .attributes) ++ (lastMark ∷ [])) Direction.ToContainer (request .headers) headers-fine behind
+      (lists .of-headers) many (lists .middle) (lists .headers-there) in
+      let attributes =
+      attributes-show short (request .attributes) attributes-fine fit (headers .1) (lists .of-attributes) (length s) (lists .attributes-there) in
+      rw (headers .0, attributes, r2 .0, r3 .0, r4 .0, r5 .0, r6 .0, numbers .0, numbers .1, numbers .2)
+
+-- a status without fault fits an integer
+status-fits : (n : ℕ) → rangeFault 100 599 n ≡ 0 → n < 65536
+unfolding rangeFault
+status-fits n h = go (leb 100 n) (leb n 599) refl h
+  where
+    go : (t u : Bool) → leb n 599 ≡ u → unless (both t u) 7 ≡ 0 → n < 65536
+    go t true e h = omega (arith, leb-true n 599 e)
+    go true false e h = absurd (omega arith)
+    go false false e h = absurd (omega arith)
+
+-- the numbers of a Send Headers, by its fixed fields
+head-numbers : (size : ℕ) (status message headers : FieldRead) (r : HeadersRead) (h : SendHeaders)
+    → sendHeadersOf size status message headers r ≡ PacketRead.Packet (Packet.SendHeaders h)
+    → (h .status ≡ valueOf status) × (h .headers ≡ valueOf headers)
+head-numbers size status message headers (HeadersRead.Refused n) h e = absurd (let z : _≡_ {A = ℕ} 0 1 = cc in omega arith)
+head-numbers size status message headers (HeadersRead.Headers declared next) h e = go (eqb next size) e
+  where
+    found : SendHeaders
+    found = record {
+      status = valueOf status;
+      message = placeOf message;
+      headers = valueOf headers;
+    }
+
+    go : (t : Bool) → pick t (PacketRead.Packet (Packet.SendHeaders found)) (PacketRead.Refused 12) ≡ PacketRead.Packet (Packet.SendHeaders h)
+        → (h .status ≡ valueOf status) × (h .headers ≡ valueOf headers)
+    go true e =
+        let status-is : h .status ≡ found .status = cc in
+        let headers-are : h .headers ≡ found .headers = cc in
+        (status-is, headers-are)
+    go false e = absurd (let z : _≡_ {A = ℕ} 0 1 = cc in omega arith)
+
+-- a Send Headers without fault, behind five bytes
+module _ {s : List ℕ} (short : length s ≤ 8192) (response : Response) (own : FieldsFine (responseFields response))
+    (headers-fine : HeadersFine Direction.ToServer (response .headers)) (few : length (response .headers) ≤ 100)
+    (stands : Ahead s 5
+    (bytesOf (responseFields response)
+    ++ (integerBytes (length (response .headers)) ++ (headersBytes Direction.ToServer (response .headers) ++ [])))) where
+  -- where it is read, its numbers are those that were written
+  head-counts : (h : SendHeaders) → sendHeadersAt s .end ≡ PacketRead.Packet (Packet.SendHeaders h) → length (bytesIn (response .message)) ≤ 8192
+      → (h .status ≡ response .status) × (h .headers ≡ length (response .headers))
+  head-counts h e size =
+      let count : ℕ = length (response .headers) in
+      let b : List ℕ = headersBytes Direction.ToServer (response .headers) ++ [] in
+      let none = faultless (faultsOf (responseFields response)) own in
+      let read =
+      send-headers-read (stands .front) b (response .status) (isNull (response .message)) (bytesIn (response .message)) count (stands .place)
+      (status-fits (response .status) (none .0)) size few (rw own) in
+      let f1 : FieldRead = FieldRead.Field 5 (response .status) 7 in
+      let f2 : FieldRead = reached 0 (length (textBytes (response .message))) f1 in
+      let f3 : FieldRead = reached count 2 f2 in
+      let l : List ℕ = among (stands .front) (responseFields response) (integerBytes count ++ b) in
+      let there : sendHeadersAt l .end ≡ PacketRead.Packet (Packet.SendHeaders h) =
+      subst (λ (l : List ℕ). sendHeadersAt l .end ≡ PacketRead.Packet (Packet.SendHeaders h)) (stands .is) e in
+      head-numbers (length l) f1 f2 f3 (headersAfter Direction.ToServer l f3 .end) h (sym (ap (λ (x : Entries PacketRead). x .end) read) ∙ there)
+
+  -- and its fields and the places of its headers show the message
+  pub head-shows : (h : SendHeaders) → sendHeadersAt s .end ≡ PacketRead.Packet (Packet.SendHeaders h)
+      → shownBy (told (Packet.SendHeaders h)) s (sendHeadersAt s .places) [] Kind.SendHeaders ≡ sendHeaders response
+  head-shows h e =
+      let t3 : List ℕ = headersBytes Direction.ToServer (response .headers) ++ [] in
+      let t2 : List ℕ = integerBytes (length (response .headers)) ++ t3 in
+      let t1 : List ℕ = textBytes (response .message) ++ t2 in
+      let none = faultless (faultsOf (responseFields response)) own in
+      let handed = head-handed s h e in
+      let fields : Ahead s 5 (integerBytes (response .status) ++ t1) = simp append-assoc at stands in
+      let r1 : Ahead s (h .message .0) t1 = rw (handed .message-place) (ahead-next (integerBytes (response .status)) t1 fields) in
+      let r2 = string-shows short t2 StringField.Message (response .message) r1 (none .1 .0) (handed .count) (handed .message-there) in
+      let numbers = head-counts h e (string-fits short t2 (response .message) r1) in
+      let behind = ahead-next (integerBytes (length (response .headers))) t3 (r2 .1) in
+      let many : length (sendHeadersAt s .places) ≡ length (response .headers) + length (response .headers) =
+      omega (arith, send-headers-places s h e .many, numbers .1) in
+      let headers =
+      headers-show short [] Direction.ToServer (response .headers) headers-fine behind (sendHeadersAt s .places) many (length s)
+      (handed .headers-there) in
+      rw (headers .0, r2 .0, numbers .0)
+
+-- a packet whose kind is built in pieces is a Forward or a Send Headers
+abbrev InPieces : Kind → Packet → Type 0
+InPieces Kind.CPing packet = Unit
+InPieces Kind.CPong packet = Unit
+InPieces Kind.Forward packet = (f : Forward) × (packet ≡ Packet.Forward f)
+InPieces Kind.Body packet = Unit
+InPieces Kind.GetBody packet = Unit
+InPieces Kind.SendHeaders packet = (h : SendHeaders) × (packet ≡ Packet.SendHeaders h)
+InPieces Kind.BodyChunk packet = Unit
+InPieces Kind.End packet = Unit
+
+-- each packet is what its kind says
+in-pieces : (packet : Packet) → InPieces (told packet .kind) packet
+in-pieces Packet.CPing = tt
+in-pieces Packet.CPong = tt
+in-pieces (Packet.Forward f) = (f, refl)
+in-pieces (Packet.Body p) = tt
+in-pieces (Packet.GetBody asked) = tt
+in-pieces (Packet.SendHeaders h) = (h, refl)
+in-pieces (Packet.BodyChunk p) = tt
+in-pieces (Packet.End reuse) = tt
+
+-- so is a packet that is accepted
+accepted-kind : (direction : Direction) (c : Connection) (s : List ℕ) (room : ℕ) (t : Told) (taken : ℕ) (next : Connection)
+    (e : reading direction c s room ≡ accepted t taken next) (kind : Kind) → t .kind ≡ kind
+    → InPieces kind (accepted-is direction c s room t taken next e .packet)
+accepted-kind direction c s room t taken next e kind k =
+    let a = accepted-is direction c s room t taken next e in
+    subst (λ (k : Kind). InPieces k (a .packet)) (ap (λ (u : Told). u .kind) (sym (a .tells)) ∙ k) (in-pieces (a .packet))
+
+-- the bytes of a Forward behind the first five
+pub forward-stands : (request : Request)
+    → Ahead (messageBytes (forward request)) 5
+    (bytesOf (requestFields request) ++ (integerBytes (length (request .headers)) ++ listsBytes request))
+unfolding messageBytes
+forward-stands request = record { front = opening Kind.Forward (length (payloadOf (forward request))); is = refl; place = refl }
+
+-- and those of a Send Headers
+pub head-stands : (response : Response)
+    → Ahead (messageBytes (sendHeaders response)) 5
+    (bytesOf (responseFields response)
+    ++ (integerBytes (length (response .headers)) ++ (headersBytes Direction.ToServer (response .headers) ++ [])))
+unfolding messageBytes
+head-stands response = record { front = opening Kind.SendHeaders (length (payloadOf (sendHeaders response))); is = refl; place = refl }
+
+-- a Forward without fault that was written and is accepted shows the message that was written
+pub forward-shown : (c : Connection) (table : List ℕ) (request : Request) (rest : List ℕ) (t : Told) (n : ℕ) (next : Connection)
+    → FieldsFine (requestFields request) → HeadersFine Direction.ToContainer (request .headers) → AttributesFine (request .attributes)
+    → request .port < 65536 → AttributesFit (request .attributes) → length (request .headers) ≤ 100 → length (messageBytes (forward request)) ≤ 8192
+    → reading Direction.ToContainer c (messageBytes (forward request) ++ rest) (length table) ≡ accepted t n next
+    → n ≡ length (messageBytes (forward request)) → t .kind ≡ Kind.Forward
+    → messageShown t (part (messageBytes (forward request) ++ rest) 0 n)
+    (tableAfter Direction.ToContainer c (messageBytes (forward request) ++ rest) table)
+    ≡ forward request
+forward-shown c table request rest t n next own headers-fine attributes-fine port fit few short e size kind =
+    let whole : List ℕ = messageBytes (forward request) in
+    let found = accepted-kind Direction.ToContainer c (whole ++ rest) (length table) t n next e Kind.Forward kind in
+    let f : Forward = found .0 in
+    let read = packet-read Direction.ToContainer c whole rest table t n next e size (Packet.Forward f) (found .1) in
+    let lists = forward-handed whole f read .lists in
+    let joined = length-append (lists .of-headers) (lists .of-attributes) in
+    packet-shown Direction.ToContainer c whole rest table t n next e size (Packet.Forward f) (found .1) (lists .of-headers) (lists .of-attributes)
+    (lists .are) (omega (arith, lists .many)) (omega (arith, forward-places whole f read .many, ap length (lists .are), lists .many))
+    ∙ forward-shows short request own headers-fine attributes-fine port fit few (forward-stands request) f read
+
+-- and so does a Send Headers
+pub send-headers-shown : (c : Connection) (table : List ℕ) (response : Response) (rest : List ℕ) (t : Told) (n : ℕ) (next : Connection)
+    → FieldsFine (responseFields response) → HeadersFine Direction.ToServer (response .headers) → length (response .headers) ≤ 100
+    → length (messageBytes (sendHeaders response)) ≤ 8192
+    → reading Direction.ToServer c (messageBytes (sendHeaders response) ++ rest) (length table) ≡ accepted t n next
+    → n ≡ length (messageBytes (sendHeaders response)) → t .kind ≡ Kind.SendHeaders
+    → messageShown t (part (messageBytes (sendHeaders response) ++ rest) 0 n)
+    (tableAfter Direction.ToServer c (messageBytes (sendHeaders response) ++ rest) table)
+    ≡ sendHeaders response
+send-headers-shown c table response rest t n next own headers-fine few short e size kind =
+    let whole : List ℕ = messageBytes (sendHeaders response) in
+    let found = accepted-kind Direction.ToServer c (whole ++ rest) (length table) t n next e Kind.SendHeaders kind in
+    let h : SendHeaders = found .0 in
+    let read = packet-read Direction.ToServer c whole rest table t n next e size (Packet.SendHeaders h) (found .1) in
+    let places : List ℕ = sendHeadersAt whole .places in
+    packet-shown Direction.ToServer c whole rest table t n next e size (Packet.SendHeaders h) (found .1) places [] (sym (append-nil places))
+    (omega (arith, send-headers-places whole h read .many)) refl
+    ∙ head-shows short response own headers-fine few (head-stands response) h read

@@ -1,0 +1,142 @@
+-- What each send owes: where it is done, the packet that it wrote makes a move that the connection allowed, the connection is the one after
+-- that move, and whoever allows the move at the other end reads the packet. A packet of one call parses as what was written; a packet that was
+-- closed has been judged by the sender's own connection.
+-- Assumes nothing.
+use mathlib.Core.Path.{_≡_, refl, sym, ap, subst, _∙_}
+use mathlib.Core.Bool.{Bool, true, false}
+use mathlib.Core.List.{List, [], _∷_}
+use Prim.Native.Nat.{ℕ}
+use native.Mathlib.Omega.{arith}
+use borrow.Author.Tests.{ne-eqb}
+use lib.Dec.{eqb}
+use lib.ListN.{length, drop, length-append}
+use lib.Seq.{take-length}
+use Rattle.wire.specs.Pick.{pick}
+use Rattle.wire.specs.Bytes.{part}
+use Rattle.wire.specs.declared.Direction.{Direction}
+use Rattle.places.specs.Entries.{maxPlaces}
+use Rattle.connection.specs.Cycle.{directionOf, inState, allowed, after}
+use Rattle.connection.specs.declared.Connection.{Connection}
+use Rattle.connection.specs.declared.Move.{Move}
+use Rattle.connection.proofs.Commute.{body-within}
+use Rattle.fields.specs.Call.{done}
+use Rattle.payload.specs.Body.{bodyStart}
+use Rattle.payload.specs.Kinds.{kindIn, moveIn}
+use Rattle.payload.specs.declared.packet.Packet as payload
+use Rattle.payload.proofs.Parsed.{move-kind}
+use Rattle.pieces.specs.declared.BuildingKind.{BuildingKind}
+use Rattle.pieces.specs.declared.Building.{Building}
+use Rattle.pieces.specs.Record as pieces
+use Rattle.writer.specs.Meaning.{Written}
+use Rattle.writer.specs.Sending.{packetOf, barePayload, bodyPayload, chunkPayload, getPayload, endPayload, bareCall, bodyCall, chunkCall, getCall, endCall}
+use Rattle.closing.specs.Closing.{closedPacket, closeOutcome, closeBuffer}
+use Rattle.closing.proofs.Laws.{CloseDone, close-done}
+use Rattle.reader.specs.Meaning.{Told, accepted}
+use Rattle.reader.specs.Reading.{readAsBody, reading}
+use Rattle.messages.specs.Bytes.{messageBytes}
+use Rattle.messages.proofs.Frames.{isBody, Parses, as-body, AcceptedAs, accepted-parses}
+use Rattle.messages.proofs.OneCall as one
+use Rattle.messages.proofs.OneCall.{OneWritten, done-written, cping-parses, cpong-parses, body-parses, chunk-parses, get-parses, end-parses}
+use Rattle.pipes.specs.Ends.{recordOf, Send, cping, body, closeForward, cpong, bodyChunk, getBody, end, closeSendHeaders, wayOf, outcomeOf, bufferOf, isBodyCall, bodyGiven}
+use Rattle.pipes.specs.Past.{heldIn}
+use Rattle.pipes.proofs.Facts.{packetBy, Made}
+use Rattle.pipes.proofs.Packets.{readable}
+
+-- a packet that parses, sent by a call
+made : (c : Connection) (call : Send) (bytes : List ℕ) (next : Connection) (p : payload.Packet) → Parses (wayOf call) bytes p
+    → isBody (kindIn p) ≡ isBodyCall call → heldIn (packetBy call bytes) ≡ bodyGiven call → allowed c (moveIn p) ≡ true
+    → next ≡ after c (moveIn p) → Made c call bytes next
+made c call bytes next p parses same holds allows steps = record {
+  move = moveIn p;
+  allows = allows;
+  steps = steps;
+  readable = readable parses (isBodyCall call) same;
+  holds = holds;
+}
+
+-- a packet that one call wrote
+one-made : {c : Connection} {m : Move} {own buffer left : List ℕ} {w : Written} (call : Send) (p : payload.Packet)
+    → OneWritten c m own buffer w left → moveIn p ≡ m → Parses (wayOf call) (packetOf m own) p → isBody (kindIn p) ≡ isBodyCall call
+    → heldIn (packetBy call (packetOf m own)) ≡ bodyGiven call → Made c call (part left 0 (w .length)) (w .connection)
+one-made {c} {w = w} call p wrote e parses same holds =
+    subst (λ (bytes : List ℕ). Made c call bytes (w .connection)) (sym (wrote .stands))
+    (made c call _ (w .connection) p parses same holds (ap (allowed c) e ∙ wrote .allows) (wrote .steps ∙ ap (after c) (sym e)))
+
+-- a list with a byte in it is not empty
+some-bytes : (byte : ℕ) (later : List ℕ) → eqb (length (byte ∷ later)) 0 ≡ false
+some-bytes byte later = ne-eqb (length (byte ∷ later)) 0 (λ e. omega arith)
+
+-- behind its size a body packet that was written holds the bytes that were given
+body-held : (bytes : List ℕ) → drop bodyStart (packetOf (Move.Body (length bytes)) (bodyPayload bytes)) ≡ bytes
+body-held [] = refl
+body-held (byte ∷ later) = rw (some-bytes byte later)
+
+-- and it makes the move of so many bytes
+body-move : (bytes : List ℕ) → moveIn (payload.Packet.Body (one.bodyPart bytes)) ≡ Move.Body (length bytes)
+body-move [] = refl
+body-move (byte ∷ later) = rw (some-bytes byte later)
+
+-- a state that allows a packet in pieces has no body packet due at the end to which it goes
+none-due : (c : Connection) (kind : BuildingKind) → inState c (pieces.kindIn kind) ≡ true
+    → readAsBody (directionOf (pieces.kindIn kind)) c ≡ false
+none-due c BuildingKind.Forward e = as-body c (Move.Forward (record { 0 = 0 })) (rw e)
+none-due c BuildingKind.SendHeaders e = refl
+
+-- a packet whose move is allowed is read as a body packet exactly if it is one
+read-as : (c : Connection) (d : Direction) (p : payload.Packet) → directionOf (kindIn p) ≡ d → allowed c (moveIn p) ≡ true
+    → isBody (kindIn p) ≡ readAsBody d c
+read-as c d p way a = rw (← way, ← move-kind p) (sym (as-body c (moveIn p) a))
+
+-- a packet that the sender's own connection accepts at the end to which it goes
+judged-made : (c : Connection) (call : Send) (bytes : List ℕ) (t : Told) (next : Connection)
+    → reading (wayOf call) c bytes maxPlaces ≡ accepted t (length bytes) next → readAsBody (wayOf call) c ≡ isBodyCall call
+    → heldIn (packetBy call bytes) ≡ bodyGiven call → Made c call bytes next
+unfolding part
+judged-made c call bytes t next e same holds =
+    let found : AcceptedAs (wayOf call) c bytes t (length bytes) next = accepted-parses (wayOf call) c bytes maxPlaces t (length bytes) next e in
+    let p : payload.Packet = found .packet in
+    let whole : part bytes 0 (length bytes) ≡ bytes = take-length bytes in
+    let parses : Parses (wayOf call) bytes p = subst (λ (l : List ℕ). Parses (wayOf call) l p) whole (found .parses) in
+    made c call bytes next p parses (read-as c (wayOf call) p (parses .way) (found .allows) ∙ same) holds (found .allows) (found .steps)
+
+-- a packet that was closed
+close-made : (c : Connection) (call : Send) (r : Building) (buffer : List ℕ) (w : Written) → closeOutcome c r buffer ≡ done w
+    → wayOf call ≡ pieces.directionIn r → isBodyCall call ≡ false → bodyGiven call ≡ []
+    → Made c call (part (closeBuffer c r buffer) 0 (w .length)) (w .connection)
+close-made c call r buffer w e way other none =
+    let d : CloseDone c r buffer w = close-done c r buffer w e in
+    let bytes : List ℕ = closedPacket r buffer in
+    let reads : reading (wayOf call) c bytes maxPlaces ≡ accepted (d .told) (length bytes) (w .connection) =
+    ap (λ (x : Direction). reading x c bytes maxPlaces) way ∙ d .reads maxPlaces (omega arith)
+    ∙ ap (λ (n : ℕ). accepted (d .told) n (w .connection)) (sym (d .packet-size)) in
+    let same : readAsBody (wayOf call) c ≡ isBodyCall call =
+    ap (λ (x : Direction). readAsBody x c) way ∙ none-due c (r .kind) (d .ready .allowed) ∙ sym other in
+    let holds : heldIn (packetBy call bytes) ≡ bodyGiven call = ap (λ (t : Bool). pick t (drop bodyStart bytes) []) other ∙ sym none in
+    subst (λ (l : List ℕ). Made c call l (w .connection)) (sym (d .packet-is)) (judged-made c call bytes (d .told) (w .connection) reads same holds)
+
+-- what every send owes
+pub send-made : (c : Connection) (call : Send) (w : Written) → outcomeOf c call ≡ done w
+    → Made c call (part (bufferOf c call) 0 (w .length)) (w .connection)
+unfolding bareCall bodyCall chunkCall getCall endCall messageBytes
+send-made c (cping buffer) w e =
+    one-made (cping buffer) payload.Packet.CPing (done-written c Move.CPing (barePayload Move.CPing) buffer w e) refl cping-parses refl refl
+send-made c (body buffer bytes) w e =
+    let wrote = done-written c (Move.Body (length bytes)) (bodyPayload bytes) buffer w e in
+    one-made (body buffer bytes) (payload.Packet.Body (one.bodyPart bytes)) wrote (body-move bytes)
+    (body-parses bytes (body-within c (length bytes) (wrote .allows) .of-packet)) refl (body-held bytes)
+send-made c (closeForward r buffer) w e =
+    close-made c (closeForward r buffer) (recordOf BuildingKind.Forward r) buffer w e refl refl refl
+send-made c (cpong buffer) w e =
+    one-made (cpong buffer) payload.Packet.CPong (done-written c Move.CPong (barePayload Move.CPong) buffer w e) refl cpong-parses refl refl
+send-made c (bodyChunk buffer bytes) w e =
+    let wrote = done-written c (Move.BodyChunk (length bytes)) (chunkPayload bytes) buffer w e in
+    one-made (bodyChunk buffer bytes) (payload.Packet.BodyChunk (one.chunkPart bytes)) wrote refl
+    (chunk-parses bytes (omega (arith, wrote .most, length-append bytes (0 ∷ [])))) refl refl
+send-made c (getBody buffer asked small) w e =
+    one-made (getBody buffer asked small) (payload.Packet.GetBody asked) (done-written c (Move.GetBody asked) (getPayload asked) buffer w e)
+    refl (get-parses asked small) refl refl
+send-made c (end buffer reuse) w e =
+    one-made (end buffer reuse) (payload.Packet.End reuse) (done-written c (Move.End reuse) (endPayload reuse) buffer w e)
+    refl (end-parses reuse) refl refl
+send-made c (closeSendHeaders r buffer) w e =
+    close-made c (closeSendHeaders r buffer) (recordOf BuildingKind.SendHeaders r) buffer w e refl refl refl
