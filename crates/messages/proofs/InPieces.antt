@@ -5,7 +5,7 @@
 use mathlib.Core.Path.{_≡_, refl, sym, ap, subst, _∙_}
 use mathlib.Core.Bool.{Bool, true, false, false≢true}
 use mathlib.Core.List.{List, [], _∷_, _++_, append-nil}
-use Prim.Native.Nat.{ℕ, _+_, _*_, _≤_, _<_}
+use Prim.Native.Nat.{ℕ, zero, suc, _+_, _*_, _≤_}
 use native.Mathlib.Omega.{arith}
 use borrow.Author.Tests.{le-leb}
 use lib.Dec.{leb}
@@ -39,10 +39,10 @@ use Rattle.writer.specs.Meaning.{Written}
 use Rattle.reader.specs.Meaning.{Told, Meaning, needs, refused, accepted, told, placesNeeded}
 use Rattle.reader.specs.Reading.{parse, readAsBody, judging, withRoom, reading}
 use Rattle.reader.proofs.Handed.{forward-handed}
-use Rattle.messages.specs.Message.{Request, Response, Message, forward, sendHeaders, Fit}
+use Rattle.messages.specs.Message.{Request, Response, Message, forward, sendHeaders, placesFor, Fit}
 use Rattle.messages.specs.Bytes.{requestFields, responseFields, payloadOf, messageBytes}
 use Rattle.messages.specs.Writing.{wrote, writing}
-use Rattle.messages.specs.Shown.{headerPlaces, attributePlaces, shownBy, messageShown}
+use Rattle.messages.specs.Shown.{headersShown, attributesShown, headerPlaces, attributePlaces, shownBy, messageShown}
 use Rattle.messages.proofs.Frames.{isBody, Parses, whole-framed, head-kept, kind-written, code-kept, parses-accepted, accepted-parses}
 use Rattle.messages.proofs.Tables.{over-first, over-second}
 use Rattle.messages.proofs.RoundTrip.{Forth, WrittenBack, tableOf, Back, Stands, stands-back, written-same}
@@ -199,6 +199,42 @@ head-table s table h e =
     header-places (Packet.SendHeaders h) s table (sendHeadersAt s .places) [] (sym (append-nil (sendHeadersAt s .places)))
     (omega (arith, send-headers-places s h e .many)) refl
 
+-- so many places, two for each, show so many headers
+headers-many : (s places : List ℕ) (count : ℕ) → length places ≡ 2 * count → length (headersShown s places) ≡ count
+headers-many s [] count e = omega arith
+headers-many s (name ∷ []) count e = absurd (omega arith)
+headers-many s (name ∷ value ∷ later) zero e = absurd (omega arith)
+headers-many s (name ∷ value ∷ later) (suc count) e = ap suc (headers-many s later count (omega arith))
+
+-- and so many attributes
+attributes-many : (s places : List ℕ) (count : ℕ) → length places ≡ 2 * count → length (attributesShown s places) ≡ count
+attributes-many s [] count e = omega arith
+attributes-many s (at ∷ []) count e = absurd (omega arith)
+attributes-many s (at ∷ value ∷ later) zero e = absurd (omega arith)
+attributes-many s (at ∷ value ∷ later) (suc count) e = ap suc (attributes-many s later count (omega arith))
+
+-- so the places that a packet in pieces asks for are those of the message that it shows
+forward-asks : (s : List ℕ) (f : Forward) (e : forwardAt s .end ≡ PacketRead.Packet (Packet.Forward f)) (request : Request) → (let lists = forward-handed s f e .lists in
+    shownBy (told (Packet.Forward f)) s (lists .of-headers) (lists .of-attributes) Kind.Forward ≡ forward request
+    → placesNeeded (told (Packet.Forward f)) ≡ placesFor (forward request))
+forward-asks s f e request shows =
+    let lists = forward-handed s f e .lists in
+    let joined = length-append (lists .of-headers) (lists .of-attributes) in
+    let headers : headersShown s (lists .of-headers) ≡ request .headers = cc in
+    let attributes : attributesShown s (lists .of-attributes) ≡ request .attributes = cc in
+    let many = headers-many s (lists .of-headers) (f .headers) (omega (arith, lists .many)) in
+    let more =
+    attributes-many s (lists .of-attributes) (f .attributes) (omega (arith, forward-places s f e .many, ap length (lists .are), lists .many)) in
+    omega (arith, many, more, ap length headers, ap length attributes)
+
+head-asks : (s : List ℕ) (h : SendHeaders) → sendHeadersAt s .end ≡ PacketRead.Packet (Packet.SendHeaders h) → (response : Response)
+    → shownBy (told (Packet.SendHeaders h)) s (sendHeadersAt s .places) [] Kind.SendHeaders ≡ sendHeaders response
+    → placesNeeded (told (Packet.SendHeaders h)) ≡ placesFor (sendHeaders response)
+head-asks s h e response shows =
+    let headers : headersShown s (sendHeadersAt s .places) ≡ response .headers = cc in
+    let many = headers-many s (sendHeadersAt s .places) (h .headers) (omega (arith, send-headers-places s h e .many)) in
+    omega (arith, many, ap length headers)
+
 -- a Forward that was written stands there
 forward-written-stands : (request : Request) (c : Connection) (buffer : List ℕ) (w : Written) (left : List ℕ) → Fit (forward request)
     → PiecesWritten c BuildingKind.Forward (requestFields request) (request .headers) (request .attributes) (messageBytes (forward request)) buffer w left
@@ -214,18 +250,20 @@ forward-written-stands request c buffer w left fit k =
     let f : Forward = is .0 in
     let r : Parses Direction.ToContainer whole (Packet.Forward f) = subst (λ (p : Packet). Parses Direction.ToContainer whole p) (is .1) (good .parses) in
     let there : part left 0 (w .length) ≡ whole = stands-there whole buffer left (w .length) (k .size) (k .is) (k .fits) in
+    let shown =
+    forward-shows (k .within) request (k .own-fine) (k .headers-fine) (k .attributes-fine) (fit .1) (fit .3) (k .few) (forward-stands request) f
+    (r .fields-are) in
     record {
       packet = Packet.Forward f;
       size = ap length there ∙ sym (k .size);
       parses = subst (λ (s : List ℕ). Parses Direction.ToContainer s (Packet.Forward f)) (sym there) r;
       allows = subst (λ (p : Packet). allowed c (moveIn p) ≡ true) (is .1) (good .allows);
       steps = subst (λ (p : Packet). after c (moveIn p) ≡ w .connection) (is .1) (good .steps);
+      asks = forward-asks whole f (r .fields-are) request shown;
       shows = λ table.
           subst (λ (s : List ℕ). messageShown (told (Packet.Forward f)) s (tableOf (Packet.Forward f) s table) ≡ m) (sym there)
           (let places = forward-table whole table f (r .fields-are) in
-          rw (places .0, places .1)
-          (forward-shows (k .within) request (k .own-fine) (k .headers-fine) (k .attributes-fine) (fit .1) (fit .3) (k .few) (forward-stands request) f
-          (r .fields-are)));
+          rw (places .0, places .1) shown);
     }
 
 -- and so does a Send Headers
@@ -243,16 +281,17 @@ head-written-stands response c buffer w left k =
     let h : SendHeaders = is .0 in
     let r : Parses Direction.ToServer whole (Packet.SendHeaders h) = subst (λ (p : Packet). Parses Direction.ToServer whole p) (is .1) (good .parses) in
     let there : part left 0 (w .length) ≡ whole = stands-there whole buffer left (w .length) (k .size) (k .is) (k .fits) in
+    let shown = head-shows (k .within) response (k .own-fine) (k .headers-fine) (k .few) (head-stands response) h (r .fields-are) in
     record {
       packet = Packet.SendHeaders h;
       size = ap length there ∙ sym (k .size);
       parses = subst (λ (s : List ℕ). Parses Direction.ToServer s (Packet.SendHeaders h)) (sym there) r;
       allows = subst (λ (p : Packet). allowed c (moveIn p) ≡ true) (is .1) (good .allows);
       steps = subst (λ (p : Packet). after c (moveIn p) ≡ w .connection) (is .1) (good .steps);
+      asks = head-asks whole h (r .fields-are) response shown;
       shows = λ table.
           subst (λ (s : List ℕ). messageShown (told (Packet.SendHeaders h)) s (tableOf (Packet.SendHeaders h) s table) ≡ m) (sym there)
-          (rw (head-table whole table h (r .fields-are))
-          (head-shows (k .within) response (k .own-fine) (k .headers-fine) (k .few) (head-stands response) h (r .fields-are)));
+          (rw (head-table whole table h (r .fields-are)) shown);
     }
 
 -- forth: a Forward and a Send Headers that were written read back

@@ -46,9 +46,9 @@ use Rattle.fields.proofs.Calls.{done-own, done-fits, after-written, fits-done}
 use Rattle.writer.specs.Meaning.{Written}
 use Rattle.writer.specs.Sending.{packetOf, sendingFaults, sending, bodyPayload, chunkPayload, bareCall, bodyCall, chunkCall, getCall, endCall}
 use Rattle.reader.specs.declared.frame.FrameRead.{FrameRead}
-use Rattle.reader.specs.Meaning.{told}
+use Rattle.reader.specs.Meaning.{told, placesNeeded}
 use Rattle.reader.proofs.Framing.{frame-inside}
-use Rattle.messages.specs.Message.{Message, cping, cpong, forward, body, getBody, sendHeaders, bodyChunk, end, wayOf, Fit}
+use Rattle.messages.specs.Message.{Message, cping, cpong, forward, body, getBody, sendHeaders, bodyChunk, end, wayOf, placesFor, Fit}
 use Rattle.messages.specs.Bytes.{payloadOf, messageBytes}
 use Rattle.messages.specs.Writing.{wrote, wroteBy, oneCall, writing}
 use Rattle.messages.specs.Shown.{messageShown}
@@ -311,24 +311,27 @@ pub record OnePacket (m : Message) : Type 0 where
   pub packet : Packet
   pub calls : Calls m packet
   pub parses : length (messageBytes m) ≤ 8192 → Parses (wayOf m) (messageBytes m) packet
+  pub asks : placesNeeded (told packet) ≡ placesFor m
   pub shows : (table : List ℕ) → messageShown (told packet) (messageBytes m) table ≡ m
 
 -- each such message has such a packet
 pub one-packet : (m : Message) → IsOne m → Fit m → OnePacket m
 unfolding messageShown
-one-packet cping one fit = record { packet = Packet.CPing; calls = cping-calls; parses = λ h. cping-parses; shows = λ table. refl }
-one-packet cpong one fit = record { packet = Packet.CPong; calls = cpong-calls; parses = λ h. cpong-parses; shows = λ table. refl }
+one-packet cping one fit = record { packet = Packet.CPing; calls = cping-calls; parses = λ h. cping-parses; asks = refl; shows = λ table. refl }
+one-packet cpong one fit = record { packet = Packet.CPong; calls = cpong-calls; parses = λ h. cpong-parses; asks = refl; shows = λ table. refl }
 one-packet (forward request) one fit = absurd one
 one-packet (body bytes) one fit = record {
   packet = Packet.Body (bodyPart bytes);
   calls = body-calls bytes (bodyPart bytes) (sym (body-long bytes));
   parses = λ h. body-parses bytes (body-most bytes h);
+  asks = refl;
   shows = λ table. ap body (body-stands bytes);
 }
 one-packet (getBody asked) one fit = record {
   packet = Packet.GetBody asked;
   calls = get-calls asked;
   parses = λ h. get-parses asked fit;
+  asks = refl;
   shows = λ table. refl;
 }
 one-packet (sendHeaders response) one fit = absurd one
@@ -336,12 +339,14 @@ one-packet (bodyChunk bytes) one fit = record {
   packet = Packet.BodyChunk (chunkPart bytes);
   calls = chunk-calls bytes (chunkPart bytes) refl;
   parses = λ h. chunk-parses bytes (chunk-most bytes h);
+  asks = refl;
   shows = λ table. ap bodyChunk (chunk-stands bytes);
 }
 one-packet (end reuse) one fit = record {
   packet = Packet.End reuse;
   calls = end-calls reuse;
   parses = λ h. end-parses reuse;
+  asks = refl;
   shows = λ table. ap end (boolean-back reuse);
 }
 
@@ -356,6 +361,7 @@ one-stands {m} k {c} {buffer} {left} {w} o =
       parses = rw (← own) (k .parses (rw (k .calls .bytes-are) at (o .most)));
       allows = o .allows;
       steps = sym (o .steps);
+      asks = k .asks;
       shows = λ table. rw (← own) (k .shows (tableOf (k .packet) (messageBytes m) table));
     }
 

@@ -23,10 +23,10 @@ use Rattle.writer.specs.Meaning.{Written}
 use Rattle.reader.specs.Meaning.{Told, accepted, told, placesNeeded}
 use Rattle.reader.specs.Reading.{reading, tableAfter}
 use Rattle.reader.proofs.Acceptance.{accepted-is, accepted-fills}
-use Rattle.messages.specs.Message.{Message, kindOf, wayOf, Fit}
+use Rattle.messages.specs.Message.{Message, kindOf, wayOf, placesFor, Fit}
 use Rattle.messages.specs.Writing.{wrote, writing}
 use Rattle.messages.specs.Shown.{messageShown}
-use Rattle.messages.proofs.Frames.{Parses, parses-accepted, parses-places, accepted-parses}
+use Rattle.messages.proofs.Frames.{Parses, parses-accepted, accepted-parses}
 
 -- reading these bytes gives this message, takes so many bytes and steps to this connection
 pub record ReadBack (d : Direction) (c : Connection) (s table : List ℕ) (m : Message) (n : ℕ) (next : Connection) : Type 0 where
@@ -37,7 +37,7 @@ pub record ReadBack (d : Direction) (c : Connection) (s table : List ℕ) (m : M
 -- what is written for a message, with whatever behind it, is read as that message by the connection with which it was written
 abbrev pub Forth : Message → Type 0
 Forth m = (c : Connection) (buffer : List ℕ) (w : Written) (left : List ℕ) → Fit m → writing c m buffer ≡ wrote w left
-    → (rest table : List ℕ) → 328 ≤ length table
+    → (rest table : List ℕ) → placesFor m ≤ length table
     → ReadBack (wayOf m) c (part left 0 (w .length) ++ rest) table m (w .length) (w .connection)
 
 -- a message is written as these bytes, goes this way and steps to this connection
@@ -79,12 +79,12 @@ table-filled d c s table p n next e =
 
 -- a packet that parses is read back, whatever stands behind it, as the message that it shows
 pub read-back : {d : Direction} {s : List ℕ} {p : Packet} → Parses d s p → (c : Connection) → allowed c (moveIn p) ≡ true
-    → (rest table : List ℕ) → 328 ≤ length table → (m : Message) → messageShown (told p) s (tableOf p s table) ≡ m
+    → (rest table : List ℕ) → placesNeeded (told p) ≤ length table → (m : Message) → messageShown (told p) s (tableOf p s table) ≡ m
     → ReadBack d c (s ++ rest) table m (length s) (after c (moveIn p))
 unfolding part
 read-back {d} {s} {p} r c a rest table h m shows =
     let alone : part (s ++ rest) 0 (length s) ≡ s = take-append-seam s rest in
-    let answer = parses-accepted r c a rest (length table) (omega (arith, parses-places r)) in
+    let answer = parses-accepted r c a rest (length table) h in
     let places = table-filled d c (s ++ rest) table p (length s) (after c (moveIn p)) answer in
     record {
       told = told p;
@@ -116,13 +116,15 @@ pub record Stands (m : Message) (c : Connection) (w : Written) (left : List ℕ)
   pub parses : Parses (wayOf m) (part left 0 (w .length)) packet
   pub allows : allowed c (moveIn packet) ≡ true
   pub steps : after c (moveIn packet) ≡ w .connection
+  pub asks : placesNeeded (told packet) ≡ placesFor m
   pub shows : (table : List ℕ) → messageShown (told packet) (part left 0 (w .length)) (tableOf packet (part left 0 (w .length)) table) ≡ m
 
 -- such a packet reads back, whatever stands behind it
-pub stands-back : {m : Message} {c : Connection} {w : Written} {left : List ℕ} → Stands m c w left → (rest table : List ℕ) → 328 ≤ length table
+pub stands-back : {m : Message} {c : Connection} {w : Written} {left : List ℕ} → Stands m c w left → (rest table : List ℕ)
+    → placesFor m ≤ length table
     → ReadBack (wayOf m) c (part left 0 (w .length) ++ rest) table m (w .length) (w .connection)
 stands-back {m} {c} {w} {left} k rest table h =
-    read-same (read-back (k .parses) c (k .allows) rest table h m (k .shows table)) refl (k .size) (k .steps)
+    read-same (read-back (k .parses) c (k .allows) rest table (omega (arith, k .asks)) m (k .shows table)) refl (k .size) (k .steps)
 
 -- every part of a list of bytes is one
 pub bytes-part : (s : List ℕ) (start len : ℕ) → Bytes s → Bytes (part s start len)

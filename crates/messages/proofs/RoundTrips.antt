@@ -15,7 +15,7 @@ use Rattle.payload.specs.declared.packet.Packet.{Packet}
 use Rattle.writer.specs.Meaning.{Written}
 use Rattle.reader.specs.Meaning.{Told, accepted}
 use Rattle.reader.specs.Reading.{reading, tableAfter}
-use Rattle.messages.specs.Message.{Message, cping, cpong, forward, body, getBody, sendHeaders, bodyChunk, end, wayOf, Fit}
+use Rattle.messages.specs.Message.{Message, cping, cpong, forward, body, getBody, sendHeaders, bodyChunk, end, wayOf, placesFor, Fit}
 use Rattle.messages.specs.Bytes.{payloadOf, messageBytes}
 use Rattle.messages.specs.Writing.{wrote, writing}
 use Rattle.messages.specs.Shown.{messageShown}
@@ -72,7 +72,7 @@ forth (end reuse) = one-forth (end reuse) tt
 -- reading a written packet, alone or with other bytes behind it, from an equal connection: it is accepted, all of it and no more is taken, the
 -- connection after it is the writer's, and the message that it shows is the one that was written
 pub written-reads : (c : Connection) (m : Message) (buffer : List ℕ) (w : Written) (left : List ℕ) → Fit m → writing c m buffer ≡ wrote w left
-    → (rest table : List ℕ) → 328 ≤ length table
+    → (rest table : List ℕ) → placesFor m ≤ length table
     → ReadBack (wayOf m) c (part left 0 (w .length) ++ rest) table m (w .length) (w .connection)
 written-reads c m buffer w left fit e = forth m c buffer w left fit e
 

@@ -3,7 +3,8 @@
 -- Assumes nothing.
 use mathlib.Core.Bool.{Bool, true, false}
 use mathlib.Core.List.{List, [], _∷_}
-use Prim.Native.Nat.{ℕ, _<_}
+use Prim.Native.Nat.{ℕ, _+_, _*_, _<_}
+use lib.ListN.{length}
 use Rattle.wire.specs.declared.Direction.{Direction}
 use Rattle.connection.specs.Cycle.{directionOf}
 use Rattle.connection.specs.declared.Kind.{Kind}
@@ -87,6 +88,17 @@ isNull (text bytes) = false
 abbrev pub bytesIn : Text → List ℕ
 bytesIn null = []
 bytesIn (text bytes) = bytes
+
+-- how many places the table needs for it: two for each header and each attribute
+abbrev pub placesFor : Message → ℕ
+placesFor cping = 0
+placesFor cpong = 0
+placesFor (forward request) = 2 * (length (request .headers) + length (request .attributes))
+placesFor (body bytes) = 0
+placesFor (getBody asked) = 0
+placesFor (sendHeaders response) = 2 * length (response .headers)
+placesFor (bodyChunk bytes) = 0
+placesFor (end reuse) = 0
 
 -- a message that the calls can be given: each number fits the 16 bits of the parameter that it is given to
 abbrev pub Integer : ℕ → Type 0
