@@ -2,9 +2,9 @@
 -- set is the packet's: so "needs" is never the answer, and a packet that is closed is one that this end accepts, all of it.
 -- Assumes nothing.
 use native.Mathlib.Omega.{arith}
-use borrow.Author.Tests.{le-leb, le-ltb, eq-eqb, ne-eqb, eqb-true}
+use borrow.Author.Tests.{le-leb, le-ltb, eq-eqb, ne-eqb, eqb-true, not-true, not-false}
 use mathlib.Core.Path.{_≡_, refl, sym, ap, subst, _∙_}
-use mathlib.Core.Bool.{Bool, true, false}
+use mathlib.Core.Bool.{Bool, true, false, not, false≢true}
 use mathlib.Core.List.{List}
 use Prim.Native.Nat.{ℕ, _+_, _-_, _≤_}
 use lib.Dec.{eqb}
@@ -15,7 +15,7 @@ use Rattle.wire.specs.Field.{integerAt}
 use Rattle.wire.specs.declared.Direction.{Direction}
 use Rattle.wire.specs.declared.read.NumberRead.{NumberRead}
 use Rattle.wire.proofs.Field.{number-read}
-use Rattle.connection.specs.Cycle.{inState, stepOf}
+use Rattle.connection.specs.Cycle.{directionOf, inState, stepOf}
 use Rattle.connection.specs.declared.Connection.{Connection}
 use Rattle.connection.specs.declared.Kind.{Kind}
 use Rattle.connection.specs.declared.Step.{Step}
@@ -26,10 +26,12 @@ use Rattle.payload.specs.declared.packet.PacketRead.{PacketRead}
 use Rattle.fields.specs.Fault.{unless, orElse, fitFault}
 use Rattle.fields.specs.Call.{Outcome, refused, done}
 use Rattle.fields.proofs.Sizes.{or-first, or-second, unless-none, fit-none, fit-by}
+use Rattle.pieces.specs.declared.BuildingKind.{BuildingKind}
 use Rattle.pieces.specs.declared.Building.{Building}
 use Rattle.pieces.specs.Record.{kindIn, directionIn, isPossible}
 use Rattle.pieces.proofs.Possible.{possible-yes}
-use Rattle.writer.specs.Meaning.{Written}
+use Rattle.writer.specs.declared.Sent.{Sent}
+use Rattle.writer.specs.Meaning.{Written, meaning, isWritten}
 use Rattle.reader.specs.declared.frame.FrameRead.{FrameRead}
 use Rattle.reader.specs.Frame.{leadingDiffers, lengthAt, frameOf, frameAt}
 use Rattle.reader.specs.Meaning as read
@@ -100,6 +102,12 @@ module _ (c : Connection) (r : Building) (buffer : List ℕ) where
   ready-fault h =
       rw (h .possible, h .allowed)
       (sym (fit-by (closedLength r) (length buffer) true true (le-leb (closedLength r) 8192 (h .within)) (le-leb (closedLength r) (length buffer) (h .inside))))
+
+  -- the fault that is found, by the three that are looked for
+  pub fault-by : {possible state fit first : ℕ} → possible ≡ unless (isPossible r buffer) 16 → state ≡ unless (inState c (kindIn (r .kind))) 13
+      → fit ≡ fitFault (closedLength r) (length buffer) → first ≡ orElse possible state → orElse first fit ≡ closingFault c r buffer
+  unfolding closingFault
+  fault-by p q f e = rw (e, p, q, f)
 
   -- then the packet can be closed
   pub ready-closable : Ready c r buffer → Closable r buffer
@@ -188,6 +196,13 @@ module _ (c : Connection) (r : Building) (buffer : List ℕ) where
       let reads : reading (directionIn r) c s 328 ≡ read.accepted t taken next = aside (directionIn r) c s 328 (omega arith) ∙ e in
       frame-taken r buffer (ready-closable c r buffer ready) (directionIn r) taken (accepted-is (directionIn r) c s 328 t taken next reads .whole-is)
 
+  -- what the end to which the packet goes reads
+  pub read-there : (k : BuildingKind) (room : ℕ) {kind : BuildingKind} → kind ≡ r .kind → kind ≡ k → 328 ≤ room
+      → reading (directionOf (kindIn k)) c buffer room ≡ judgement c r buffer
+  unfolding judgement
+  read-there k room p q h =
+      ap (λ (x : BuildingKind). reading (directionOf (kindIn x)) c buffer room) (sym q ∙ p) ∙ aside (directionIn r) c buffer room h
+
   -- closing by the fault that was found: it is refused with it, and the buffer is as it was
   pub found-refused : (found : ℕ) → found ≡ closingFault c r buffer → (found ≡ 0 → ⊥) → refused found ≡ closeOutcome c r buffer
   unfolding closeOutcome
@@ -203,6 +218,38 @@ module _ (c : Connection) (r : Building) (buffer : List ℕ) where
   pub outcome-buffer : (o : Outcome Written) → o ≡ closeOutcome c r buffer → whereDone o (closed r buffer) buffer ≡ closeBuffer c r buffer
   unfolding closeBuffer
   outcome-buffer o e = ap (λ (x : Outcome Written). whereDone x (closed r buffer) buffer) e
+
+  -- an answer is closing's, and whether it says that the packet is written tells which buffer is closing's: with the packet closed, or as it was
+  pub record Closes (sent : Sent) (written : Bool) : Type 0 where
+    pub answer : meaning sent ≡ closeOutcome c r buffer
+    pub stands : not written ≡ false → closed r buffer ≡ closeBuffer c r buffer
+    pub kept : not written ≡ true → buffer ≡ closeBuffer c r buffer
+
+  -- so it is with the judge's answer to the packet that stands there when nothing was found before
+  pub closes : (sent : Sent) (written : Bool) {size : ℕ} {set packet : List ℕ} → closingFault c r buffer ≡ 0 → size ≡ closedLength r → set ≡ closed r buffer
+      → packet ≡ part set 0 size → meaning sent ≡ verdict (length packet) (judgement c r packet) → written ≡ isWritten sent → Closes sent written
+  unfolding closedPacket
+  closes sent written {size} {set} {packet} none s e p judged is =
+      let same : packet ≡ closedPacket r buffer = p ∙ ap (λ (l : List ℕ). part l 0 size) e ∙ ap (part (closed r buffer) 0) s in
+      let long : length packet ≡ closedLength r =
+      ap length same ∙ packet-length r buffer (ready-closable c r buffer (fault-ready c r buffer none)) in
+      let answer : meaning sent ≡ closeOutcome c r buffer =
+      judged ∙ ap (λ (n : ℕ). verdict n (judgement c r packet)) long
+      ∙ ap (λ (l : List ℕ). verdict (closedLength r) (judgement c r l)) same
+      ∙ found-judged (closingFault c r buffer) refl none in
+      let after : whereDone (meaning sent) (closed r buffer) buffer ≡ closeBuffer c r buffer = outcome-buffer (meaning sent) answer in
+      record {
+        answer = answer;
+        stands = λ w. by-answer sent true (sym is ∙ not-false written w) ∙ after;
+        kept = λ w. by-answer sent false (sym is ∙ not-true written w) ∙ after;
+      }
+    where
+      by-answer : (sent : Sent) (written : Bool) → isWritten sent ≡ written
+          → pick written (closed r buffer) buffer ≡ whereDone (meaning sent) (closed r buffer) buffer
+      by-answer (Sent.Refused n) true q = absurd (false≢true q)
+      by-answer (Sent.Refused n) false q = refl
+      by-answer (Sent.Written length connection) true q = refl
+      by-answer (Sent.Written length connection) false q = absurd (false≢true (sym q))
 
   -- what there is where closing is done: nothing was found before, the packet stands in the buffer and has its length, and the end to which
   -- it goes accepts it, all of it, with every table of 328 places or more, and has the same connection after it

@@ -11,6 +11,7 @@ use lib.Seq.{getD-take, length-take-le, drop-drop}
 use Rattle.wire.specs.Bytes.{part, over, integerIn, integerBytes}
 use Rattle.wire.proofs.Bytes.{length-part, part-one, length-over, over-before, over-behind, over-again, over-same}
 use Rattle.wire.proofs.RoundTrip.{Bytes, integer-back, integer-kept}
+use Rattle.connection.specs.declared.Place.{Place}
 use Rattle.pieces.specs.declared.BuildingKind.{BuildingKind}
 use Rattle.pieces.specs.declared.Building.{Building}
 use Rattle.reader.specs.View.{integerView}
@@ -26,6 +27,23 @@ last-length BuildingKind.SendHeaders byte = refl
 pub last-mark : (kind : BuildingKind) → lastWith kind 255 ≡ lastBytes kind
 last-mark BuildingKind.Forward = refl
 last-mark BuildingKind.SendHeaders = refl
+
+-- a place as an index
+pub place-seen : (at : Place) {place : Place} {index : ℕ} → place ≡ at → index ≡ place .0 → index ≡ at .0
+place-seen at e f = f ∙ ap (λ (x : Place). x .0) e
+
+-- what is seen of a record's kind and of its next place: the packet's length, and where a last byte is put
+module _ (r : Building) (k : BuildingKind) {kind : BuildingKind} {place : Place} {next : ℕ} where
+  pub length-seen : kind ≡ r .kind → kind ≡ k → place ≡ r .next → next ≡ place .0 → next + length (lastBytes k) ≡ closedLength r
+  length-seen p q e f =
+      ap (λ (x : BuildingKind). next + length (lastBytes x)) (sym q ∙ p)
+      ∙ ap (λ (n : ℕ). n + length (lastBytes (r .kind))) (place-seen (r .next) e f)
+
+  pub last-seen : (buffer : List ℕ) (byte : ℕ) → kind ≡ r .kind → kind ≡ k → place ≡ r .next → next ≡ place .0
+      → over buffer next (lastWith k byte) ≡ over buffer (r .next .0) (lastWith (r .kind) byte)
+  last-seen buffer byte p q e f =
+      ap (λ (x : BuildingKind). over buffer next (lastWith x byte)) (sym q ∙ p)
+      ∙ ap (λ (n : ℕ). over buffer n (lastWith (r .kind) byte)) (place-seen (r .next) e f)
 
 -- what stood there, by the byte that was seen there
 pub last-saved : (s : List ℕ) (at byte : ℕ) (kind : BuildingKind) → at + length (lastBytes kind) ≤ length s → byte ≡ getD s at 0
@@ -89,6 +107,15 @@ module _ (r : Building) (buffer : List ℕ) (can : Closable r buffer) where
   unfolding closed
   set-length = length-over (withLength r buffer) (r .next .0) (lastBytes (r .kind)) last-fits ∙ length-length
 
+  -- so the packet can be closed there still
+  pub set-closable : {z : List ℕ} → z ≡ closed r buffer → Closable r z
+  set-closable e = record {
+    behind = can .behind;
+    apart = can .apart;
+    within = can .within;
+    inside = omega (arith, can .inside, ap length e, set-length);
+  }
+
   -- the packet has its length
   pub packet-length : length (closedPacket r buffer) ≡ closedLength r
   unfolding closedPacket
@@ -125,3 +152,38 @@ module _ (r : Building) (buffer : List ℕ) (can : Closable r buffer) where
       ∙ ap (λ (l : List ℕ). over l (r .count .0) (integerBytes (old .count)))
       (undone (withCount r buffer) 2 2 (integerBytes (closedLength r - 4)) (integerBytes (old .length)) refl length-fits size)
       ∙ undone buffer (r .count .0) 2 (integerBytes (r .headers)) (integerBytes (old .count)) refl count-fits count
+
+  -- so it is with what is saved just before each write
+  pub set-by : (old : Old) {place spot : Place} {at headers size next : ℕ} {x y z : List ℕ}
+      → place ≡ r .count → at ≡ place .0 → headers ≡ r .headers → size ≡ closedLength r
+      → Bytes buffer → old .count ≡ integerView buffer (place .0) → x ≡ over buffer at (integerBytes headers)
+      → Bytes x → old .length ≡ integerView x 2 → y ≡ over x 2 (integerBytes (size - 4))
+      → spot ≡ r .next → next ≡ spot .0 → old .last ≡ getD y next 0 → z ≡ over y (r .next .0) (lastWith (r .kind) 255)
+      → (putBack r old (closed r buffer) ≡ buffer) × (z ≡ closed r buffer)
+  unfolding closed
+  set-by old {place} {spot} {at} {headers} {size} {next} {x} {y} {z} p a h s bytes c1 e1 bytes2 c2 e2 q n c3 e3 =
+      let here : place .0 ≡ r .count .0 = place-seen (r .count) p refl in
+      let behind-last : next ≡ r .next .0 = place-seen (r .next) q n in
+      let first : x ≡ withCount r buffer =
+      e1 ∙ ap (λ (i : ℕ). over buffer i (integerBytes headers)) (a ∙ here) ∙ ap (λ (k : ℕ). over buffer (r .count .0) (integerBytes k)) h in
+      let second : y ≡ withLength r buffer =
+      e2 ∙ ap (λ (l : List ℕ). over l 2 (integerBytes (size - 4))) first ∙ ap (λ (k : ℕ). over (withCount r buffer) 2 (integerBytes (k - 4))) s in
+      let third : z ≡ closed r buffer =
+      e3 ∙ ap (λ (l : List ℕ). over l (r .next .0) (lastWith (r .kind) 255)) second ∙ ap (over (withLength r buffer) (r .next .0)) (last-mark (r .kind)) in
+      let count : integerBytes (old .count) ≡ part buffer (r .count .0) 2 =
+      integer-saved buffer (r .count .0) (old .count) bytes count-fits (c1 ∙ ap (integerView buffer) here) in
+      let size : integerBytes (old .length) ≡ part (withCount r buffer) 2 2 =
+      integer-saved x 2 (old .length) bytes2 (omega (arith, ap length first, length-fits)) c2 ∙ ap (λ (l : List ℕ). part l 2 2) first in
+      let last : lastWith (r .kind) (old .last) ≡ part (withLength r buffer) (r .next .0) (length (lastBytes (r .kind))) =
+      last-saved (withLength r buffer) (r .next .0) (old .last) (r .kind) last-fits
+      (c3 ∙ ap (λ (l : List ℕ). getD l next 0) second ∙ ap (λ (i : ℕ). getD (withLength r buffer) i 0) behind-last) in
+      (set-back old count size last, third)
+
+-- what is put back, write by write
+pub back-by : (r : Building) (old : Old) (buffer : List ℕ) {place : Place} {at : ℕ} {x y z : List ℕ} → place ≡ r .count → at ≡ place .0
+    → x ≡ over buffer (r .next .0) (lastWith (r .kind) (old .last)) → y ≡ over x 2 (integerBytes (old .length))
+    → z ≡ over y at (integerBytes (old .count)) → z ≡ putBack r old buffer
+back-by r old buffer {place} {at} {x} {y} {z} p a e1 e2 e3 =
+    e3 ∙ ap (λ (l : List ℕ). over l at (integerBytes (old .count))) (e2 ∙ ap (λ (l : List ℕ). over l 2 (integerBytes (old .length))) e1)
+    ∙ ap (λ (i : ℕ). over (over (over buffer (r .next .0) (lastWith (r .kind) (old .last))) 2 (integerBytes (old .length))) i (integerBytes (old .count)))
+    (place-seen (r .count) p a)

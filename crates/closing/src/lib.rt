@@ -2,6 +2,13 @@
 // length and, in a Forward, FF are set, and the packet that then stands there is judged by the reader of the end to which it goes. Where it
 // passes, its length and the connection after it are answered. A refusal leaves the buffer as it was, and the connection and the record
 // given still count. The call answers for any connection, any record and any buffer.
+ghost use mathlib.Core.Path.{_≡_};
+ghost use lib.ListN.{length, getD};
+ghost use Rattle.wire.specs.Bytes.{over};
+ghost use Rattle.reader.specs.Meaning as read;
+ghost use Rattle.writer.specs.Meaning.{meaning};
+ghost use Rattle.closing.specs.Closing.{closedLength, closingFault, closed, verdict, judgement, closeOutcome, closeBuffer};
+ghost use Rattle.closing.specs.Private.{lastWith, Closable, putBack};
 use attributes::LAST_MARK;
 use connection::Connection;
 use connection::Place;
@@ -21,12 +28,140 @@ use wire::refusal;
 use writer::Sent;
 use writer::is_written;
 
+// What stood where closing writes: two bytes at the count and two at the length, each pair as the integer that it is, and the byte behind
+// the last piece.
 struct Old {
     count: u16,
     length: u16,
     last: u8,
 }
 
-pub fn close(connection: Connection, building: Building, buffer: &mut [u8]) -> Sent {
-    Sent::Refused(refusal::NONE)
+// How long the packet is once it is closed.
+fn closed_length(building: Building) -> usize
+    ensures { λ r. ⌜ r ≡ closedLength building ⌝ }
+{
+    let kind = building.kind();
+    let next = building.next().index();
+    match kind {
+        BuildingKind::Forward => next + 1,
+        BuildingKind::SendHeaders => next,
+    }
+}
+
+// What is looked for before the packet is judged: 16, 13, then 2 and 15.
+fn closing_fault(connection: Connection, building: Building, buffer: &[u8]) -> u8
+    ensures { λ r. ⌜ r ≡ closingFault connection building (now (buffer .entry)) ⌝ }
+{
+    let kind = building.kind();
+    let possible = fault::unless(building.is_possible(buffer), refusal::RECORD_WRONG);
+    let state = fault::unless(connection.allows(kind.kind()), refusal::NOT_NOW);
+    let fit = fault::fit(closed_length(building), buffer.len());
+    fault::or_else(fault::or_else(possible, state), fit)
+}
+
+// The byte at a place, 0 where nothing is there.
+fn byte_at(buffer: &[u8], at: usize) -> u8
+    ensures { λ r. ⌜ r ≡ getD (now (buffer .entry)) at 0 ⌝ }
+{
+    if at < buffer.len() {
+        return buffer[at];
+    }
+    0
+}
+
+// Puts a byte behind the last piece of a Forward; behind a Send Headers nothing stands.
+fn put_last(buffer: &mut [u8], building: Building, byte: u8)
+    requires { ⌜ Closable building (now buffer) ⌝ }
+    ensures { λ _. ⌜ now (buffer .exit) ≡ over (now (buffer .entry)) (building .next .0) (lastWith (building .kind) byte) ⌝ }
+{
+    let kind = building.kind();
+    let next = building.next().index();
+    match kind {
+        BuildingKind::Forward => {
+            put::byte(buffer, next, byte);
+        }
+        BuildingKind::SendHeaders => {}
+    }
+}
+
+// Sets the count, the length and the last byte, and tells what stood there.
+fn set(buffer: &mut [u8], building: Building) -> Old
+    requires { ⌜ Closable building (now buffer) ⌝ }
+    ensures { λ r. ⌜ putBack building r (closed building (now (buffer .entry))) ≡ now (buffer .entry) ⌝ }
+    ensures { λ _. ⌜ now (buffer .exit) ≡ closed building (now (buffer .entry)) ⌝ }
+{
+    let place = building.count_place();
+    let headers = building.headers();
+    let payload = (closed_length(building) - PAYLOAD_PLACE) as u16;
+    let count = view::integer_at(buffer, place);
+    put::integer(buffer, place.index(), headers);
+    let length = view::integer_at(buffer, Place(LENGTH_PLACE as u16));
+    put::integer(buffer, LENGTH_PLACE, payload);
+    let last = byte_at(buffer, building.next().index());
+    put_last(buffer, building, LAST_MARK);
+    Old {
+        count,
+        length,
+        last,
+    }
+}
+
+// Puts back what stood there, the last that was set first.
+fn put_back(buffer: &mut [u8], building: Building, old: Old)
+    requires { ⌜ Closable building (now buffer) ⌝ }
+    ensures { λ _. ⌜ now (buffer .exit) ≡ putBack building old (now (buffer .entry)) ⌝ }
+{
+    let at = building.count_place().index();
+    put_last(buffer, building, old.last);
+    put::integer(buffer, LENGTH_PLACE, old.length);
+    put::integer(buffer, at, old.count);
+}
+
+// What the end to which a packet goes answers to it, the table aside: it is lent one that is long enough for every packet.
+fn read_there(connection: Connection, building: Building, packet: &[u8]) -> Received
+    ensures { λ r. ⌜ read.meaning r ≡ judgement connection building (now (packet .entry)) ⌝ }
+{
+    let kind = building.kind();
+    let mut places = [0u16; MAX_PLACES];
+    match kind {
+        BuildingKind::Forward => read_at_container(connection, packet, &mut places),
+        BuildingKind::SendHeaders => read_at_server(connection, packet, &mut places),
+    }
+}
+
+// Judges a packet by that answer.
+fn judge(connection: Connection, building: Building, packet: &[u8]) -> Sent
+    ensures { λ r. ⌜ meaning r ≡ verdict (length (now (packet .entry))) (judgement connection building (now (packet .entry))) ⌝ }
+{
+    let size = packet.len();
+    match read_there(connection, building, packet) {
+        Received::Needs(_) => Sent::Refused(refusal::CUT_SHORT),
+        Received::Refused(n) => Sent::Refused(n),
+        Received::Accepted {
+            packet,
+            taken,
+            connection,
+        } => Sent::Written {
+            length: size,
+            connection,
+        },
+    }
+}
+
+// Closes the packet that the record says.
+pub fn close(connection: Connection, building: Building, buffer: &mut [u8]) -> Sent
+    ensures { λ r. ⌜ meaning r ≡ closeOutcome connection building (now (buffer .entry)) ⌝ }
+    ensures { λ _. ⌜ now (buffer .exit) ≡ closeBuffer connection building (now (buffer .entry)) ⌝ }
+{
+    let found = closing_fault(connection, building, buffer);
+    if found != refusal::NONE {
+        return Sent::Refused(found);
+    }
+    let length = closed_length(building);
+    let old = set(buffer, building);
+    let sent = judge(connection, building, part_of(buffer, 0, length));
+    if !is_written(sent) {
+        put_back(buffer, building, old);
+    }
+    sent
 }
