@@ -82,6 +82,13 @@ pub record Ready (c : Connection) (r : Building) (buffer : List ℕ) : Type 0 wh
   pub inside : closedLength r ≤ length buffer
 
 module _ (c : Connection) (r : Building) (buffer : List ℕ) where
+  -- the fault that is found, by the three that are looked for
+  pub fault-by : {possible state fit first : ℕ} → possible ≡ unless (isPossible r buffer) 16 → state ≡ unless (inState c (kindIn (r .kind))) 13
+      → fit ≡ fitFault (closedLength r) (length buffer) → first ≡ orElse possible state → orElse first fit ≡ closingFault c r buffer
+  unfolding closingFault
+  fault-by p q f e = rw (e, p, q, f)
+
+  -- no fault is found exactly where that holds
   pub fault-ready : closingFault c r buffer ≡ 0 → Ready c r buffer
   unfolding closingFault
   fault-ready none =
@@ -103,13 +110,7 @@ module _ (c : Connection) (r : Building) (buffer : List ℕ) where
       rw (h .possible, h .allowed)
       (sym (fit-by (closedLength r) (length buffer) true true (le-leb (closedLength r) 8192 (h .within)) (le-leb (closedLength r) (length buffer) (h .inside))))
 
-  -- the fault that is found, by the three that are looked for
-  pub fault-by : {possible state fit first : ℕ} → possible ≡ unless (isPossible r buffer) 16 → state ≡ unless (inState c (kindIn (r .kind))) 13
-      → fit ≡ fitFault (closedLength r) (length buffer) → first ≡ orElse possible state → orElse first fit ≡ closingFault c r buffer
-  unfolding closingFault
-  fault-by p q f e = rw (e, p, q, f)
-
-  -- then the packet can be closed
+  -- and then the packet can be closed
   pub ready-closable : Ready c r buffer → Closable r buffer
   ready-closable h =
       let can = possible-yes r buffer (h .possible) in
@@ -158,7 +159,8 @@ module _ (r : Building) (buffer : List ℕ) (can : Closable r buffer) (d : Direc
       let payload : integerAt s 2 ≡ NumberRead.Number (closedLength r - 4) 4 =
       sym (number-read 2 (integerIn s 2) s 2 (omega arith)) ∙ ap (λ (n : ℕ). NumberRead.Number n 4) (packet-payload r buffer can) in
       let sized : lengthAt (length s) (closedLength r - 4) ≡ FrameRead.Whole (closedLength r) =
-      sym (length-is (length s) (closedLength r - 4) true false (le-leb (closedLength r - 4) 8188 (omega (arith, can .within))) (le-ltb (length s) (4 + (closedLength r - 4)) (omega arith)))
+      sym (length-is (length s) (closedLength r - 4) true false
+      (le-leb (closedLength r - 4) 8188 (omega (arith, can .within))) (le-ltb (length s) (4 + (closedLength r - 4)) (omega arith)))
       ∙ ap FrameRead.Whole whole in
       ap (λ (f : FrameRead). pick (leadingDiffers d s) (FrameRead.Refused 1) f) (ap (frameOf (length s)) payload ∙ sized)
 
@@ -196,14 +198,14 @@ module _ (c : Connection) (r : Building) (buffer : List ℕ) where
       let reads : reading (directionIn r) c s 328 ≡ read.accepted t taken next = aside (directionIn r) c s 328 (omega arith) ∙ e in
       frame-taken r buffer (ready-closable c r buffer ready) (directionIn r) taken (accepted-is (directionIn r) c s 328 t taken next reads .whole-is)
 
-  -- what the end to which the packet goes reads
+  -- the bytes that `read_there` is given are read by the end of the packet's kind as they are judged
   pub read-there : (k : BuildingKind) (room : ℕ) {kind : BuildingKind} → kind ≡ r .kind → kind ≡ k → 328 ≤ room
       → reading (directionOf (kindIn k)) c buffer room ≡ judgement c r buffer
   unfolding judgement
   read-there k room p q h =
       ap (λ (x : BuildingKind). reading (directionOf (kindIn x)) c buffer room) (sym q ∙ p) ∙ aside (directionIn r) c buffer room h
 
-  -- closing by the fault that was found: it is refused with it, and the buffer is as it was
+  -- closing by the fault that was found: it is refused with it
   pub found-refused : (found : ℕ) → found ≡ closingFault c r buffer → (found ≡ 0 → ⊥) → refused found ≡ closeOutcome c r buffer
   unfolding closeOutcome
   found-refused found is h = rw (← is, ne-eqb found 0 h)
@@ -226,8 +228,8 @@ module _ (c : Connection) (r : Building) (buffer : List ℕ) where
     pub kept : not written ≡ true → buffer ≡ closeBuffer c r buffer
 
   -- so it is with the judge's answer to the packet that stands there when nothing was found before
-  pub closes : (sent : Sent) (written : Bool) {size : ℕ} {set packet : List ℕ} → closingFault c r buffer ≡ 0 → size ≡ closedLength r → set ≡ closed r buffer
-      → packet ≡ part set 0 size → meaning sent ≡ verdict (length packet) (judgement c r packet) → written ≡ isWritten sent → Closes sent written
+  pub closes : (sent : Sent) (written : Bool) {size : ℕ} {set packet : List ℕ} → closingFault c r buffer ≡ 0 → size ≡ closedLength r
+      → set ≡ closed r buffer → packet ≡ part set 0 size → meaning sent ≡ verdict (length packet) (judgement c r packet) → written ≡ isWritten sent → Closes sent written
   unfolding closedPacket
   closes sent written {size} {set} {packet} none s e p judged is =
       let same : packet ≡ closedPacket r buffer = p ∙ ap (λ (l : List ℕ). part l 0 size) e ∙ ap (part (closed r buffer) 0) s in
@@ -282,6 +284,7 @@ module _ (c : Connection) (r : Building) (buffer : List ℕ) where
         reads = λ room h. aside (directionIn r) c (closedPacket r buffer) room h ∙ all;
       }
 
+  -- so it is wherever closing is done
   pub close-done : (w : Written) → closeOutcome c r buffer ≡ done w → CloseDone w
   unfolding closeOutcome
   close-done w e = by-fault (eqb (closingFault c r buffer) 0) refl e

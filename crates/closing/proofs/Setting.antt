@@ -19,12 +19,8 @@ use Rattle.closing.specs.declared.Old.{Old}
 use Rattle.closing.specs.Closing.{lastBytes, closedLength, withCount, withLength, closed, closedPacket}
 use Rattle.closing.specs.Private.{lastWith, Closable, putBack}
 
--- what stands behind the last piece is as long whatever the byte is, and with FF it is the last bytes
-last-length : (kind : BuildingKind) (byte : ℕ) → length (lastWith kind byte) ≡ length (lastBytes kind)
-last-length BuildingKind.Forward byte = refl
-last-length BuildingKind.SendHeaders byte = refl
-
-pub last-mark : (kind : BuildingKind) → lastWith kind 255 ≡ lastBytes kind
+-- with FF put behind the last piece, the last bytes stand there
+last-mark : (kind : BuildingKind) → lastWith kind 255 ≡ lastBytes kind
 last-mark BuildingKind.Forward = refl
 last-mark BuildingKind.SendHeaders = refl
 
@@ -46,14 +42,14 @@ module _ (r : Building) (k : BuildingKind) {kind : BuildingKind} {place : Place}
       ∙ ap (λ (n : ℕ). over buffer n (lastWith (r .kind) byte)) (place-seen (r .next) e f)
 
 -- what stood there, by the byte that was seen there
-pub last-saved : (s : List ℕ) (at byte : ℕ) (kind : BuildingKind) → at + length (lastBytes kind) ≤ length s → byte ≡ getD s at 0
+last-saved : (s : List ℕ) (at byte : ℕ) (kind : BuildingKind) → at + length (lastBytes kind) ≤ length s → byte ≡ getD s at 0
     → lastWith kind byte ≡ part s at (length (lastBytes kind))
 unfolding part
 last-saved s at byte BuildingKind.Forward h e = ap (λ (b : ℕ). b ∷ []) e ∙ sym (part-one s at (omega arith))
 last-saved s at byte BuildingKind.SendHeaders h e = refl
 
 -- two bytes, by the integer that was seen there
-pub integer-saved : (s : List ℕ) (at n : ℕ) → Bytes s → at + 2 ≤ length s → n ≡ integerView s at → integerBytes n ≡ part s at 2
+integer-saved : (s : List ℕ) (at n : ℕ) → Bytes s → at + 2 ≤ length s → n ≡ integerView s at → integerBytes n ≡ part s at 2
 unfolding integerView
 integer-saved s at n bytes h e =
     let there : integerView s at ≡ integerIn s at = rw (le-leb (at + 2) (length s) h) in
@@ -126,7 +122,8 @@ module _ (r : Building) (buffer : List ℕ) (can : Closable r buffer) where
   unfolding closed
   set-behind =
       behind (withLength r buffer) (r .next .0) (lastBytes (r .kind)) (closedLength r) (omega arith) (omega (arith, can .inside, length-length))
-      ∙ behind (withCount r buffer) 2 (integerBytes (closedLength r - 4)) (closedLength r) (omega (arith, can .behind, can .apart)) (omega (arith, can .inside, count-length))
+      ∙ behind (withCount r buffer) 2 (integerBytes (closedLength r - 4)) (closedLength r) (omega (arith, can .behind, can .apart))
+      (omega (arith, can .inside, count-length))
       ∙ behind buffer (r .count .0) (integerBytes (r .headers)) (closedLength r) (omega (arith, can .apart)) (can .inside)
 
   -- a byte before the last bytes
@@ -143,7 +140,7 @@ module _ (r : Building) (buffer : List ℕ) (can : Closable r buffer) where
       (integer-laid (withCount r buffer) 2 (closedLength r - 4) (omega (arith, length-fits)) (omega (arith, can .within)))
 
   -- what stood there, put back
-  pub set-back : (old : Old) → integerBytes (old .count) ≡ part buffer (r .count .0) 2 → integerBytes (old .length) ≡ part (withCount r buffer) 2 2
+  set-back : (old : Old) → integerBytes (old .count) ≡ part buffer (r .count .0) 2 → integerBytes (old .length) ≡ part (withCount r buffer) 2 2
       → lastWith (r .kind) (old .last) ≡ part (withLength r buffer) (r .next .0) (length (lastBytes (r .kind))) → putBack r old (closed r buffer) ≡ buffer
   unfolding closed
   set-back old count size last =
@@ -170,14 +167,14 @@ module _ (r : Building) (buffer : List ℕ) (can : Closable r buffer) where
       e2 ∙ ap (λ (l : List ℕ). over l 2 (integerBytes (size - 4))) first ∙ ap (λ (k : ℕ). over (withCount r buffer) 2 (integerBytes (k - 4))) s in
       let third : z ≡ closed r buffer =
       e3 ∙ ap (λ (l : List ℕ). over l (r .next .0) (lastWith (r .kind) 255)) second ∙ ap (over (withLength r buffer) (r .next .0)) (last-mark (r .kind)) in
-      let count : integerBytes (old .count) ≡ part buffer (r .count .0) 2 =
+      let count-back : integerBytes (old .count) ≡ part buffer (r .count .0) 2 =
       integer-saved buffer (r .count .0) (old .count) bytes count-fits (c1 ∙ ap (integerView buffer) here) in
-      let size : integerBytes (old .length) ≡ part (withCount r buffer) 2 2 =
+      let length-back : integerBytes (old .length) ≡ part (withCount r buffer) 2 2 =
       integer-saved x 2 (old .length) bytes2 (omega (arith, ap length first, length-fits)) c2 ∙ ap (λ (l : List ℕ). part l 2 2) first in
-      let last : lastWith (r .kind) (old .last) ≡ part (withLength r buffer) (r .next .0) (length (lastBytes (r .kind))) =
+      let last-back : lastWith (r .kind) (old .last) ≡ part (withLength r buffer) (r .next .0) (length (lastBytes (r .kind))) =
       last-saved (withLength r buffer) (r .next .0) (old .last) (r .kind) last-fits
       (c3 ∙ ap (λ (l : List ℕ). getD l next 0) second ∙ ap (λ (i : ℕ). getD (withLength r buffer) i 0) behind-last) in
-      (set-back old count size last, third)
+      (set-back old count-back length-back last-back, third)
 
 -- what is put back, write by write
 pub back-by : (r : Building) (old : Old) (buffer : List ℕ) {place : Place} {at : ℕ} {x y z : List ℕ} → place ≡ r .count → at ≡ place .0

@@ -1,7 +1,7 @@
 // Closing a packet that was built in pieces, a Forward at the server's end or a Send Headers at the container's: the count of headers, the
 // length and, in a Forward, FF are set, and the packet that then stands there is judged by the reader of the end to which it goes. Where it
 // passes, its length and the connection after it are answered. A refusal leaves the buffer as it was, and the connection and the record
-// given still count. The call answers for any connection, any record and any buffer.
+// given still count. `close` answers for any connection, any record and any buffer.
 ghost use mathlib.Core.Path.{_≡_};
 ghost use lib.ListN.{length, getD};
 ghost use Rattle.wire.specs.Bytes.{over};
@@ -14,6 +14,7 @@ use connection::Connection;
 use connection::Place;
 use fields::fault;
 use fields::put;
+use fields::size::BYTE;
 use payload::PAYLOAD_PLACE;
 use pieces::Building;
 use pieces::BuildingKind;
@@ -36,14 +37,14 @@ struct Old {
     last: u8,
 }
 
-// How long the packet is once it is closed.
-fn closed_length(building: Building) -> usize
+// How long the packet is once it is closed: so many bytes the buffer needs. A Forward has one more then, its FF.
+pub fn needs(building: Building) -> usize
     ensures { λ r. ⌜ r ≡ closedLength building ⌝ }
 {
     let kind = building.kind();
     let next = building.next().index();
     match kind {
-        BuildingKind::Forward => next + 1,
+        BuildingKind::Forward => next + BYTE,
         BuildingKind::SendHeaders => next,
     }
 }
@@ -55,7 +56,7 @@ fn closing_fault(connection: Connection, building: Building, buffer: &[u8]) -> u
     let kind = building.kind();
     let possible = fault::unless(building.is_possible(buffer), refusal::RECORD_WRONG);
     let state = fault::unless(connection.allows(kind.kind()), refusal::NOT_NOW);
-    let fit = fault::fit(closed_length(building), buffer.len());
+    let fit = fault::fit(needs(building), buffer.len());
     fault::or_else(fault::or_else(possible, state), fit)
 }
 
@@ -92,7 +93,7 @@ fn set(buffer: &mut [u8], building: Building) -> Old
 {
     let place = building.count_place();
     let headers = building.headers();
-    let payload = (closed_length(building) - PAYLOAD_PLACE) as u16;
+    let payload = (needs(building) - PAYLOAD_PLACE) as u16;
     let count = view::integer_at(buffer, place);
     put::integer(buffer, place.index(), headers);
     let length = view::integer_at(buffer, Place(LENGTH_PLACE as u16));
@@ -157,7 +158,7 @@ pub fn close(connection: Connection, building: Building, buffer: &mut [u8]) -> S
     if found != refusal::NONE {
         return Sent::Refused(found);
     }
-    let length = closed_length(building);
+    let length = needs(building);
     let old = set(buffer, building);
     let sent = judge(connection, building, part_of(buffer, 0, length));
     if !is_written(sent) {

@@ -18,8 +18,9 @@ same-length c = search needs
 returns : tie.Need-returns
 returns c =
     let a = c .before .before .before .before .args in
-    let o = found-refused (a .connection) (a .building) (a .buffer .now) (c .before .closing-fault .result) (c .before .closing-fault .ensures) (c .if1 .taken) in
-    (o, outcome-buffer (a .connection) (a .building) (a .buffer .now) (refused (c .before .closing-fault .result)) o)
+    let found = c .before .closing-fault in
+    let o = found-refused (a .connection) (a .building) (a .buffer .now) (found .result) (found .ensures) (c .if1 .taken) in
+    (o, outcome-buffer (a .connection) (a .building) (a .buffer .now) (refused (found .result)) o)
 
 -- where nothing was found the packet can be closed
 closable : (c : tie.Else1) → let a = c .before .before .before .before .args in Closable (a .building) (a .buffer .now)
@@ -28,8 +29,8 @@ closable c =
     ready-closable (a .connection) (a .building) (a .buffer .now)
     (fault-ready (a .connection) (a .building) (a .buffer .now) (sym (c .before .closing-fault .ensures) ∙ c .if1 .left))
 
-closed-length-requires : tie.Need-closed-length-requires
-closed-length-requires c κs = search needs
+needs-requires : tie.Need-needs-requires
+needs-requires c κs = search needs
 
 set-requires : tie.Need-set-requires
 set-requires c κs = closable (c .before .before)
@@ -47,28 +48,33 @@ is-written-requires c κs = search needs
 known : (c : tie.After-is-written) → let a = c .before .before .before .before .before .before .before .before .before .before .before .before .before .args in
     Closes (a .connection) (a .building) (a .buffer .now) (c .before .judge .result) (c .is-written .result)
 known c =
-    let a = c .before .before .before .before .before .before .before .before .before .before .before .before .before .args in
+    let set = c .before .before .before .before .before .before in
+    let none = set .before .before .before in
+    let a = none .before .before .before .before .args in
     closes (a .connection) (a .building) (a .buffer .now) (c .before .judge .result) (c .is-written .result)
-    (sym (c .before .before .before .before .before .before .before .before .before .before .closing-fault .ensures) ∙ c .before .before .before .before .before .before .before .before .before .if1 .left)
-    (c .before .before .before .before .before .before .before .before .closed-length .ensures) (c .before .before .before .before .before .before .set .ensures .1) (c .before .before .part-of .ensures) (c .before .judge .ensures) (c .is-written .ensures)
+    (sym (none .before .closing-fault .ensures) ∙ none .if1 .left) (set .before .before .needs .ensures) (set .set .ensures .1)
+    (c .before .before .part-of .ensures) (c .before .judge .ensures) (c .is-written .ensures)
 
 put-back-requires : tie.Need-put-back-requires
 put-back-requires c κs =
-    let a = c .before .before .before .before .before .before .before .before .before .before .before .before .before .before .before .args in
-    set-closable (a .building) (a .buffer .now) (closable (c .before .before .before .before .before .before .before .before .before .before .before)) (c .before .before .before .before .before .before .before .before .set .ensures .1)
+    let set = c .before .before .before .before .before .before .before .before in
+    let none = set .before .before .before in
+    let a = none .before .before .before .before .args in
+    set-closable (a .building) (a .buffer .now) (closable none) (set .set .ensures .1)
 
 same-length-2 : tie.Need-same-length-2
 same-length-2 c = search needs
 
 returns-2 : tie.Need-returns-2
 returns-2 c =
-    let k = known (c .before .before .before .before .before) in
-    let a = c .before .before .before .before .before .before .before .before .before .before .before .before .before .before .before .before .before .before .args in
-    let set = c .before .before .before .before .before .before .before .before .before .before .before .set in (
+    let written = c .before .before .before .before .before in
+    let k = known written in
+    let set = written .before .before .before .before .before .before in
+    let b = set .before .before .before .before .before .before .before .args .building in (
       k .answer,
       c .before .before .put-back .ensures
-          ∙ ap (putBack (a .building) (set .result)) (set .ensures .1)
-          ∙ set .ensures .0
+          ∙ ap (putBack b (set .set .result)) (set .set .ensures .1)
+          ∙ set .set .ensures .0
           ∙ k .kept (c .before .before .before .before .if2 .taken),
     )
 
@@ -87,7 +93,7 @@ close-spec =
     closing-fault-requires
     same-length
     returns
-    closed-length-requires
+    needs-requires
     set-requires
     part-of-requires
     judge-requires

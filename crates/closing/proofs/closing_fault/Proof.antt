@@ -30,8 +30,8 @@ allows-requires c κs = search needs
 unless-requires-2 : tie.Need-unless-requires-2
 unless-requires-2 c κs = search needs
 
-closed-length-requires : tie.Need-closed-length-requires
-closed-length-requires c κs = search needs
+needs-requires : tie.Need-needs-requires
+needs-requires c κs = search needs
 
 fit-requires : tie.Need-fit-requires
 fit-requires c κs = search needs
@@ -44,12 +44,18 @@ or-else-requires-2 c κs = search needs
 
 returns : tie.Need-returns
 returns c =
-    let a = c .before .before .before .before .before .before .before .before .before .before .before .args in
+    let fit = c .before .before in
+    let state = fit .before .before in
+    let possible = state .before .before .before in
+    let kind = possible .before .before in
+    let a = kind .before .before .args in
     c .or-else2 .ensures
     ∙ fault-by (a .connection) (a .building) (a .buffer .now)
-    (c .before .before .before .before .before .before .before .unless .ensures ∙ ap (λ (t : Bool). unless t 16) (c .before .before .before .before .before .before .before .before .is-possible .ensures))
-    (c .before .before .before .before .unless2 .ensures ∙ ap (λ (t : Bool). unless t 13) (c .before .before .before .before .before .allows .ensures ∙ ap (inState (a .connection)) (c .before .before .before .before .before .before .kind2 .ensures ∙ ap kindIn (c .before .before .before .before .before .before .before .before .before .kind .ensures))))
-    (c .before .before .fit .ensures ∙ ap (λ (n : ℕ). fitFault n (length (a .buffer .now))) (c .before .before .before .closed-length .ensures))
+    (possible .unless .ensures ∙ ap (λ (t : Bool). unless t 16) (possible .before .is-possible .ensures))
+    (state .unless2 .ensures
+    ∙ ap (λ (t : Bool). unless t 13)
+    (state .before .allows .ensures ∙ ap (inState (a .connection)) (state .before .before .kind2 .ensures ∙ ap kindIn (kind .kind .ensures))))
+    (fit .fit .ensures ∙ ap (λ (n : ℕ). fitFault n (length (a .buffer .now))) (fit .before .needs .ensures))
     (c .before .or-else .ensures)
 
 pub closing-fault-spec : {M : Type 1} → statement M
@@ -62,7 +68,7 @@ closing-fault-spec =
     kind-requires-2
     allows-requires
     unless-requires-2
-    closed-length-requires
+    needs-requires
     fit-requires
     or-else-requires
     or-else-requires-2

@@ -20,18 +20,23 @@ integer-requires c κs = search needs
 
 integer-requires-2 : tie.Need-integer-requires-2
 integer-requires-2 c κs =
-    let s = c .before .before .before .before .before .before .before .before .before .before .before .before in
-    let at = place-seen (s .args .building .count) (c .before .before .before .before .before .before .before .before .before .before .count-place .ensures) (c .before .before .before .before .before .before .before .before .before .index .ensures) in
-    (omega (arith, at, s .pre .apart, s .pre .inside), omega (arith, at, s .pre .apart, s .pre .within))
+    let index = c .before .before .before .before .before .before .before .before .before in
+    let start = index .before .before .before in
+    let at = place-seen (start .args .building .count) (index .before .count-place .ensures) (index .index .ensures) in
+    (omega (arith, at, start .pre .apart, start .pre .inside), omega (arith, at, start .pre .apart, start .pre .within))
 
 same-length : tie.Need-same-length
 same-length c = search needs
 
 returns : tie.Need-returns
 returns c =
-    let a = c .before .before .before .before .before .before .before .before .before .before .before .before .before .before .before .args in
-    back-by (a .building) (a .old) (a .buffer .now) (c .before .before .before .before .before .before .before .before .before .before .before .before .before .count-place .ensures) (c .before .before .before .before .before .before .before .before .before .before .before .before .index .ensures)
-    (c .before .before .before .before .before .before .before .before .before .before .put-last .ensures) (c .before .before .before .before .before .before .integer .ensures .1) (c .before .before .integer2 .ensures .1)
+    let last = c .before .before in
+    let second = last .before .before .before .before in
+    let first = second .before .before .before .before in
+    let index = first .before .before in
+    let a = index .before .before .before .args in
+    back-by (a .building) (a .old) (a .buffer .now) (index .before .count-place .ensures) (index .index .ensures)
+    (first .put-last .ensures) (second .integer .ensures .1) (last .integer2 .ensures .1)
 
 pub put-back-spec : {M : Type 1} → statement M
 put-back-spec =

@@ -23,11 +23,12 @@ enum-told c = search needs
 
 byte-requires : tie.Need-byte-requires
 byte-requires c κs =
-    let s = c .before .before .before .before .before .before in
-    let can = s .before .pre in
-    let size = length-seen (s .before .args .building) BuildingKind.Forward (c .before .before .before .before .before .kind .ensures)
-    (c .before .enum-told .given .1) (c .before .before .before .before .next .ensures) (c .before .before .before .index .ensures) in
-    (omega (arith, size, can .inside), omega (arith, size, can .within))
+    let index = c .before .before .before in
+    let kind = index .before .before in
+    let start = kind .before .before in
+    let size = length-seen (start .args .building) BuildingKind.Forward (kind .kind .ensures) (c .before .enum-told .given .1)
+    (index .before .next .ensures) (index .index .ensures) in
+    (omega (arith, size, start .pre .inside), omega (arith, size, start .pre .within))
 
 enum-told-2 : tie.Need-enum-told-2
 enum-told-2 c = search needs
@@ -37,18 +38,22 @@ same-length c = search needs
 
 returns : tie.Need-returns
 returns c =
-    let a = c .before .before .before .before .before .before .before .before .before .before .args in
+    let told = c .before .before .before .before in
+    let index = told .before .before in
+    let kind = index .before .before in
+    let a = kind .before .before .args in
     c .before .before .byte .ensures .1
-    ∙ last-seen (a .building) BuildingKind.Forward (a .buffer .now) (a .byte) (c .before .before .before .before .before .before .before .before .kind .ensures)
-    (c .before .before .before .before .enum-told .given .1) (c .before .before .before .before .before .before .before .next .ensures)
-    (c .before .before .before .before .before .before .index .ensures)
+    ∙ last-seen (a .building) BuildingKind.Forward (a .buffer .now) (a .byte) (kind .kind .ensures) (told .enum-told .given .1)
+    (index .before .next .ensures) (index .index .ensures)
 
 returns-2 : tie.Need-returns-2
 returns-2 c =
-    let a = c .before .before .before .before .before .before .args in
-    sym (over-none (a .buffer .now) (c .before .before .index .result))
-    ∙ last-seen (a .building) BuildingKind.SendHeaders (a .buffer .now) (a .byte) (c .before .before .before .before .kind .ensures)
-    (c .enum-told2 .given .1) (c .before .before .before .next .ensures) (c .before .before .index .ensures)
+    let index = c .before .before in
+    let kind = index .before .before in
+    let a = kind .before .before .args in
+    sym (over-none (a .buffer .now) (index .index .result))
+    ∙ last-seen (a .building) BuildingKind.SendHeaders (a .buffer .now) (a .byte) (kind .kind .ensures) (c .enum-told2 .given .1)
+    (index .before .next .ensures) (index .index .ensures)
 
 pub put-last-spec : {M : Type 1} → statement M
 put-last-spec =

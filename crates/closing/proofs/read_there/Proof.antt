@@ -31,15 +31,19 @@ read-at-server-requires c κs = search needs
 
 returns : tie.Need-returns
 returns c =
-    let a = c .before .before .before .before .before .before .before .args in
+    let told = c .before .before .before in
+    let kind = told .before .before in
+    let a = kind .before .before .args in
     c .before .read-at-container .ensures .0
-    ∙ read-there (a .connection) (a .building) (a .packet .now) BuildingKind.Forward _ (c .before .before .before .before .before .kind .ensures) (c .before .before .before .enum-told .given .1) (omega arith)
+    ∙ read-there (a .connection) (a .building) (a .packet .now) BuildingKind.Forward _ (kind .kind .ensures) (told .enum-told .given .1) (omega arith)
 
 returns-2 : tie.Need-returns-2
 returns-2 c =
-    let a = c .before .before .before .before .before .before .before .args in
+    let told = c .before .before .before in
+    let kind = told .before .before in
+    let a = kind .before .before .args in
     c .before .read-at-server .ensures .0
-    ∙ read-there (a .connection) (a .building) (a .packet .now) BuildingKind.SendHeaders _ (c .before .before .before .before .before .kind .ensures) (c .before .before .before .enum-told2 .given .1) (omega arith)
+    ∙ read-there (a .connection) (a .building) (a .packet .now) BuildingKind.SendHeaders _ (kind .kind .ensures) (told .enum-told2 .given .1) (omega arith)
 
 pub read-there-spec : {M : Type 1} → statement M
 read-there-spec =

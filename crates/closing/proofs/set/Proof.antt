@@ -12,8 +12,8 @@ count-place-requires c κs = search needs
 headers-requires : tie.Need-headers-requires
 headers-requires c κs = search needs
 
-closed-length-requires : tie.Need-closed-length-requires
-closed-length-requires c κs = search needs
+needs-requires : tie.Need-needs-requires
+needs-requires c κs = search needs
 
 sub-payload : tie.Need-sub-payload
 sub-payload c = search needs
@@ -59,12 +59,18 @@ same-length c = search needs
 
 returns : tie.Need-returns
 returns c =
-    let s = c .before .before .before .before .before .before .before .before .before .before .before .before .before .before .before .before .before .before .before .before .before .before .before .before .before in
-    set-by (s .args .building) (s .args .buffer .now) (s .pre) _
-    (c .before .before .before .before .before .before .before .before .before .before .before .before .before .before .before .before .before .before .before .before .before .before .before .count-place .ensures) (c .before .before .before .before .before .before .before .before .before .before .before .before .before .before .before .before .before .index .ensures) (c .before .before .before .before .before .before .before .before .before .before .before .before .before .before .before .before .before .before .before .before .before .before .headers .ensures) (c .before .before .before .before .before .before .before .before .before .before .before .before .before .before .before .before .before .before .before .before .before .closed-length .ensures)
-    (λ i. omega (arith, c .before .before .before .before .before .before .before .before .before .before .before .before .before .before .before .before .before .before .before .before .before .before .before .before .slice-known .given i)) (c .before .before .before .before .before .before .before .before .before .before .before .before .before .before .before .before .before .before .before .integer-at .ensures) (c .before .before .before .before .before .before .before .before .before .before .before .before .before .before .before .before .integer .ensures .1)
-    (λ i. omega (arith, c .before .before .before .before .before .before .before .before .before .before .before .before .before .before .slice-known2 .given i)) (c .before .before .before .before .before .before .before .before .before .before .before .before .integer-at2 .ensures) (c .before .before .before .before .before .before .before .before .before .before .integer2 .ensures .1)
-    (c .before .before .before .before .before .before .next .ensures) (c .before .before .before .before .before .index2 .ensures) (c .before .before .before .before .byte-at .ensures) (c .before .before .put-last .ensures)
+    let third = c .before .before in
+    let seen = third .before .before in
+    let second = seen .before .before .before .before .before .before in
+    let first = second .before .before .before .before .before .before in
+    let saved = first .before .before .before in
+    let size = saved .before .before in
+    let start = size .before .before .before .before in
+    set-by (start .args .building) (start .args .buffer .now) (start .pre) _
+    (size .before .before .count-place .ensures) (first .before .index .ensures) (size .before .headers .ensures) (size .needs .ensures)
+    (λ i. omega (arith, size .before .before .before .slice-known .given i)) (saved .integer-at .ensures) (first .integer .ensures .1)
+    (λ i. omega (arith, second .before .before .before .before .slice-known2 .given i)) (second .before .before .integer-at2 .ensures) (second .integer2 .ensures .1)
+    (seen .before .before .next .ensures) (seen .before .index2 .ensures) (seen .byte-at .ensures) (third .put-last .ensures)
 
 pub set-spec : {M : Type 1} → statement M
 set-spec =
@@ -72,7 +78,7 @@ set-spec =
     (tie.spec
     count-place-requires
     headers-requires
-    closed-length-requires
+    needs-requires
     sub-payload
     cast-payload
     integer-at-requires

@@ -1,12 +1,12 @@
--- `closing::closed_length` meets its contract, kind by kind.
+-- `closing::needs` meets its contract, kind by kind.
 -- Assumes nothing.
 use native.Mathlib.Nat.{add-zero}
 use mathlib.Core.Path.{sym, _∙_}
 use Rattle.pieces.specs.declared.BuildingKind.{BuildingKind}
 use Rattle.closing.proofs.Setting.{length-seen}
 use borrow.Author.Needs.{needs}
-use Rattle.closing.proofs.closed_length.Statement.{statement}
-use Rattle.closing.proofs.closed_length.Tie as tie
+use Rattle.closing.proofs.needs.Statement.{statement}
+use Rattle.closing.proofs.needs.Tie as tie
 
 kind-requires : tie.Need-kind-requires
 kind-requires c κs = search needs
@@ -39,8 +39,8 @@ returns-2 c =
     ∙ length-seen b BuildingKind.SendHeaders (c .before .before .before .before .kind .ensures) (c .enum-told2 .given .1)
     (c .before .before .before .next .ensures) (c .before .before .index .ensures)
 
-pub closed-length-spec : {M : Type 1} → statement M
-closed-length-spec =
+pub needs-spec : {M : Type 1} → statement M
+needs-spec =
     tie.close
     (tie.spec
     kind-requires
