@@ -15,12 +15,11 @@ use Rattle.wire.specs.Field.{integerAt}
 use Rattle.wire.specs.declared.Direction.{Direction}
 use Rattle.wire.specs.declared.read.NumberRead.{NumberRead}
 use Rattle.wire.proofs.Field.{number-read}
-use Rattle.connection.specs.Cycle.{directionOf, inState, stepOf}
+use Rattle.connection.specs.Cycle.{directionOf, inState}
 use Rattle.connection.specs.declared.Connection.{Connection}
 use Rattle.connection.specs.declared.Kind.{Kind}
-use Rattle.connection.specs.declared.Step.{Step}
 use Rattle.payload.specs.Code.{kindAt}
-use Rattle.payload.specs.Kinds.{packetAt, moveIn}
+use Rattle.payload.specs.Kinds.{packetAt}
 use Rattle.payload.specs.declared.KindRead.{KindRead}
 use Rattle.payload.specs.declared.packet.PacketRead.{PacketRead}
 use Rattle.fields.specs.Fault.{unless, orElse, fitFault}
@@ -35,9 +34,10 @@ use Rattle.writer.specs.Meaning.{Written, meaning, isWritten}
 use Rattle.reader.specs.declared.frame.FrameRead.{FrameRead}
 use Rattle.reader.specs.Frame.{leadingDiffers, lengthAt, frameOf, frameAt}
 use Rattle.reader.specs.Meaning as read
-use Rattle.reader.specs.Reading.{parsedOf, parseWhole, parseFrame, parse, readAsBody, stepped, accepting, judging, withRoom, reading}
+use Rattle.reader.specs.Reading.{parsedOf, parseWhole, parseFrame, parse, readAsBody, accepting, judging, withRoom, reading}
 use Rattle.reader.proofs.Framing.{length-is}
-use Rattle.reader.proofs.Acceptance.{Acceptance, accepted-is}
+use Rattle.reader.proofs.Later.{Answered}
+use Rattle.reader.proofs.Acceptance.{Acceptance, accepted-is, accepting-answers}
 use Rattle.reader.proofs.Inside.{told-inside}
 use Rattle.closing.specs.Closing.{closedLength, closingFault, closed, closedPacket, judgement, verdict, closeOutcome, whereDone, closeBuffer}
 use Rattle.closing.specs.Private.{Closable}
@@ -123,13 +123,7 @@ module _ (c : Connection) (r : Building) (buffer : List ℕ) where
 
 -- a packet whose fields were read is not answered with "needs"
 accepting-whole : (c : Connection) (taken n : ℕ) (r : PacketRead) → accepting c taken r ≡ read.needs n → ⊥
-unfolding accepting
-accepting-whole c taken n (PacketRead.Refused k) e = let z : _≡_ {A = ℕ} 0 1 = cc in omega arith
-accepting-whole c taken n (PacketRead.Packet packet) e = go (stepOf c (moveIn packet)) e
-  where
-    go : (step : Step) → stepped packet taken step ≡ read.needs n → ⊥
-    go (Step.Refused k) e = let z : _≡_ {A = ℕ} 0 1 = cc in omega arith
-    go (Step.Next next) e = let z : _≡_ {A = ℕ} 0 1 = cc in omega arith
+accepting-whole c taken n r e = subst Answered e (accepting-answers c taken r)
 
 -- nor is a whole packet
 whole-answered : (d : Direction) (body : Bool) (c : Connection) (s : List ℕ) (n : ℕ) → judging c (parseWhole d body s) ≡ read.needs n → ⊥

@@ -194,7 +194,7 @@ NeedsMore size (refused n) = Unit
 NeedsMore size (accepted t taken next) = Unit
 
 -- a packet that was read is not answered with "needs"
-accepting-answers : (c : Connection) (taken : ℕ) (r : PacketRead) → Answered (accepting c taken r)
+pub accepting-answers : (c : Connection) (taken : ℕ) (r : PacketRead) → Answered (accepting c taken r)
 unfolding accepting
 accepting-answers c taken (PacketRead.Refused n) = tt
 accepting-answers c taken (PacketRead.Packet packet) = go (stepOf c (moveIn packet))

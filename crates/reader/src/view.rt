@@ -5,12 +5,15 @@ ghost use Prim.Native.Nat.{_+_};
 ghost use lib.ListN.{getD};
 ghost use Rattle.wire.specs.Bytes.{part};
 ghost use Rattle.reader.specs.View.{nullView, textView, nameView, integerView};
+ghost use Rattle.names.specs.Attribute.{attributeKind};
 ghost use Rattle.names.specs.Header.{headerNames};
 ghost use Rattle.names.specs.Names.{nameFor};
 ghost use Rattle.names.specs.Row.{padded};
 use connection::Place;
+use names::AttributeKind;
 use names::Name;
 use names::NameList;
+use names::attribute::kind_of;
 use names::header;
 use names::table;
 use payload::packet::Part;
@@ -99,6 +102,17 @@ pub fn attribute_name_at(packet: &[u8], place: Place) -> &[u8]
     ensures { λ r. ⌜ now r ≡ textView (now (packet .entry)) (place .0 + 1) ⌝ }
 {
     text_from(packet, place.index() + 1)
+}
+
+// What value the attribute at a place has, by its code: a string, an integer, or a name and a string. Not served where no code is there.
+pub fn attribute_kind_at(packet: &[u8], place: Place) -> AttributeKind
+    ensures { λ r. ⌜ r ≡ attributeKind (getD (now (packet .entry)) (place .0) 0) ⌝ }
+{
+    let at = place.index();
+    if at < packet.len() {
+        return kind_of(packet[at]);
+    }
+    kind_of(0)
 }
 
 // A part of the packet: a delivered body or chunk.
