@@ -5,7 +5,7 @@ use cases::text;
 use pieces::Added;
 use writer::Sent;
 
-// Writes the answer to a packet that one call sends; the place behind it.
+// Writes the answer to a packet that is sent; the place behind it.
 pub fn sent(out: &mut [u8], answer: Sent, buffer: &[u8], listed: &[u8]) -> usize {
     match answer {
         Sent::Refused(n) => refused(out, n, buffer, listed),

@@ -1,7 +1,8 @@
-// The library's answers to the cases of building: packets that one call sends (`send`), and pieces (`piece`). The building half of the
-// program `vectors`.
+// The library's answers to the cases of building: packets that one call sends (`send`), and those that are built in pieces (`piece`). The
+// building half of the program `vectors`.
 mod attribute;
 mod built;
+mod close;
 mod forward;
 mod header;
 pub mod piece;

@@ -1,5 +1,6 @@
-// The commands that make a piece. Each is lent the buffer of its case, and room for the bytes of its strings.
+// The commands that make a piece, and closing. Each is lent the buffer of its case, and room for the bytes of its strings.
 use crate::attribute;
+use crate::close;
 use crate::forward;
 use crate::header;
 use crate::send_headers;
@@ -25,6 +26,7 @@ fn buffer_word(command: usize) -> usize {
         commands::FORWARD => forward::BUFFER,
         commands::SEND_HEADERS => send_headers::BUFFER,
         commands::HEADER => header::BUFFER,
+        commands::CLOSE => close::BUFFER,
         _ => attribute::BUFFER,
     }
 }
@@ -50,6 +52,7 @@ fn made(command: usize, case: &[u8], buffer: &mut [u8], texts: &mut [u8], out: &
         commands::FORWARD => forward::answer(case, buffer, texts, out),
         commands::SEND_HEADERS => send_headers::answer(case, buffer, texts, out),
         commands::HEADER => header::answer(case, buffer, texts, out),
+        commands::CLOSE => close::answer(case, buffer, out),
         _ => attribute::answer(case, buffer, texts, out),
     }
 }

@@ -25,7 +25,9 @@ pub const HEADER: usize = 10;
 
 pub const ATTRIBUTE: usize = 11;
 
-pub const UNKNOWN: usize = 12;
+pub const CLOSE: usize = 12;
+
+pub const UNKNOWN: usize = 13;
 
 // The most bytes that are read, sent or lent as a buffer in a case.
 pub const BYTES: usize = 16384;

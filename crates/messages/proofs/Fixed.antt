@@ -1,5 +1,5 @@
 -- The fixed fields of a Forward or a Send Headers that were written: reading refuses them with their first fault, and where there is none it
--- reads each where it was written, with its value.
+-- reads each where it was written, with its value. Each is read where the one before it ends, and is judged as the piece judges it.
 -- Assumes nothing.
 use native.Mathlib.Omega.{arith}
 use borrow.Author.Tests.{le-leb, ne-eqb}
@@ -18,20 +18,21 @@ use Rattle.wire.specs.declared.read.NumberRead.{NumberRead}
 use Rattle.wire.specs.declared.read.StringRead.{StringRead}
 use Rattle.wire.proofs.RoundTrip.{integer-written, byte-written, boolean-written}
 use Rattle.places.specs.Entries.{ended, ending}
-use Rattle.payload.specs.declared.field.FieldRead.{FieldRead}
-use Rattle.payload.specs.declared.packet.PacketRead.{PacketRead}
 use Rattle.payload.specs.Sequence.{afterCode, behind, stringField, stringFieldAt, stringAfter, booleanNumber, booleanField, booleanFieldAt, booleanAfter, numberField, byteAfter, anyIntegerAfter, integerAfter, bounded}
 use Rattle.payload.specs.Lists.{headersAfter, listsAt}
 use Rattle.payload.specs.Forward.{forwardOf, forwardAt}
 use Rattle.payload.specs.SendHeaders.{sendHeadersOf, sendHeadersAt}
-use Rattle.fields.specs.Fault.{unless, orElse, faultAfter, firstFault, stringFault, rangeFault}
+use Rattle.payload.specs.declared.field.FieldRead.{FieldRead}
+use Rattle.payload.specs.declared.packet.PacketRead.{PacketRead}
+use Rattle.fields.specs.Fault.{unless, orElse, firstFault, stringFault, rangeFault}
 use Rattle.fields.specs.Field.{opening, faultsOf}
-use Rattle.fields.proofs.Sizes.{or-first, or-second, boolean-one}
+use Rattle.fields.proofs.Sizes.{boolean-one}
+use Rattle.pieces.specs.Record.{kindIn}
+use Rattle.pieces.specs.Fixed.{fixed, sendHeadersFields, forwardFields}
 use Rattle.pieces.specs.declared.BuildingKind.{BuildingKind}
 use Rattle.pieces.specs.declared.forward.Numbers.{Numbers}
 use Rattle.pieces.specs.declared.forward.Nulls.{Nulls}
-use Rattle.pieces.specs.Record.{kindIn}
-use Rattle.pieces.specs.Fixed.{fixed, sendHeadersFields, forwardFields}
+use Rattle.messages.proofs.Fine.{faultless}
 use Rattle.messages.proofs.Judged.{stood, string-stood, among}
 
 -- from a place on, a list has these bytes
@@ -54,7 +55,7 @@ pub ahead-holds : {s : List ℕ} {at : ℕ} {rest : List ℕ} (P : List ℕ → 
 ahead-holds P h r = rw (r .is, ← r .place) (h (r .front))
 
 -- a field, unless it or one before it has a fault
-abbrev pub fieldUnless : ℕ → ℕ → ℕ → ℕ → FieldRead
+abbrev fieldUnless : ℕ → ℕ → ℕ → ℕ → FieldRead
 fieldUnless fault place value next = pick (eqb fault 0) (FieldRead.Field place value next) (FieldRead.Refused fault)
 
 -- a field behind another one
@@ -67,9 +68,9 @@ behind-unless read f g p v at q w n e = go (eqb f 0) refl
     go false h = rw h
 
 -- a field was read behind others: the first fault of them all; its place, value and end; and the bytes that stand behind it
-pub record Reads (s : List ℕ) (got : FieldRead) (fault place value next : ℕ) (rest : List ℕ) : Type 0 where
-  pub is : got ≡ fieldUnless fault place value next
-  pub ahead : Ahead s next rest
+record Reads (s : List ℕ) (got : FieldRead) (fault place value next : ℕ) (rest : List ℕ) : Type 0 where
+  is : got ≡ fieldUnless fault place value next
+  ahead : Ahead s next rest
 
 -- the field behind it
 reads-next : {s : List ℕ} {got : FieldRead} {f p v at : ℕ} (x rest : List ℕ) (read : ℕ → FieldRead) (g w n : ℕ) → Reads s got f p v at (x ++ rest)
@@ -100,8 +101,8 @@ string-unless n f next null text = go (eqb f 0) null
     go true false = refl
 
 module _ {s : List ℕ} {got : FieldRead} {f p v at : ℕ} (rest : List ℕ) where
-  -- a byte or an integer from `low` to `high`
-  pub byte-reads : (low high n : ℕ) → Reads s got f p v at (n ∷ rest)
+  -- a byte from `low` to `high`
+  byte-reads : (low high n : ℕ) → Reads s got f p v at (n ∷ rest)
       → Reads s (byteAfter s low high 7 got) (orElse f (rangeFault low high n)) at n (at + 1) rest
   unfolding byteAfter
   byte-reads low high n r =
@@ -110,7 +111,8 @@ module _ {s : List ℕ} {got : FieldRead} {f p v at : ℕ} (rest : List ℕ) whe
       (λ a. ap (bounded (length a) low high 7) (byte-written a rest n) ∙ bounded-unless (length a) low high n (length a + 1))
       (r .ahead))
 
-  pub integer-reads : (low high n : ℕ) → Reads s got f p v at (integerBytes n ++ rest) → n < 65536
+  -- an integer from `low` to `high`
+  integer-reads : (low high n : ℕ) → Reads s got f p v at (integerBytes n ++ rest) → n < 65536
       → Reads s (integerAfter s low high 7 got) (orElse f (rangeFault low high n)) at n (at + 2) rest
   unfolding integerAfter
   integer-reads low high n r h =
@@ -119,8 +121,8 @@ module _ {s : List ℕ} {got : FieldRead} {f p v at : ℕ} (rest : List ℕ) whe
       (λ a. ap (bounded (length a) low high 7) (integer-written a rest n h) ∙ bounded-unless (length a) low high n (length a + 2))
       (r .ahead))
 
-  -- an integer up to `high`, and any integer
-  pub count-reads : (high fault n : ℕ) → Reads s got f p v at (integerBytes n ++ rest) → n ≤ high → n < 65536
+  -- an integer up to `high`
+  count-reads : (high fault n : ℕ) → Reads s got f p v at (integerBytes n ++ rest) → n ≤ high → n < 65536
       → Reads s (integerAfter s 0 high fault got) (orElse f 0) at n (at + 2) rest
   unfolding integerAfter
   count-reads high fault n r few h =
@@ -129,7 +131,8 @@ module _ {s : List ℕ} {got : FieldRead} {f p v at : ℕ} (rest : List ℕ) whe
       (λ a. ap (bounded (length a) 0 high fault) (integer-written a rest n h) ∙ rw (le-leb 0 n (omega arith), le-leb n high few))
       (r .ahead))
 
-  pub any-integer-reads : (n : ℕ) → Reads s got f p v at (integerBytes n ++ rest) → n < 65536
+  -- any integer
+  any-integer-reads : (n : ℕ) → Reads s got f p v at (integerBytes n ++ rest) → n < 65536
       → Reads s (anyIntegerAfter s got) (orElse f 0) at n (at + 2) rest
   unfolding anyIntegerAfter
   any-integer-reads n r h =
@@ -139,7 +142,7 @@ module _ {s : List ℕ} {got : FieldRead} {f p v at : ℕ} (rest : List ℕ) whe
       (r .ahead))
 
   -- a boolean
-  pub boolean-reads : (value : Bool) → Reads s got f p v at (booleanBytes value ++ rest)
+  boolean-reads : (value : Bool) → Reads s got f p v at (booleanBytes value ++ rest)
       → Reads s (booleanAfter s got) (orElse f 0) at (booleanNumber value) (at + 1) rest
   unfolding booleanAfter booleanFieldAt
   boolean-reads value r =
@@ -149,7 +152,7 @@ module _ {s : List ℕ} {got : FieldRead} {f p v at : ℕ} (rest : List ℕ) whe
       (r .ahead))
 
   -- a string
-  pub string-reads : (field : StringField) (null : Bool) (text : List ℕ) → Reads s got f p v at (stringBytes null text ++ rest) → length text ≤ 8192
+  string-reads : (field : StringField) (null : Bool) (text : List ℕ) → Reads s got f p v at (stringBytes null text ++ rest) → length text ≤ 8192
       → Reads s (stringAfter s field got) (orElse f (stringFault field null text)) at 0 (at + length (stringBytes null text)) rest
   unfolding stringAfter stringFieldAt
   string-reads field null text r h =
@@ -165,29 +168,15 @@ pub boolean-back : (value : Bool) → eqb (booleanNumber value) 1 ≡ value
 boolean-back true = refl
 boolean-back false = refl
 
--- no fault in a list
-abbrev pub Faultless : List ℕ → Type 0
-Faultless [] = Unit
-Faultless (fault ∷ later) = (fault ≡ 0) × Faultless later
-
--- that is so where the first of them is none
-faultless-after : (before : ℕ) (faults : List ℕ) → faultAfter before faults ≡ 0 → (before ≡ 0) × Faultless faults
-faultless-after before [] h = (h, tt)
-faultless-after before (fault ∷ later) h =
-    let rest = faultless-after (orElse before fault) later h in
-    (or-first before fault (rest .0), (or-second before fault (rest .0), rest .1))
-
-pub faultless : (faults : List ℕ) → firstFault faults ≡ 0 → Faultless faults
-faultless faults h = faultless-after 0 faults h .1
-
 -- a field of so many bytes with this value, behind another one
 abbrev pub reached : ℕ → ℕ → FieldRead → FieldRead
 reached value size = behind (λ at. FieldRead.Field at value (at + size))
 
--- before the first of them only the opening was read, which has five bytes
+-- before the first of them only the opening was read
 reads-start : (s a rest : List ℕ) → length a ≡ 5 → s ≡ a ++ rest → Reads s afterCode 0 4 0 5 rest
 reads-start s a rest opened e = record { is = refl; ahead = record { front = a; is = e; place = opened } }
 
+-- which has five bytes
 pub opening-five : (kind : BuildingKind) (n : ℕ) → length (opening (kindIn kind) n) ≡ 5
 opening-five BuildingKind.Forward n = refl
 opening-five BuildingKind.SendHeaders n = refl
@@ -202,10 +191,9 @@ module _ (a b : List ℕ) (status : ℕ) (null : Bool) (message : List ℕ) (cou
       let g2 = orElse g1 (stringFault StringField.Message null message) in
       let g3 = orElse g2 0 in
       let n = 7 + length (stringBytes null message) in
-      (sendHeadersAt s
+      sendHeadersAt s
       ≡ ending (sendHeadersOf (length s) (fieldUnless g1 5 status 7) (fieldUnless g2 7 0 n) (fieldUnless g3 n count (n + 2)))
       (headersAfter Direction.ToServer s (fieldUnless g3 n count (n + 2))))
-      × Ahead s (n + 2) b)
   unfolding sendHeadersAt
   send-headers-by =
       let y : List ℕ = stringBytes null message in
@@ -214,7 +202,7 @@ module _ (a b : List ℕ) (status : ℕ) (null : Bool) (message : List ℕ) (cou
       let r1 = integer-reads (y ++ tail) 100 599 status (reads-start s a (integerBytes status ++ (y ++ tail)) opened (simp append-assoc)) small in
       let r2 = string-reads tail StringField.Message null message r1 short in
       let r3 = count-reads b 100 11 count r2 few (omega arith) in
-      (rw (r3 .is, r2 .is, r1 .is), r3 .ahead)
+      rw (r3 .is, r2 .is, r1 .is)
 
   -- they are refused with their first fault
   pub send-headers-judged : (firstFault (faultsOf (fixed BuildingKind.SendHeaders (sendHeadersFields status null message))) ≡ 0 → ⊥)
@@ -223,7 +211,7 @@ module _ (a b : List ℕ) (status : ℕ) (null : Bool) (message : List ℕ) (cou
   unfolding headersAfter
   send-headers-judged bad =
       let g : ℕ = firstFault (faultsOf (fixed BuildingKind.SendHeaders (sendHeadersFields status null message))) in
-      rw (ne-eqb g 0 bad) at (send-headers-by .0)
+      rw (ne-eqb g 0 bad) at send-headers-by
 
   -- and where there is none each is read where it is, with its value, and what stands behind the count is read on
   pub send-headers-read : firstFault (faultsOf (fixed BuildingKind.SendHeaders (sendHeadersFields status null message))) ≡ 0
@@ -235,21 +223,7 @@ module _ (a b : List ℕ) (status : ℕ) (null : Bool) (message : List ℕ) (cou
       sendHeadersAt s ≡ ending (sendHeadersOf (length s) f1 f2 f3) (headersAfter Direction.ToServer s f3))
   send-headers-read fine =
       let none = faultless (faultsOf (fixed BuildingKind.SendHeaders (sendHeadersFields status null message))) fine in
-      rw (none .1 .0, none .1 .1 .0) at (send-headers-by .0)
-
-  pub send-headers-ahead : Ahead (among a (sendHeadersFields status null message) (integerBytes count ++ b)) (7 + length (stringBytes null message) + 2) b
-  send-headers-ahead = send-headers-by .1
-
--- where a Forward's count of headers is
-abbrev pub forwardCount : Nulls → List ℕ → List ℕ → List ℕ → List ℕ → List ℕ → ℕ
-forwardCount nulls protocol uri addr host name =
-    6 + length (stringBytes (nulls .protocol) protocol)
-    + length (stringBytes (nulls .«req_uri») uri)
-    + length (stringBytes (nulls .«remote_addr») addr)
-    + length (stringBytes (nulls .«remote_host») host)
-    + length (stringBytes (nulls .«server_name») name)
-    + 2
-    + 1
+      rw (none .1 .0, none .1 .1 .0) at send-headers-by
 
 -- the fixed fields of a Forward, behind an opening, and a count of headers
 module _ (a b : List ℕ) (numbers : Numbers) (nulls : Nulls) (protocol uri addr host name : List ℕ) (count : ℕ) (opened : length a ≡ 5)
@@ -272,13 +246,12 @@ module _ (a b : List ℕ) (numbers : Numbers) (nulls : Nulls) (protocol uri addr
       let n5 = n4 + length (stringBytes (nulls .«remote_addr») addr) in
       let n6 = n5 + length (stringBytes (nulls .«remote_host») host) in
       let n7 = n6 + length (stringBytes (nulls .«server_name») name) in
-      (forwardAt s
+      forwardAt s
       ≡ ending
       (forwardOf (fieldUnless g1 5 (numbers .method) 6) (fieldUnless g2 6 0 n3) (fieldUnless g3 n3 0 n4) (fieldUnless g4 n4 0 n5) (fieldUnless g5 n5 0 n6)
       (fieldUnless g6 n6 0 n7) (fieldUnless g7 n7 (numbers .«server_port») (n7 + 2)) (fieldUnless g8 (n7 + 2) (booleanNumber (numbers .«is_ssl»)) (n7 + 2 + 1))
       (fieldUnless g9 (n7 + 2 + 1) count (n7 + 2 + 1 + 2)))
       (listsAt s (fieldUnless g9 (n7 + 2 + 1) count (n7 + 2 + 1 + 2))))
-      × Ahead s (n7 + 2 + 1 + 2) b)
   unfolding forwardAt
   forward-by =
       let s : List ℕ = among a (forwardFields numbers nulls protocol uri addr host name) (integerBytes count ++ b) in
@@ -299,7 +272,7 @@ module _ (a b : List ℕ) (numbers : Numbers) (nulls : Nulls) (protocol uri addr
       let r7 = any-integer-reads t7 (numbers .«server_port») r6 port in
       let r8 = boolean-reads t8 (numbers .«is_ssl») r7 in
       let r9 = count-reads b 100 11 count r8 few (omega arith) in
-      (rw (r9 .is, r8 .is, r7 .is, r6 .is, r5 .is, r4 .is, r3 .is, r2 .is, r1 .is), r9 .ahead)
+      rw (r9 .is, r8 .is, r7 .is, r6 .is, r5 .is, r4 .is, r3 .is, r2 .is, r1 .is)
 
   -- they are refused with their first fault
   pub forward-judged : (firstFault (faultsOf (fixed BuildingKind.Forward (forwardFields numbers nulls protocol uri addr host name))) ≡ 0 → ⊥)
@@ -308,7 +281,7 @@ module _ (a b : List ℕ) (numbers : Numbers) (nulls : Nulls) (protocol uri addr
   unfolding listsAt headersAfter
   forward-judged bad =
       let g : ℕ = firstFault (faultsOf (fixed BuildingKind.Forward (forwardFields numbers nulls protocol uri addr host name))) in
-      rw (ne-eqb g 0 bad) at (forward-by .0)
+      rw (ne-eqb g 0 bad) at forward-by
 
   -- and where there is none each is read where it is, with its value, and what stands behind the count is read on
   pub forward-read : firstFault (faultsOf (fixed BuildingKind.Forward (forwardFields numbers nulls protocol uri addr host name))) ≡ 0
@@ -326,8 +299,4 @@ module _ (a b : List ℕ) (numbers : Numbers) (nulls : Nulls) (protocol uri addr
       forwardAt s ≡ ending (forwardOf f1 f2 f3 f4 f5 f6 f7 f8 f9) (listsAt s f9))
   forward-read fine =
       let none = faultless (faultsOf (fixed BuildingKind.Forward (forwardFields numbers nulls protocol uri addr host name))) fine in
-      rw (none .1 .0, none .1 .1 .0, none .1 .1 .1 .0, none .1 .1 .1 .1 .0, none .1 .1 .1 .1 .1 .0, none .1 .1 .1 .1 .1 .1 .0) at (forward-by .0)
-
-  pub forward-ahead : Ahead (among a (forwardFields numbers nulls protocol uri addr host name) (integerBytes count ++ b))
-      (forwardCount nulls protocol uri addr host name + 2) b
-  forward-ahead = forward-by .1
+      rw (none .1 .0, none .1 .1 .0, none .1 .1 .1 .0, none .1 .1 .1 .1 .0, none .1 .1 .1 .1 .1 .0, none .1 .1 .1 .1 .1 .1 .0) at forward-by

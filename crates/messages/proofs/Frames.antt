@@ -1,56 +1,35 @@
--- A whole packet apart from any connection: its frame, the kind that it is read as, and what its fields say. Every connection that allows
--- its move accepts it, whatever stands behind it, and every packet that is accepted is such a one: of the moves that a connection allows,
--- a body packet is exactly the one that is read as such.
+-- The frame of a whole packet: its direction's leading bytes, its length, and so many bytes behind that. What is written as a packet has such a
+-- frame, and a whole packet is its head and its payload: reading looks at nothing else of it to find it whole.
 -- Assumes nothing.
-use mathlib.Core.Path.{_≡_, refl, sym, ap, _∙_, subst}
+use native.Mathlib.Omega.{arith}
+use borrow.Author.Tests.{le-leb, le-ltb, eq-eqb, eqb-true}
+use mathlib.Core.Path.{_≡_, refl, sym, ap, _∙_}
 use mathlib.Core.Bool.{Bool, true, false, not, false≢true}
 use mathlib.Core.List.{List, [], _∷_, _++_}
 use Prim.Native.Nat.{ℕ, _+_, _≤_}
-use native.Mathlib.Omega.{arith}
-use native.Mathlib.Nat.{zero-add}
-use borrow.Author.Tests.{le-leb, leb-true, le-ltb, eq-eqb, eqb-true}
 use lib.Dec.{leb, ltb, eqb}
 use lib.ListN.{length, getD, drop, length-drop, take-append-drop}
-use lib.Seq.{take-length, getD-take, drop-cons}
-use Rattle.wire.specs.Pick.{pick, both, either}
+use lib.Seq.{getD-take}
+use Rattle.wire.specs.Pick.{pick, either}
 use Rattle.wire.specs.Bytes.{part, integerIn}
-use Rattle.wire.specs.Field.{byteAt, integerAt}
+use Rattle.wire.specs.Field.{integerAt}
 use Rattle.wire.specs.Packet.{leading, head, packet}
 use Rattle.wire.specs.declared.Direction.{Direction}
 use Rattle.wire.specs.declared.read.NumberRead.{NumberRead}
-use Rattle.wire.proofs.Tests.{both-first}
-use Rattle.wire.proofs.Field.{number-read, head-four}
+use Rattle.wire.proofs.Field.{number-read}
 use Rattle.wire.proofs.Bytes.{length-part, part-add, part-one}
-use Rattle.wire.proofs.RoundTrip.{Bytes, byte-written, integer-kept}
-use Rattle.connection.specs.Connection.{isIdle, isBusy, bodyDue}
-use Rattle.connection.specs.Cycle.{kindOf, directionOf, inSize, allowed, after}
-use Rattle.connection.specs.declared.State.{State}
-use Rattle.connection.specs.declared.Kind.{Kind}
-use Rattle.connection.specs.declared.Move.{Move}
-use Rattle.connection.specs.declared.Connection.{Connection}
-use Rattle.payload.specs.Code.{codeOf, codeKind, kindOfCode, kindAt}
-use Rattle.payload.specs.Kinds.{packetAt, kindIn, moveIn}
-use Rattle.payload.specs.declared.KindRead.{KindRead}
-use Rattle.payload.specs.declared.packet.Packet.{Packet}
-use Rattle.payload.specs.declared.packet.PacketRead.{PacketRead}
-use Rattle.payload.proofs.Laws.{kind-is, code-found, kind-direction}
-use Rattle.payload.proofs.Parsed.{parsed-kind, move-kind}
-use Rattle.reader.specs.declared.frame.FrameRead.{FrameRead}
+use Rattle.wire.proofs.RoundTrip.{Bytes, integer-kept}
 use Rattle.reader.specs.Frame.{differs, leadingDiffers, lengthAt, frameAt}
-use Rattle.reader.specs.Meaning.{Told, accepted, told, placesNeeded}
-use Rattle.reader.specs.Reading.{readAsBody, reading}
+use Rattle.reader.specs.declared.frame.FrameRead.{FrameRead}
 use Rattle.reader.proofs.Framing.{frame-inside, length-is, frame-is}
-use Rattle.reader.proofs.Acceptance.{accepted-by, accepted-is}
-use Rattle.reader.proofs.Later.{Answered, later-answer}
-use Rattle.reader.proofs.Inside.{told-inside}
 
 -- what the frame of a whole packet is: the direction's leading bytes, a length, and so many bytes behind it
-pub record Framed (d : Direction) (s : List ℕ) (n : ℕ) : Type 0 where
-  pub first : getD s 0 0 ≡ getD (leading d) 0 0
-  pub second : getD s 1 0 ≡ getD (leading d) 1 0
-  pub size : 4 + integerIn s 2 ≡ n
-  pub most : n ≤ 8192
-  pub there : n ≤ length s
+record Framed (d : Direction) (s : List ℕ) (n : ℕ) : Type 0 where
+  first : getD s 0 0 ≡ getD (leading d) 0 0
+  second : getD s 1 0 ≡ getD (leading d) 1 0
+  size : 4 + integerIn s 2 ≡ n
+  most : n ≤ 8192
+  there : n ≤ length s
 
 -- leading bytes that are the direction's do not differ
 leading-same : (d : Direction) (s : List ℕ) → 2 ≤ length s → getD s 0 0 ≡ getD (leading d) 0 0 → getD s 1 0 ≡ getD (leading d) 1 0
@@ -62,7 +41,7 @@ leading-same d s h p q =
     rw (a, b, eq-eqb (getD s 0 0) (getD (leading d) 0 0) p, eq-eqb (getD s 1 0) (getD (leading d) 1 0) q)
 
 -- a frame with these is whole
-pub framed-whole : {d : Direction} {s : List ℕ} {n : ℕ} → Framed d s n → frameAt d s ≡ FrameRead.Whole n
+framed-whole : {d : Direction} {s : List ℕ} {n : ℕ} → Framed d s n → frameAt d s ≡ FrameRead.Whole n
 unfolding integerAt
 framed-whole {d} {s} {n} f =
     let k : ℕ = integerIn s 2 in
@@ -103,7 +82,7 @@ length-whole there payload n = go (leb payload 8188) (ltb there (4 + payload))
     go false lacks e = cc
 
 -- and a whole one has them
-pub whole-framed : (d : Direction) (s : List ℕ) (n : ℕ) → frameAt d s ≡ FrameRead.Whole n → Framed d s n
+whole-framed : (d : Direction) (s : List ℕ) (n : ℕ) → frameAt d s ≡ FrameRead.Whole n → Framed d s n
 unfolding leadingDiffers integerAt
 whole-framed d s n e =
     let inside = frame-inside d s (FrameRead.Whole n) e in
@@ -173,181 +152,3 @@ head-kept d s n bytes e all =
     let four : part s 0 4 ≡ head d (length (drop 4 s)) =
     part-add s 0 2 2 ∙ rw (lead, integer-kept s 2 bytes (omega arith), size) in
     sym (take-append-drop 4 s) ∙ ap (λ (l : List ℕ). l ++ drop 4 s) four
-
--- a body packet's kind
-abbrev pub isBody : Kind → Bool
-isBody Kind.CPing = false
-isBody Kind.CPong = false
-isBody Kind.Forward = false
-isBody Kind.Body = true
-isBody Kind.GetBody = false
-isBody Kind.SendHeaders = false
-isBody Kind.BodyChunk = false
-isBody Kind.End = false
-
--- bytes are a whole packet of a direction that says this, read as a body packet where it is one and by its code otherwise
-pub record Parses (d : Direction) (s : List ℕ) (p : Packet) : Type 0 where
-  pub way : directionOf (kindIn p) ≡ d
-  pub whole-is : frameAt d s ≡ FrameRead.Whole (length s)
-  pub kind-is : kindAt d (isBody (kindIn p)) s ≡ KindRead.Kind (kindIn p)
-  pub fields-are : packetAt (kindIn p) s .end ≡ PacketRead.Packet p
-
--- no body packet is due where a connection is Idle
-idle-none : (state : State) (due : Bool) → both (isIdle state) true ≡ true → both (isBusy state) due ≡ false
-idle-none State.Idle due e = refl
-idle-none State.Pinged due e = refl
-idle-none State.Busy due e = absurd (false≢true e)
-idle-none State.Closed due e = refl
-
--- of the moves that a connection allows, the body packet is exactly the one that is read as such at the end to which it goes
-pub as-body : (c : Connection) (m : Move) → allowed c m ≡ true → readAsBody (directionOf (kindOf m)) c ≡ isBody (kindOf m)
-as-body c Move.CPing e = idle-none (c .state) (c .due) e
-as-body c Move.CPong e = refl
-as-body c (Move.Forward n) e = idle-none (c .state) (c .due) e
-as-body c (Move.Body k) e = both-first (bodyDue c) (inSize c (Move.Body k)) e
-as-body c (Move.GetBody r) e = refl
-as-body c Move.SendHeaders e = refl
-as-body c (Move.BodyChunk k) e = refl
-as-body c (Move.End reuse) e = refl
-
--- so is a packet whose move is allowed
-packet-as-body : (c : Connection) (d : Direction) (p : Packet) → directionOf (kindIn p) ≡ d → allowed c (moveIn p) ≡ true
-    → readAsBody d c ≡ isBody (kindIn p)
-packet-as-body c d p way a = rw (← way, ← move-kind p) (as-body c (moveIn p) a)
-
--- a packet that parses is accepted by every connection that allows its move, whatever stands behind it
-pub parses-accepted : {d : Direction} {s : List ℕ} {p : Packet} → Parses d s p → (c : Connection) → allowed c (moveIn p) ≡ true
-    → (rest : List ℕ) (room : ℕ) → placesNeeded (told p) ≤ room
-    → reading d c (s ++ rest) room ≡ accepted (told p) (length s) (after c (moveIn p))
-unfolding part
-parses-accepted {d} {s} {p} r c a rest room h =
-    let all : part s 0 (length s) ≡ s = take-length s in
-    let body : readAsBody d c ≡ isBody (kindIn p) = packet-as-body c d p (r .way) a in
-    let alone : reading d c s room ≡ accepted (told p) (length s) (after c (moveIn p)) =
-    accepted-by d c s room (kindIn p) p (length s) (r .whole-is) (rw (all, body) (r .kind-is)) (rw all (r .fields-are)) a h in
-    later-answer s rest d c room (subst Answered (sym alone) tt) ∙ alone
-
--- it asks for at most 328 places
-pub parses-places : {d : Direction} {s : List ℕ} {p : Packet} → Parses d s p → placesNeeded (told p) ≤ 328
-parses-places {d} {s} {p} r = told-inside (kindIn p) s p (r .fields-are) .places-most
-
--- what an accepted packet is
-pub record AcceptedAs (d : Direction) (c : Connection) (s : List ℕ) (t : Told) (n : ℕ) (next : Connection) : Type 0 where
-  pub packet : Packet
-  pub parses : Parses d (part s 0 n) packet
-  pub tells : t ≡ told packet
-  pub allows : allowed c (moveIn packet) ≡ true
-  pub steps : next ≡ after c (moveIn packet)
-  pub size : n ≡ length (part s 0 n)
-  pub there : n ≤ length s
-
--- a packet that is read as a body packet is one, and goes to the container; every other one goes the way that it was read in
-read-way : (d : Direction) (c : Connection) (s : List ℕ) (kind : Kind) → kindAt d (readAsBody d c) s ≡ KindRead.Kind kind → directionOf kind ≡ d
-read-way Direction.ToServer c s kind e = kind-direction Direction.ToServer false s kind e refl
-read-way Direction.ToContainer c s kind e = go (bodyDue c) refl
-  where
-    go : (t : Bool) → bodyDue c ≡ t → directionOf kind ≡ Direction.ToContainer
-    go false q = kind-direction Direction.ToContainer (bodyDue c) s kind e q
-    go true q =
-        let k : KindRead.Kind Kind.Body ≡ KindRead.Kind kind = sym (kind-is Direction.ToContainer (bodyDue c) true s (byteAt s 4) q refl) ∙ e in
-        let b : Kind.Body ≡ kind = cc in
-        ap directionOf (sym b)
-
--- a packet that is accepted parses
-pub accepted-parses : (d : Direction) (c : Connection) (s : List ℕ) (room : ℕ) (t : Told) (n : ℕ) (next : Connection)
-    → reading d c s room ≡ accepted t n next → AcceptedAs d c s t n next
-accepted-parses d c s room t n next e =
-    let a = accepted-is d c s room t n next e in
-    let inside = frame-inside d s (FrameRead.Whole n) (a .whole-is) in
-    let there : n ≤ length s = inside .1 .1 in
-    let size : length (part s 0 n) ≡ n = length-part s 0 n (rw (zero-add n) there) in
-    let kind : kindIn (a .packet) ≡ a .kind = parsed-kind (a .kind) (part s 0 n) (a .packet) (a .fields-are) in
-    let way : directionOf (kindIn (a .packet)) ≡ d = ap directionOf kind ∙ read-way d c (part s 0 n) (a .kind) (a .kind-is) in
-    record {
-      packet = a .packet;
-      parses = record {
-        way = way;
-        whole-is = part-whole d s n (a .whole-is) ∙ ap FrameRead.Whole (sym size);
-        kind-is = rw (← packet-as-body c d (a .packet) way (a .allows), kind) (a .kind-is);
-        fields-are = rw kind (a .fields-are);
-      };
-      tells = a .tells;
-      allows = a .allows;
-      steps = a .steps;
-      size = sym size;
-      there = there;
-    }
-
--- a packet that was written with a kind's code first in its payload is of that kind; a body packet has no code
-pub kind-written : (k : Kind) (rest : List ℕ) → isBody k ≡ false
-    → kindAt (directionOf k) (isBody k) (packet (directionOf k) (codeOf k ∷ rest)) ≡ KindRead.Kind k
-kind-written k rest e =
-    let d : Direction = directionOf k in
-    let code : ℕ = codeOf k in
-    let before : List ℕ = head d (length (code ∷ rest)) in
-    let read : byteAt (packet d (code ∷ rest)) 4 ≡ NumberRead.Number code 5 =
-    subst (λ (at : ℕ). byteAt (before ++ (code ∷ rest)) at ≡ NumberRead.Number code (at + 1)) (head-four d (length (code ∷ rest)))
-    (byte-written before rest code) in
-    kind-is d (isBody k) false (packet d (code ∷ rest)) (NumberRead.Number code 5) e read
-    ∙ code-found k (λ q. false≢true (sym e ∙ ap isBody q))
-
--- a code that is of a kind is that kind's
-code-of-kind : (d : Direction) (code : ℕ) (k : Kind) → codeKind d code ≡ KindRead.Kind k → code ≡ codeOf k
-unfolding codeKind
-code-of-kind Direction.ToContainer code k = go (eqb code 2) (eqb code 10) (either (eqb code 7) (eqb code 8)) refl refl
-  where
-    go : (a b u : Bool) → eqb code 2 ≡ a → eqb code 10 ≡ b
-        → pick a (KindRead.Kind Kind.Forward)
-        (pick b (KindRead.Kind Kind.CPing) (pick u (KindRead.Refused 5) (KindRead.Refused 4))) ≡ KindRead.Kind k → code ≡ codeOf k
-    go true b u p q e = let z : Kind.Forward ≡ k = cc in eqb-true code 2 p ∙ ap codeOf z
-    go false true u p q e = let z : Kind.CPing ≡ k = cc in eqb-true code 10 q ∙ ap codeOf z
-    go false false true p q e = cc
-    go false false false p q e = cc
-code-of-kind Direction.ToServer code k =
-    go (eqb code 3) (eqb code 4) (eqb code 5) (eqb code 6) (eqb code 9) refl refl refl refl refl
-  where
-    go : (a b c d e : Bool) → eqb code 3 ≡ a → eqb code 4 ≡ b → eqb code 5 ≡ c → eqb code 6 ≡ d → eqb code 9 ≡ e
-        → pick a (KindRead.Kind Kind.BodyChunk)
-        (pick b (KindRead.Kind Kind.SendHeaders)
-        (pick c (KindRead.Kind Kind.End)
-        (pick d (KindRead.Kind Kind.GetBody) (pick e (KindRead.Kind Kind.CPong) (KindRead.Refused 4))))) ≡ KindRead.Kind k → code ≡ codeOf k
-    go true b c d e p q r s t f = let z : Kind.BodyChunk ≡ k = cc in eqb-true code 3 p ∙ ap codeOf z
-    go false true c d e p q r s t f = let z : Kind.SendHeaders ≡ k = cc in eqb-true code 4 q ∙ ap codeOf z
-    go false false true d e p q r s t f = let z : Kind.End ≡ k = cc in eqb-true code 5 r ∙ ap codeOf z
-    go false false false true e p q r s t f = let z : Kind.GetBody ≡ k = cc in eqb-true code 6 s ∙ ap codeOf z
-    go false false false false true p q r s t f = let z : Kind.CPong ≡ k = cc in eqb-true code 9 t ∙ ap codeOf z
-    go false false false false false p q r s t f = cc
-
--- a packet that is not a body packet has its code behind its head
-pub code-kept : (d : Direction) (s : List ℕ) (k : Kind) → isBody k ≡ false → kindAt d (isBody k) s ≡ KindRead.Kind k
-    → (5 ≤ length s) × (getD s 4 0 ≡ codeOf k)
-unfolding byteAt
-code-kept d s k b e = go (leb 5 (length s)) refl (sym (kind-is d (isBody k) false s (byteAt s 4) b refl) ∙ e)
-  where
-    go : (t : Bool) → leb 5 (length s) ≡ t
-        → kindOfCode d (pick t (NumberRead.Number (getD s 4 0) 5) (NumberRead.Refused 3)) ≡ KindRead.Kind k
-        → (5 ≤ length s) × (getD s 4 0 ≡ codeOf k)
-    go true p q = (leb-true 5 (length s) p, code-of-kind d (getD s 4 0) k q)
-    go false p q = absurd (let z : _≡_ {A = ℕ} 0 1 = cc in omega arith)
-
--- so it is its head, its code and what stands behind that
-pub coded-kept : {d : Direction} {s : List ℕ} {p : Packet} → Parses d s p → isBody (kindIn p) ≡ false → Bytes s
-    → s ≡ packet (directionOf (kindIn p)) (codeOf (kindIn p) ∷ drop 5 s)
-coded-kept {d} {s} {p} r b bytes =
-    let code = code-kept d s (kindIn p) b (r .kind-is) in
-    let behind : drop 4 s ≡ codeOf (kindIn p) ∷ drop 5 s = drop-cons s 4 0 (omega (arith, code .0)) ∙ ap (λ (n : ℕ). n ∷ drop 5 s) (code .1) in
-    head-kept d s (length s) bytes (r .whole-is) refl ∙ ap (packet d) behind
-    ∙ ap (λ (way : Direction). packet way (codeOf (kindIn p) ∷ drop 5 s)) (sym (r .way))
-
--- a packet that was written with its code first in its payload parses where its fields are read
-pub coded-parses : (p : Packet) (rest : List ℕ) → isBody (kindIn p) ≡ false → length rest ≤ 8187
-    → packetAt (kindIn p) (packet (directionOf (kindIn p)) (codeOf (kindIn p) ∷ rest)) .end ≡ PacketRead.Packet p
-    → Parses (directionOf (kindIn p)) (packet (directionOf (kindIn p)) (codeOf (kindIn p) ∷ rest)) p
-coded-parses p rest b most fields =
-    let k : Kind = kindIn p in
-    record {
-      way = refl;
-      whole-is = frame-written (directionOf k) (codeOf k ∷ rest) (omega arith);
-      kind-is = kind-written k rest b;
-      fields-are = fields;
-    }

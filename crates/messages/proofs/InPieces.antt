@@ -1,383 +1,180 @@
--- The two round trips of packets in pieces. What was written in pieces stands as the message's bytes (`Built`), and the judge at closing was
--- reading itself, so it parses; that it shows the message is `ReadShown`. What was read has the bytes of the message that it shows, and no
--- piece of it has a fault (`Kept`), so its pieces are written as they stood, and the judge says what reading said.
+-- The two round trips of packets in pieces. What was written in pieces stands as the message's bytes (`PiecesWritten`), and the judge at closing
+-- was reading itself, so it parses; that it shows the message is `PiecesShown`. What was read has the bytes of the message that it shows, and no
+-- piece of it has a fault (`PiecesKept`), so its pieces are written as they stood, and the judge says what reading said.
 -- Assumes nothing.
-use mathlib.Core.Path.{_≡_, refl, sym, ap, subst, _∙_}
-use mathlib.Core.Bool.{Bool, true, false, false≢true}
-use mathlib.Core.List.{List, [], _∷_, _++_, append-nil}
-use Prim.Native.Nat.{ℕ, zero, suc, _+_, _*_, _≤_}
 use native.Mathlib.Omega.{arith}
-use borrow.Author.Tests.{le-leb}
-use lib.Dec.{leb}
-use lib.ListN.{length, drop, getD, length-append}
-use lib.Seq.{take-length}
-use Rattle.wire.specs.Pick.{pick, both}
-use Rattle.wire.specs.Bytes.{part, over}
+use mathlib.Core.Path.{_≡_, refl, sym, ap, subst, _∙_}
+use mathlib.Core.Bool.{Bool, true, false}
+use mathlib.Core.List.{List, _∷_}
+use Prim.Native.Nat.{ℕ, _≤_}
+use lib.ListN.{length, drop}
+use Rattle.wire.specs.Bytes.{part}
 use Rattle.wire.specs.Packet.{packet}
 use Rattle.wire.specs.declared.Direction.{Direction}
 use Rattle.wire.proofs.Tests.{both-first}
-use Rattle.wire.proofs.Bytes.{over-there}
-use Rattle.wire.proofs.RoundTrip.{Bytes}
-use Rattle.connection.specs.Connection.{isIdle, isBusy}
-use Rattle.connection.specs.Cycle.{kindOf, directionOf, inState, inSize, allowed, after}
-use Rattle.connection.specs.declared.State.{State}
+use Rattle.connection.specs.Cycle.{directionOf, inState, allowed, after}
 use Rattle.connection.specs.declared.Kind.{Kind}
 use Rattle.connection.specs.declared.Connection.{Connection}
 use Rattle.payload.specs.Code.{codeOf, kindAt}
-use Rattle.payload.specs.Forward.{forwardAt}
-use Rattle.payload.specs.SendHeaders.{sendHeadersAt}
-use Rattle.payload.specs.Kinds.{packetAt, kindIn, moveIn}
+use Rattle.payload.specs.Kinds.{kindIn, moveIn}
 use Rattle.payload.specs.declared.KindRead.{KindRead}
+use Rattle.payload.specs.declared.packet.Part.{Part}
 use Rattle.payload.specs.declared.packet.Forward.{Forward}
 use Rattle.payload.specs.declared.packet.SendHeaders.{SendHeaders}
 use Rattle.payload.specs.declared.packet.Packet.{Packet}
-use Rattle.payload.specs.declared.packet.PacketRead.{PacketRead}
-use Rattle.payload.proofs.Parsed.{forward-places, send-headers-places}
-use Rattle.pieces.specs.declared.BuildingKind.{BuildingKind}
+use Rattle.fields.specs.Field.{Field}
 use Rattle.pieces.specs.Record as building
+use Rattle.pieces.specs.declared.BuildingKind.{BuildingKind}
 use Rattle.writer.specs.Meaning.{Written}
-use Rattle.reader.specs.Meaning.{Told, Meaning, needs, refused, accepted, told, placesNeeded}
-use Rattle.reader.specs.Reading.{parse, readAsBody, judging, withRoom, reading}
+use Rattle.reader.specs.Meaning.{accepted, told}
+use Rattle.reader.specs.Reading.{parse, readAsBody, judging, reading}
 use Rattle.reader.proofs.Handed.{forward-handed}
-use Rattle.messages.specs.Message.{Request, Response, Message, forward, sendHeaders, placesFor, Fit}
-use Rattle.messages.specs.Bytes.{requestFields, responseFields, payloadOf, messageBytes}
-use Rattle.messages.specs.Writing.{wrote, writing}
-use Rattle.messages.specs.Shown.{headersShown, attributesShown, headerPlaces, attributePlaces, shownBy, messageShown}
-use Rattle.messages.proofs.Frames.{isBody, Parses, whole-framed, head-kept, kind-written, code-kept, parses-accepted, accepted-parses}
-use Rattle.messages.proofs.Tables.{over-first, over-second}
-use Rattle.messages.proofs.RoundTrip.{Forth, WrittenBack, tableOf, Back, Stands, stands-back, written-same}
-use Rattle.messages.proofs.Built.{PiecesWritten, forward-written, forward-writes, send-headers-written, send-headers-writes}
-use Rattle.messages.proofs.Kept.{forward-kept-by, send-headers-kept}
-use Rattle.messages.proofs.ReadShown.{forward-shows, head-shows, forward-stands, head-stands}
+use Rattle.closing.proofs.Laws.{aside}
+use Rattle.messages.specs.Message.{Request, Response, Message, forward, sendHeaders, Header, Attribute, wayOf}
+use Rattle.messages.specs.Bytes.{payloadOf, messageBytes}
+use Rattle.messages.specs.Writing.{writing}
+use Rattle.messages.specs.Shown.{headerPlaces, attributePlaces, messageShown}
+use Rattle.messages.proofs.Parts.{stands-there}
+use Rattle.messages.proofs.Parses.{isBody, Parses, packet-as-body, none-due, parses-alone, parses-most, parses-places, accepted-parses, all-parses, kind-written}
+use Rattle.messages.proofs.Tables.{tableOf, forward-table, send-headers-table}
+use Rattle.messages.proofs.RoundTrip.{Forth, WrittenBack, Back, own-way, Shows, Stands, stands-back}
+use Rattle.messages.proofs.PiecesWritten.{PiecesWritten, Writes, forward-written, forward-writes, send-headers-written, send-headers-writes}
+use Rattle.messages.proofs.PiecesShown.{forward-shown, send-headers-shown}
+use Rattle.messages.proofs.PiecesKept.{PiecesKept, forward-kept, send-headers-kept}
 
--- two constructors are never equal
-never : {A : Type 0} → false ≡ true → A
-never e = absurd (false≢true e)
+-- this holds of every packet of a kind
+abbrev OfKind : (Packet → Type 0) → Kind → Type 0
+OfKind P Kind.CPing = P Packet.CPing
+OfKind P Kind.CPong = P Packet.CPong
+OfKind P Kind.Forward = (f : Forward) → P (Packet.Forward f)
+OfKind P Kind.Body = (p : Part) → P (Packet.Body p)
+OfKind P Kind.GetBody = (asked : ℕ) → P (Packet.GetBody asked)
+OfKind P Kind.SendHeaders = (h : SendHeaders) → P (Packet.SendHeaders h)
+OfKind P Kind.BodyChunk = (p : Part) → P (Packet.BodyChunk p)
+OfKind P Kind.End = (reuse : Bool) → P (Packet.End reuse)
 
-wrong-way : {A : Type 0} → Direction.ToServer ≡ Direction.ToContainer → A
-wrong-way e = absurd (let z : _≡_ {A = ℕ} 0 1 = cc in omega arith)
+-- then it holds of each packet of that kind
+of-kind : (P : Packet → Type 0) (p : Packet) → OfKind P (kindIn p) → P p
+of-kind P Packet.CPing h = h
+of-kind P Packet.CPong h = h
+of-kind P (Packet.Forward f) h = h f
+of-kind P (Packet.Body p) h = h p
+of-kind P (Packet.GetBody asked) h = h asked
+of-kind P (Packet.SendHeaders head) h = h head
+of-kind P (Packet.BodyChunk p) h = h p
+of-kind P (Packet.End reuse) h = h reuse
 
--- what is judged good is accepted by reading with as many places as it asks for
-judged-read : (d : Direction) (c : Connection) (s : List ℕ) (t : Told) (n : ℕ) (next : Connection)
-    → judging c (parse d (readAsBody d c) s) ≡ accepted t n next → reading d c s (placesNeeded t) ≡ accepted t n next
-unfolding reading
-judged-read d c s t n next e =
-    ap (withRoom (placesNeeded t)) e
-    ∙ ap (λ (enough : Bool). pick enough (accepted t n next) (refused 15)) (le-leb (placesNeeded t) (placesNeeded t) (omega arith))
+-- a packet in pieces is no body packet
+not-body : (kind : BuildingKind) → isBody (building.kindIn kind) ≡ false
+not-body BuildingKind.Forward = refl
+not-body BuildingKind.SendHeaders = refl
 
--- and what reading accepts is judged good
-read-judged : (d : Direction) (c : Connection) (s : List ℕ) (room : ℕ) (t : Told) (n : ℕ) (next : Connection)
-    → reading d c s room ≡ accepted t n next → judging c (parse d (readAsBody d c) s) ≡ accepted t n next
-unfolding reading
-read-judged d c s room t n next e = go (judging c (parse d (readAsBody d c) s)) e
-  where
-    by : (enough : Bool) (m : Meaning) → pick enough m (refused 15) ≡ accepted t n next → m ≡ accepted t n next
-    by true m q = q
-    by false m q = absurd (let z : _≡_ {A = ℕ} 0 1 = cc in omega arith)
+-- a packet with the code of a packet in pieces is of that kind, where its state allows that kind: no body packet is due then
+kind-found : (c : Connection) (kind : BuildingKind) (rest : List ℕ) (p : Packet) → (let k = building.kindIn kind in
+    Parses (directionOf k) (packet (directionOf k) (codeOf k ∷ rest)) p → allowed c (moveIn p) ≡ true → inState c k ≡ true → kindIn p ≡ k)
+kind-found c kind rest p r a now =
+    let k : Kind = building.kindIn kind in
+    let same : isBody (kindIn p) ≡ isBody k = sym (packet-as-body c (directionOf k) p (r .way) a) ∙ none-due c kind now ∙ sym (not-body kind) in
+    let found : KindRead.Kind (kindIn p) ≡ KindRead.Kind k =
+    sym (r .kind-is) ∙ ap (λ (t : Bool). kindAt (directionOf k) t (packet (directionOf k) (codeOf k ∷ rest))) same
+    ∙ kind-written k rest (not-body kind) in
+    cc
 
-    go : (m : Meaning) → withRoom room m ≡ accepted t n next → m ≡ accepted t n next
-    go (needs k) q = q
-    go (refused k) q = q
-    go (accepted u k last) q = by (leb (placesNeeded u) room) (accepted u k last) q
-
--- a Forward may be sent in Idle alone, where no body packet is due
-idle-no-body : {A : Type 0} (s : State) (due size : Bool) → isIdle s ≡ true → both (both (isBusy s) due) size ≡ true → A
-idle-no-body State.Idle due size i e = never e
-idle-no-body State.Pinged due size i e = never i
-idle-no-body State.Busy due size i e = never i
-idle-no-body State.Closed due size i e = never i
-
--- a packet with the code of a packet in pieces is of that kind, where its state allows that kind
-module _ (c : Connection) (rest : List ℕ) where
-  -- it is no body packet
-  not-body : (kind : BuildingKind) (p : Packet) → directionOf (kindIn p) ≡ directionOf (building.kindIn kind) → allowed c (moveIn p) ≡ true
-      → inState c (building.kindIn kind) ≡ true → isBody (kindIn p) ≡ false
-  not-body kind Packet.CPing way a now = refl
-  not-body kind Packet.CPong way a now = refl
-  not-body kind (Packet.Forward f) way a now = refl
-  not-body BuildingKind.Forward (Packet.Body p) way a now =
-      idle-no-body (c .state) (c .due) (inSize c (moveIn (Packet.Body p))) now a
-  not-body BuildingKind.SendHeaders (Packet.Body p) way a now = wrong-way (sym way)
-  not-body kind (Packet.GetBody asked) way a now = refl
-  not-body kind (Packet.SendHeaders h) way a now = refl
-  not-body kind (Packet.BodyChunk p) way a now = refl
-  not-body kind (Packet.End reuse) way a now = refl
-
-  -- its code says which
-  same-kind : (k other : Kind) → isBody k ≡ false → isBody other ≡ false
-      → kindAt (directionOf k) (isBody other) (packet (directionOf k) (codeOf k ∷ rest)) ≡ KindRead.Kind other → other ≡ k
-  same-kind k other b q e =
-      let found : KindRead.Kind other ≡ KindRead.Kind k =
-      sym e ∙ ap (λ (t : Bool). kindAt (directionOf k) t (packet (directionOf k) (codeOf k ∷ rest))) (q ∙ sym b) ∙ kind-written k rest b in
-      cc
-
-  kind-by : (kind : BuildingKind) → isBody (building.kindIn kind) ≡ false
-  kind-by BuildingKind.Forward = refl
-  kind-by BuildingKind.SendHeaders = refl
-
-  kind-found : (kind : BuildingKind) (p : Packet) → (let k = building.kindIn kind in
-      Parses (directionOf k) (packet (directionOf k) (codeOf k ∷ rest)) p → allowed c (moveIn p) ≡ true → inState c k ≡ true → kindIn p ≡ k)
-  kind-found kind p r a now = same-kind (building.kindIn kind) (kindIn p) (kind-by kind) (not-body kind p (r .way) a now) (r .kind-is)
-
--- a packet of kind Forward, and one of kind Send Headers
-is-forward : (p : Packet) → kindIn p ≡ Kind.Forward → (f : Forward) × (p ≡ Packet.Forward f)
-is-forward Packet.CPing e = absurd (let z : _≡_ {A = ℕ} 0 1 = cc in omega arith)
-is-forward Packet.CPong e = absurd (let z : _≡_ {A = ℕ} 0 1 = cc in omega arith)
-is-forward (Packet.Forward f) e = (f, refl)
-is-forward (Packet.Body p) e = absurd (let z : _≡_ {A = ℕ} 0 1 = cc in omega arith)
-is-forward (Packet.GetBody asked) e = absurd (let z : _≡_ {A = ℕ} 0 1 = cc in omega arith)
-is-forward (Packet.SendHeaders h) e = absurd (let z : _≡_ {A = ℕ} 0 1 = cc in omega arith)
-is-forward (Packet.BodyChunk p) e = absurd (let z : _≡_ {A = ℕ} 0 1 = cc in omega arith)
-is-forward (Packet.End reuse) e = absurd (let z : _≡_ {A = ℕ} 0 1 = cc in omega arith)
-
-is-head : (p : Packet) → kindIn p ≡ Kind.SendHeaders → (h : SendHeaders) × (p ≡ Packet.SendHeaders h)
-is-head Packet.CPing e = absurd (let z : _≡_ {A = ℕ} 0 1 = cc in omega arith)
-is-head Packet.CPong e = absurd (let z : _≡_ {A = ℕ} 0 1 = cc in omega arith)
-is-head (Packet.Forward f) e = absurd (let z : _≡_ {A = ℕ} 0 1 = cc in omega arith)
-is-head (Packet.Body p) e = absurd (let z : _≡_ {A = ℕ} 0 1 = cc in omega arith)
-is-head (Packet.GetBody asked) e = absurd (let z : _≡_ {A = ℕ} 0 1 = cc in omega arith)
-is-head (Packet.SendHeaders h) e = (h, refl)
-is-head (Packet.BodyChunk p) e = absurd (let z : _≡_ {A = ℕ} 0 1 = cc in omega arith)
-is-head (Packet.End reuse) e = absurd (let z : _≡_ {A = ℕ} 0 1 = cc in omega arith)
-
--- the places of headers and of attributes in a table that has a packet's places, whatever its length
-module _ (p : Packet) (s table headers attributes : List ℕ) (are : packetAt (kindIn p) s .places ≡ headers ++ attributes)
-    (many : length headers ≡ 2 * told p .headers) (more : length attributes ≡ 2 * told p .attributes) where
-  header-places : headerPlaces (told p) (tableOf p s table) ≡ headers
-  header-places = rw (are, ← many) (over-first table headers attributes)
-
-  attribute-places : attributePlaces (told p) (tableOf p s table) ≡ attributes
-  attribute-places = rw (are, ← many, ← more) (over-second table headers attributes)
-
--- a packet that was written in pieces: it parses as some packet, whose move is the one that was made
-record Written-as (d : Direction) (c : Connection) (whole : List ℕ) (next : Connection) : Type 0 where
-  found : Packet
-  parses : Parses d whole found
-  allows : allowed c (moveIn found) ≡ true
-  steps : after c (moveIn found) ≡ next
-
-judged-parses : (d : Direction) (c : Connection) (whole : List ℕ) (t : Told) (next : Connection)
-    → judging c (parse d (readAsBody d c) whole) ≡ accepted t (length whole) next → Written-as d c whole next
-unfolding part
-judged-parses d c whole t next e =
-    let a = accepted-parses d c whole (placesNeeded t) t (length whole) next (judged-read d c whole t (length whole) next e) in
-    let all : part whole 0 (length whole) ≡ whole = take-length whole in
+-- a packet that was written in pieces stands there: it was judged good, so it parses, and as a packet of its kind it shows the message
+pieces-stand : {c : Connection} {own : List Field} {headers : List Header} {attributes : List Attribute} {buffer left : List ℕ} {w : Written}
+    (kind : BuildingKind) (m : Message) (rest : List ℕ) → (let d = directionOf (building.kindIn kind) in
+    messageBytes m ≡ packet d (codeOf (building.kindIn kind) ∷ rest) → d ≡ wayOf m
+    → PiecesWritten c kind own headers attributes (messageBytes m) buffer w left
+    → OfKind (λ p. Parses d (messageBytes m) p → Shows p (messageBytes m) m) (building.kindIn kind)
+    → Stands m c w left)
+pieces-stand {c} {buffer = buffer} {left = left} {w = w} kind m rest bytes way k each =
+    let d : Direction = directionOf (building.kindIn kind) in
+    let whole : List ℕ = messageBytes m in
+    let reads : reading d c whole 328 ≡ accepted (k .tells) (length whole) (w .connection) = aside d c whole 328 (omega arith) ∙ k .judged in
+    let a = accepted-parses d c whole 328 (k .tells) (length whole) (w .connection) reads in
+    let p : Packet = a .packet in
+    let r : Parses d whole p = all-parses d c whole 328 (k .tells) (w .connection) reads in
+    let is : kindIn p ≡ building.kindIn kind = kind-found c kind rest p (subst (λ (s : List ℕ). Parses d s p) bytes r) (a .allows) (k .state) in
+    let Showing : Packet → Type 0 = λ q. Parses d whole q → Shows q whole m in
+    let shows : Shows p whole m = of-kind Showing p (subst (OfKind Showing) (sym is) each) r in
+    let there : whole ≡ part left 0 (w .length) = sym (stands-there whole buffer left (w .length) (k .size) (k .is) (k .fits)) in
     record {
-      found = a .packet;
-      parses = subst (λ (s : List ℕ). Parses d s (a .packet)) all (a .parses);
+      packet = p;
+      size = ap length (sym there) ∙ sym (k .size);
+      parses = subst (λ (x : Direction). Parses x (part left 0 (w .length)) p) way (subst (λ (s : List ℕ). Parses d s p) there r);
       allows = a .allows;
       steps = sym (a .steps);
+      shows = subst (λ (s : List ℕ). Shows p s m) there shows;
     }
 
--- it stands at the start of the buffer
-stands-there : (whole buffer left : List ℕ) (n : ℕ) → n ≡ length whole → left ≡ over buffer 0 whole → length whole ≤ length buffer
-    → part left 0 n ≡ whole
-stands-there whole buffer left n size is fits = rw (is, size) (over-there buffer 0 whole (omega arith))
-
--- what stands behind the code of a packet in pieces
-abbrev behindCode : Message → List ℕ
-behindCode m = drop 1 (payloadOf m)
-
--- what a Forward with these places shows, in a table that has them
-forward-table : (s table : List ℕ) (f : Forward) (e : forwardAt s .end ≡ PacketRead.Packet (Packet.Forward f)) → (let lists = forward-handed s f e .lists in
-    let p = Packet.Forward f in
-    (headerPlaces (told p) (tableOf p s table) ≡ lists .of-headers) × (attributePlaces (told p) (tableOf p s table) ≡ lists .of-attributes))
-forward-table s table f e =
-    let lists = forward-handed s f e .lists in
-    let joined = length-append (lists .of-headers) (lists .of-attributes) in
-    let many : length (lists .of-headers) ≡ 2 * f .headers = omega (arith, lists .many) in
-    let more : length (lists .of-attributes) ≡ 2 * f .attributes =
-    omega (arith, forward-places s f e .many, ap length (lists .are), lists .many) in (
-      header-places (Packet.Forward f) s table (lists .of-headers) (lists .of-attributes) (lists .are) many more,
-      attribute-places (Packet.Forward f) s table (lists .of-headers) (lists .of-attributes) (lists .are) many more,
-    )
-
--- and a Send Headers
-head-table : (s table : List ℕ) (h : SendHeaders) → sendHeadersAt s .end ≡ PacketRead.Packet (Packet.SendHeaders h)
-    → headerPlaces (told (Packet.SendHeaders h)) (tableOf (Packet.SendHeaders h) s table) ≡ sendHeadersAt s .places
-head-table s table h e =
-    header-places (Packet.SendHeaders h) s table (sendHeadersAt s .places) [] (sym (append-nil (sendHeadersAt s .places)))
-    (omega (arith, send-headers-places s h e .many)) refl
-
--- so many places, two for each, show so many headers
-headers-many : (s places : List ℕ) (count : ℕ) → length places ≡ 2 * count → length (headersShown s places) ≡ count
-headers-many s [] count e = omega arith
-headers-many s (name ∷ []) count e = absurd (omega arith)
-headers-many s (name ∷ value ∷ later) zero e = absurd (omega arith)
-headers-many s (name ∷ value ∷ later) (suc count) e = ap suc (headers-many s later count (omega arith))
-
--- and so many attributes
-attributes-many : (s places : List ℕ) (count : ℕ) → length places ≡ 2 * count → length (attributesShown s places) ≡ count
-attributes-many s [] count e = omega arith
-attributes-many s (at ∷ []) count e = absurd (omega arith)
-attributes-many s (at ∷ value ∷ later) zero e = absurd (omega arith)
-attributes-many s (at ∷ value ∷ later) (suc count) e = ap suc (attributes-many s later count (omega arith))
-
--- so the places that a packet in pieces asks for are those of the message that it shows
-forward-asks : (s : List ℕ) (f : Forward) (e : forwardAt s .end ≡ PacketRead.Packet (Packet.Forward f)) (request : Request) → (let lists = forward-handed s f e .lists in
-    shownBy (told (Packet.Forward f)) s (lists .of-headers) (lists .of-attributes) Kind.Forward ≡ forward request
-    → placesNeeded (told (Packet.Forward f)) ≡ placesFor (forward request))
-forward-asks s f e request shows =
-    let lists = forward-handed s f e .lists in
-    let joined = length-append (lists .of-headers) (lists .of-attributes) in
-    let headers : headersShown s (lists .of-headers) ≡ request .headers = cc in
-    let attributes : attributesShown s (lists .of-attributes) ≡ request .attributes = cc in
-    let many = headers-many s (lists .of-headers) (f .headers) (omega (arith, lists .many)) in
-    let more =
-    attributes-many s (lists .of-attributes) (f .attributes) (omega (arith, forward-places s f e .many, ap length (lists .are), lists .many)) in
-    omega (arith, many, more, ap length headers, ap length attributes)
-
-head-asks : (s : List ℕ) (h : SendHeaders) → sendHeadersAt s .end ≡ PacketRead.Packet (Packet.SendHeaders h) → (response : Response)
-    → shownBy (told (Packet.SendHeaders h)) s (sendHeadersAt s .places) [] Kind.SendHeaders ≡ sendHeaders response
-    → placesNeeded (told (Packet.SendHeaders h)) ≡ placesFor (sendHeaders response)
-head-asks s h e response shows =
-    let headers : headersShown s (sendHeadersAt s .places) ≡ response .headers = cc in
-    let many = headers-many s (sendHeadersAt s .places) (h .headers) (omega (arith, send-headers-places s h e .many)) in
-    omega (arith, many, ap length headers)
-
--- a Forward that was written stands there
-forward-written-stands : (request : Request) (c : Connection) (buffer : List ℕ) (w : Written) (left : List ℕ) → Fit (forward request)
-    → PiecesWritten c BuildingKind.Forward (requestFields request) (request .headers) (request .attributes) (messageBytes (forward request)) buffer w left
-    → Stands (forward request) c w left
-unfolding messageShown messageBytes
-forward-written-stands request c buffer w left fit k =
-    let m : Message = forward request in
-    let whole : List ℕ = messageBytes m in
-    let good = judged-parses Direction.ToContainer c whole (k .tells) (w .connection) (k .judged) in
-    let kind : kindIn (good .found) ≡ Kind.Forward =
-    kind-found c (behindCode m) BuildingKind.Forward (good .found) (good .parses) (good .allows) (k .state) in
-    let is = is-forward (good .found) kind in
-    let f : Forward = is .0 in
-    let r : Parses Direction.ToContainer whole (Packet.Forward f) = subst (λ (p : Packet). Parses Direction.ToContainer whole p) (is .1) (good .parses) in
-    let there : part left 0 (w .length) ≡ whole = stands-there whole buffer left (w .length) (k .size) (k .is) (k .fits) in
-    let shown =
-    forward-shows (k .within) request (k .own-fine) (k .headers-fine) (k .attributes-fine) (fit .1) (fit .3) (k .few) (forward-stands request) f
-    (r .fields-are) in
-    record {
-      packet = Packet.Forward f;
-      size = ap length there ∙ sym (k .size);
-      parses = subst (λ (s : List ℕ). Parses Direction.ToContainer s (Packet.Forward f)) (sym there) r;
-      allows = subst (λ (p : Packet). allowed c (moveIn p) ≡ true) (is .1) (good .allows);
-      steps = subst (λ (p : Packet). after c (moveIn p) ≡ w .connection) (is .1) (good .steps);
-      asks = forward-asks whole f (r .fields-are) request shown;
-      shows = λ table.
-          subst (λ (s : List ℕ). messageShown (told (Packet.Forward f)) s (tableOf (Packet.Forward f) s table) ≡ m) (sym there)
-          (let places = forward-table whole table f (r .fields-are) in
-          rw (places .0, places .1) shown);
-    }
+-- forth: a Forward that was written reads back
+pub forward-forth : (request : Request) → Forth (forward request)
+unfolding messageBytes
+forward-forth request c buffer w left fit e =
+    let k = forward-written c request buffer w left e in
+    stands-back
+    (pieces-stand BuildingKind.Forward (forward request) (drop 1 (payloadOf (forward request))) refl refl k
+    (λ f r.
+    forward-shown request (k .own-fine) (k .headers-fine) (k .attributes-fine) (fit .1) (fit .3) (k .few) (k .within) f (r .fields-are)))
 
 -- and so does a Send Headers
-head-written-stands : (response : Response) (c : Connection) (buffer : List ℕ) (w : Written) (left : List ℕ)
-    → PiecesWritten c BuildingKind.SendHeaders (responseFields response) (response .headers) [] (messageBytes (sendHeaders response)) buffer w left
-    → Stands (sendHeaders response) c w left
-unfolding messageShown messageBytes
-head-written-stands response c buffer w left k =
-    let m : Message = sendHeaders response in
-    let whole : List ℕ = messageBytes m in
-    let good = judged-parses Direction.ToServer c whole (k .tells) (w .connection) (k .judged) in
-    let kind : kindIn (good .found) ≡ Kind.SendHeaders =
-    kind-found c (behindCode m) BuildingKind.SendHeaders (good .found) (good .parses) (good .allows) (k .state) in
-    let is = is-head (good .found) kind in
-    let h : SendHeaders = is .0 in
-    let r : Parses Direction.ToServer whole (Packet.SendHeaders h) = subst (λ (p : Packet). Parses Direction.ToServer whole p) (is .1) (good .parses) in
-    let there : part left 0 (w .length) ≡ whole = stands-there whole buffer left (w .length) (k .size) (k .is) (k .fits) in
-    let shown = head-shows (k .within) response (k .own-fine) (k .headers-fine) (k .few) (head-stands response) h (r .fields-are) in
-    record {
-      packet = Packet.SendHeaders h;
-      size = ap length there ∙ sym (k .size);
-      parses = subst (λ (s : List ℕ). Parses Direction.ToServer s (Packet.SendHeaders h)) (sym there) r;
-      allows = subst (λ (p : Packet). allowed c (moveIn p) ≡ true) (is .1) (good .allows);
-      steps = subst (λ (p : Packet). after c (moveIn p) ≡ w .connection) (is .1) (good .steps);
-      asks = head-asks whole h (r .fields-are) response shown;
-      shows = λ table.
-          subst (λ (s : List ℕ). messageShown (told (Packet.SendHeaders h)) s (tableOf (Packet.SendHeaders h) s table) ≡ m) (sym there)
-          (rw (head-table whole table h (r .fields-are)) shown);
-    }
-
--- forth: a Forward and a Send Headers that were written read back
-pub forward-forth : (request : Request) → Forth (forward request)
-forward-forth request c buffer w left fit e =
-    stands-back (forward-written-stands request c buffer w left fit (forward-written c request buffer w left e))
-
-pub head-forth : (response : Response) → Forth (sendHeaders response)
-head-forth response c buffer w left fit e =
-    stands-back (head-written-stands response c buffer w left (send-headers-written c response buffer w left e))
+pub send-headers-forth : (response : Response) → Forth (sendHeaders response)
+unfolding messageBytes
+send-headers-forth response c buffer w left fit e =
+    let k = send-headers-written c response buffer w left e in
+    stands-back
+    (pieces-stand BuildingKind.SendHeaders (sendHeaders response) (drop 1 (payloadOf (sendHeaders response))) refl refl k
+    (λ h r. send-headers-shown response (k .own-fine) (k .headers-fine) (k .few) (k .within) h (r .fields-are)))
 
 -- a packet that parses is judged good by a connection that allows its move
 parses-judged : {d : Direction} {s : List ℕ} {p : Packet} → Parses d s p → (c : Connection) → allowed c (moveIn p) ≡ true
     → judging c (parse d (readAsBody d c) s) ≡ accepted (told p) (length s) (after c (moveIn p))
-parses-judged {d} {s} {p} r c a =
-    let alone : s ++ [] ≡ s = append-nil s in
-    read-judged d c s (placesNeeded (told p)) (told p) (length s) (after c (moveIn p))
-    (subst (λ (l : List ℕ). reading d c l (placesNeeded (told p)) ≡ accepted (told p) (length s) (after c (moveIn p))) alone
-    (parses-accepted r c a [] (placesNeeded (told p)) (omega arith)))
+parses-judged {d} {s} r c a = sym (aside d c s 328 (omega arith)) ∙ parses-alone r c a 328 (parses-places r)
+
+-- a packet in pieces whose fields are kept is written back as its bytes
+kept-back : {c : Connection} {s buffer : List ℕ} {p : Packet} {m : Message} {own : List Field} {headers : List Header}
+    {attributes : List Attribute} (kind : BuildingKind) → (let d = directionOf (building.kindIn kind) in
+    Parses d s p → allowed c (moveIn p) ≡ true → inState c (building.kindIn kind) ≡ true → length s ≤ length buffer
+    → PiecesKept d s m own headers attributes → Writes c kind own headers attributes (messageBytes m) buffer (writing c m buffer)
+    → WrittenBack d c s buffer m (length s) (after c (moveIn p)))
+kept-back {c} {s} {buffer} {p} {m} kind r a now fits kept writes =
+    let d : Direction = directionOf (building.kindIn kind) in
+    let size : length (messageBytes m) ≡ length s = ap length (kept .bytes-are) in
+    let judged : judging c (parse d (readAsBody d c) (messageBytes m)) ≡ accepted (told p) (length s) (after c (moveIn p)) =
+    ap (λ (l : List ℕ). judging c (parse d (readAsBody d c) l)) (kept .bytes-are) ∙ parses-judged r c a in
+    let written =
+    writes (told p) (length s) (after c (moveIn p)) (kept .own-fine) (kept .headers-fine) (kept .attributes-fine) (kept .few)
+    (omega (arith, parses-most r, size)) (omega (arith, size)) now judged in
+    record {
+      written = rw (kept .bytes-are) at written;
+      fit = kept .fit;
+      way = kept .way-is;
+    }
 
 -- back: a Forward that was read is written as its bytes
 pub forward-back : (f : Forward) → Back (Packet.Forward f)
 unfolding messageShown
-forward-back f d c s table bytes r a room buffer fits = go d r
-  where
-    go : (d : Direction) → Parses d s (Packet.Forward f)
-        → WrittenBack d c s buffer (messageShown (told (Packet.Forward f)) s (tableOf (Packet.Forward f) s table)) (length s)
-        (after c (moveIn (Packet.Forward f)))
-    go Direction.ToServer q = wrong-way (sym (q .way))
-    go Direction.ToContainer q =
-        let places = forward-table s table f (q .fields-are) in
-        let lists = forward-handed s f (q .fields-are) .lists in
-        let code = code-kept Direction.ToContainer s Kind.Forward refl (q .kind-is) in
-        let kept =
-        forward-kept-by s f (headerPlaces (told (Packet.Forward f)) (tableOf (Packet.Forward f) s table))
-        (attributePlaces (told (Packet.Forward f)) (tableOf (Packet.Forward f) s table)) bytes
-        (head-kept Direction.ToContainer s (length s) bytes (q .whole-is) refl) (code .1) (q .fields-are)
-        (rw (places .0, places .1) (lists .are)) (rw (places .0) (lists .many)) in
-        let request : Request = kept .0 in
-        let facts = kept .2 in
-        let own : messageBytes (forward request) ≡ s = ap messageBytes (sym (kept .1)) ∙ facts .bytes-are in
-        let frame = whole-framed Direction.ToContainer s (length s) (q .whole-is) in
-        let size : length (messageBytes (forward request)) ≡ length s = ap length own in
-        let written =
-        forward-writes c request buffer (told (Packet.Forward f)) (length s) (after c (moveIn (Packet.Forward f))) (facts .fixed-fine)
-        (facts .headers-fine) (facts .attributes-fine) (omega (arith, facts .headers-many, facts .headers-most)) (omega (arith, frame .most, size))
-        (omega (arith, size)) (both-first (inState c Kind.Forward) true a)
-        (subst (λ (l : List ℕ). judging c (parse Direction.ToContainer (readAsBody Direction.ToContainer c) l)
-        ≡ accepted (told (Packet.Forward f)) (length s) (after c (moveIn (Packet.Forward f)))) (sym own) (parses-judged q c a)) in
-        written-same
-        (record {
-          written = rw own at written;
-          fit = subst Fit (kept .1) (facts .fit);
-          way = refl;
-        })
-        (sym (kept .1)) refl refl
+forward-back f d c s table bytes r a room buffer fits =
+    own-way
+    (λ q.
+    let places = forward-table s table f (q .fields-are) in
+    let lists = forward-handed s f (q .fields-are) .lists in
+    let kept =
+    forward-kept s f (headerPlaces (told (Packet.Forward f)) (tableOf (Packet.Forward f) s table))
+    (attributePlaces (told (Packet.Forward f)) (tableOf (Packet.Forward f) s table)) bytes q
+    (rw (places .0, places .1) (lists .are)) (rw (places .0) (lists .many)) in
+    kept-back BuildingKind.Forward q a (both-first (inState c Kind.Forward) true a) fits (kept .2)
+    (rw (kept .1) (forward-writes c (kept .0) buffer)))
+    r
 
 -- and so is a Send Headers
-pub head-back : (h : SendHeaders) → Back (Packet.SendHeaders h)
+pub send-headers-back : (h : SendHeaders) → Back (Packet.SendHeaders h)
 unfolding messageShown
-head-back h d c s table bytes r a room buffer fits = go d r
-  where
-    go : (d : Direction) → Parses d s (Packet.SendHeaders h)
-        → WrittenBack d c s buffer (messageShown (told (Packet.SendHeaders h)) s (tableOf (Packet.SendHeaders h) s table)) (length s)
-        (after c (moveIn (Packet.SendHeaders h)))
-    go Direction.ToContainer q = wrong-way (q .way)
-    go Direction.ToServer q =
-        let places = head-table s table h (q .fields-are) in
-        let code = code-kept Direction.ToServer s Kind.SendHeaders refl (q .kind-is) in
-        let kept =
-        send-headers-kept s h bytes (head-kept Direction.ToServer s (length s) bytes (q .whole-is) refl) (code .1) (q .fields-are) in
-        let response : Response = kept .0 in
-        let facts = kept .2 in
-        let own : messageBytes (sendHeaders response) ≡ s = ap messageBytes (sym (kept .1)) ∙ facts .bytes-are in
-        let frame = whole-framed Direction.ToServer s (length s) (q .whole-is) in
-        let size : length (messageBytes (sendHeaders response)) ≡ length s = ap length own in
-        let written =
-        send-headers-writes c response buffer (told (Packet.SendHeaders h)) (length s) (after c (moveIn (Packet.SendHeaders h))) (facts .fixed-fine)
-        (facts .headers-fine) (omega (arith, facts .headers-many, facts .headers-most)) (omega (arith, frame .most, size))
-        (omega (arith, size)) (both-first (inState c Kind.SendHeaders) true a)
-        (subst (λ (l : List ℕ). judging c (parse Direction.ToServer false l)
-        ≡ accepted (told (Packet.SendHeaders h)) (length s) (after c (moveIn (Packet.SendHeaders h)))) (sym own) (parses-judged q c a)) in
-        written-same
-        (record {
-          written = rw own at written;
-          fit = subst Fit (kept .1) (facts .fit);
-          way = refl;
-        })
-        (sym (rw places (kept .1))) refl refl
+send-headers-back h d c s table bytes r a room buffer fits =
+    own-way
+    (λ q.
+    let kept = send-headers-kept s h bytes q in
+    rw (send-headers-table s table h (q .fields-are))
+    (kept-back BuildingKind.SendHeaders q a (both-first (inState c Kind.SendHeaders) true a) fits (kept .2)
+    (rw (kept .1) (send-headers-writes c (kept .0) buffer))))
+    r

@@ -1,5 +1,6 @@
--- A piece judges its own fields as reading does: a header or an attribute that was written is refused with the first fault of its fields, and
--- where there is none it is read as it was written.
+-- A piece judges its own fields as reading does: a header or an attribute that was written, at any place among any bytes, is refused with the
+-- first fault of its fields, and where there is none it is read as it was written. It is so of each field, a string or a code, and reading takes
+-- the fields in the order in which the piece looks for their faults.
 -- Assumes nothing.
 use native.Mathlib.Omega.{arith}
 use borrow.Author.Tests.{le-leb, eq-eqb, eqb-true, ne-eqb, leb-true, ltb-true}
@@ -68,6 +69,7 @@ abbrev pub stood : ℕ → ℕ → ℕ → Bool → List ℕ → StringRead
 stood fault at next null text =
     pick (eqb fault 0) (pick null (StringRead.Null next) (StringRead.Text (at + 2) (length text) next)) (StringRead.Refused fault)
 
+-- that is what it answers, by the first fault of the string
 pub string-stood : (a b : List ℕ) (field : StringField) (null : Bool) (text : List ℕ) → length text ≤ 8192
     → stringAt (a ++ (stringBytes null text ++ b)) (length a) (isOptional field)
     ≡ stood (stringFault field null text) (length a) (length a + length (stringBytes null text)) null text
@@ -90,6 +92,7 @@ null-declares true (Declared.Known n) text = refl
 abbrev pub valuedUnless : ℕ → ℕ → ℕ → Declaring → HeaderRead
 valuedUnless fault place next declaring = pick (eqb fault 0) (valued place next declaring) (HeaderRead.Refused fault)
 
+-- what reading answers where a header's value was written
 value-judged : (a b : List ℕ) (declaring : Bool) (before : Declared) (null : Bool) (text : List ℕ) → length text ≤ 8192
     → valueAt (a ++ (stringBytes null text ++ b)) (length a) declaring before
     ≡ valuedUnless (stringFault StringField.HeaderValue null text) (length a) (length a + length (stringBytes null text))
@@ -139,10 +142,10 @@ string-two : (null : Bool) (text : List ℕ) → 2 ≤ length (stringBytes null 
 string-two true text = omega (arith, size-null true text refl)
 string-two false text = omega (arith, size-text false text refl)
 
--- null is no name
-null-name : (text : List ℕ) → stringFault StringField.HeaderName true text ≡ 6
+-- null may not stand in a field that is not optional, such as a name
+null-barred : (field : StringField) → isOptional field ≡ false → (text : List ℕ) → stringFault field true text ≡ 6
 unfolding stringFault stringAllowed
-null-name text = refl
+null-barred field e text = rw e
 
 -- a name that is spelled out, by its fault
 pub spelled-name : (a b : List ℕ) (d : Direction) (null : Bool) (text : List ℕ) → length text ≤ 8192
@@ -163,18 +166,20 @@ spelled-name a b d null text h =
         (pick t (pick u (StringRead.Null next) (StringRead.Text (length a + 2) (length text) next)) (StringRead.Refused (stringFault StringField.HeaderName u text)))
         ≡ nameUnless (pick t (spelledFault d text) (stringFault StringField.HeaderName u text)) (NameRead.Spelled (length a + 2) (length text) next)
     go next u false e = rw e
-    go next true true e = absurd (false≢true (ap (λ (f : ℕ). eqb f 0) (sym (null-name text)) ∙ e))
+    go next true true e = absurd (false≢true (ap (λ (f : ℕ). eqb f 0) (sym (null-barred StringField.HeaderName refl text)) ∙ e))
     go next false true e =
         sym (spelled-is d (a ++ (stringBytes false text ++ b)) (length a + 2) (length text) next text (spelledFault d text)
         (eqb (spelledFault d text) 0) (sym (text-part a b text)) refl refl)
 
--- the second of two fields in a row, with the first one in front
-row-second : (a x y b : List ℕ) → a ++ ((x ++ (y ++ [])) ++ b) ≡ (a ++ x) ++ (y ++ b)
-row-second a x y b =
-    ap (λ (l : List ℕ). a ++ l) (append-assoc x (y ++ []) b ∙ ap (λ (l : List ℕ). x ++ (l ++ b)) (append-nil y)) ∙ sym (append-assoc a x (y ++ b))
-
-row-length : (x y : List ℕ) → length (x ++ (y ++ [])) ≡ length x + length y
-row-length x y = length-append x (y ++ []) ∙ ap (λ (l : List ℕ). length x + length l) (append-nil y)
+-- what holds of bytes behind any others, by where they begin and end, holds of the second of two fields in a row
+second-holds : (a x y b : List ℕ) (P : List ℕ → ℕ → ℕ → Type 0) → ((front : List ℕ) → P (front ++ (y ++ b)) (length front) (length front + length y))
+    → P (a ++ ((x ++ (y ++ [])) ++ b)) (length a + length x) (length a + length (x ++ (y ++ [])))
+second-holds a x y b P h =
+    let row : a ++ ((x ++ (y ++ [])) ++ b) ≡ (a ++ x) ++ (y ++ b) = simp (append-assoc, append-nil) in
+    let place : length (a ++ x) ≡ length a + length x = length-append a x in
+    let end : length (a ++ x) + length y ≡ length a + length (x ++ (y ++ [])) =
+    omega (arith, place, length-append x (y ++ []), ap length (append-nil y)) in
+    rw (row, ← place, ← end) (h (a ++ x))
 
 -- the value behind a name, by its string's fault
 value-behind : (a x b : List ℕ) (declaring : Bool) (before : Declared) (null : Bool) (text : List ℕ) → length text ≤ 8192
@@ -182,11 +187,11 @@ value-behind : (a x b : List ℕ) (declaring : Bool) (before : Declared) (null :
     ≡ valuedUnless (stringFault StringField.HeaderValue null text) (length a + length x) (length a + length (x ++ (stringBytes null text ++ [])))
     (declaredBy declaring before null text)
 value-behind a x b declaring before null text h =
-    let place : length (a ++ x) ≡ length a + length x = length-append a x in
-    let end : length (a ++ x) + length (stringBytes null text) ≡ length a + length (x ++ (stringBytes null text ++ [])) =
-    omega (arith, place, row-length x (stringBytes null text)) in
-    rw (row-second a x (stringBytes null text) b, ← place, ← end)
-    (value-judged (a ++ x) b declaring before null text h)
+    second-holds a x (stringBytes null text) b
+    (λ (s : List ℕ) (at next : ℕ).
+    valueAt s at declaring before
+    ≡ valuedUnless (stringFault StringField.HeaderValue null text) at next (declaredBy declaring before null text))
+    (λ front. value-judged front b declaring before null text h)
 
 -- a header, by what its name reads as where it has no fault
 header-by : (d : Direction) (s : List ℕ) (at : ℕ) (before : Declared) (f : ℕ) (name : NameRead) {r : HeaderRead}
@@ -220,10 +225,11 @@ module _ (f v place next : ℕ) where
   headed-read : (declaring : Declaring) → f ≡ 0 → v ≡ 0 → headed f v place next declaring ≡ valued place next declaring
   headed-read declaring e g = rw (eq-eqb f 0 e, eq-eqb v 0 g)
 
--- fields that were written, with other bytes around them, and the place behind them
+-- fields that were written, with other bytes around them
 abbrev pub among : List ℕ → List Field → List ℕ → List ℕ
 among a own b = a ++ (bytesOf own ++ b)
 
+-- the place behind them
 abbrev pub endOf : List ℕ → List Field → ℕ
 endOf a own = length a + length (bytesOf own)
 
@@ -367,6 +373,7 @@ unless-judged code f at next = go (eqb f 0) refl
     go true e = sym (eqb-true f 0 e)
     go false e = refl
 
+-- and so is the first fault of a name and a value
 pair-unless-judged : (code n v at next : ℕ) → attributeRefusalIn (withValue code (pairUnless n v at next)) ≡ orElse n v
 pair-unless-judged code n v at next = go (eqb n 0)
   where
@@ -374,19 +381,21 @@ pair-unless-judged code n v at next = go (eqb n 0)
     go true = unless-judged code v at next
     go false = refl
 
--- the kind of value by its test
+-- the kind of value by its test: a string
 pub text-kind : (kind : AttributeKind) → isText kind ≡ true → kind ≡ AttributeKind.Text
 text-kind AttributeKind.NotServed e = absurd (false≢true e)
 text-kind AttributeKind.Text e = refl
 text-kind AttributeKind.Integer e = absurd (false≢true e)
 text-kind AttributeKind.Pair e = absurd (false≢true e)
 
+-- an integer
 pub integer-kind : (kind : AttributeKind) → isInteger kind ≡ true → kind ≡ AttributeKind.Integer
 integer-kind AttributeKind.NotServed e = absurd (false≢true e)
 integer-kind AttributeKind.Text e = absurd (false≢true e)
 integer-kind AttributeKind.Integer e = refl
 integer-kind AttributeKind.Pair e = absurd (false≢true e)
 
+-- a name and a value
 pub pair-kind : (kind : AttributeKind) → isPair kind ≡ true → kind ≡ AttributeKind.Pair
 pair-kind AttributeKind.NotServed e = absurd (false≢true e)
 pair-kind AttributeKind.Text e = absurd (false≢true e)
@@ -408,6 +417,7 @@ pair-repeats code e = go (between 3 9 code) (eqb code 10) (eqb code 11) (between
     go false false false true e = e
     go false false false false e = e
 
+-- two tests of which the second does not hold
 both-none : (t : Bool) → both t false ≡ false
 both-none true = refl
 both-none false = refl
@@ -415,14 +425,17 @@ both-none false = refl
 -- an attribute whose code is served, and which did not come before or may repeat: it is its value
 module _ (a b : List ℕ) (code : ℕ) (seen : ℕ → Bool) (kind : AttributeKind) (is : attributeKind code ≡ kind) (served : isServed kind ≡ true)
     (new : both (seen code) (not (mayRepeat code)) ≡ false) where
+  -- its code has no fault
   fault-none : attributeFault code (seen code) ≡ 0
   unfolding attributeFault
   fault-none = rw (is, served, new)
 
+  -- it is not FF
   not-last : eqb code 255 ≡ false
   unfolding attributeKind
   not-last = ne-eqb code 255 (λ e. false≢true (ap (λ (k : ℕ). isServed (attributeKind k)) (sym e) ∙ ap isServed is ∙ served))
 
+  -- so what its value is read as is what it is read as
   attribute-value : (r : ValueRead) → attributes.valueAt (a ++ (code ∷ b)) (length a + 1) kind ≡ r
       → attributeAt (a ++ (code ∷ b)) (length a) false seen ≡ withValue code r
   attribute-value r e =
@@ -454,15 +467,9 @@ text-behind : (a x b : List ℕ) (null : Bool) (text : List ℕ) → length text
     → textValueAt (a ++ ((x ++ (stringBytes null text ++ [])) ++ b)) (length a + length x)
     ≡ valueUnless (stringFault StringField.AttributeValue null text) (length a + length x) (length a + length (x ++ (stringBytes null text ++ [])))
 text-behind a x b null text h =
-    let place : length (a ++ x) ≡ length a + length x = length-append a x in
-    let end : length (a ++ x) + length (stringBytes null text) ≡ length a + length (x ++ (stringBytes null text ++ [])) =
-    omega (arith, place, row-length x (stringBytes null text)) in
-    rw (row-second a x (stringBytes null text) b, ← place, ← end) (text-judging (a ++ x) b null text h)
-
--- null is no name
-null-attribute : (text : List ℕ) → stringFault StringField.AttributeName true text ≡ 6
-unfolding stringFault stringAllowed
-null-attribute text = refl
+    second-holds a x (stringBytes null text) b
+    (λ (s : List ℕ) (at next : ℕ). textValueAt s at ≡ valueUnless (stringFault StringField.AttributeValue null text) at next)
+    (λ front. text-judging front b null text h)
 
 -- a name and a value, by their faults
 pair-judging : (a b : List ℕ) (code : ℕ) (nameNull : Bool) (name : List ℕ) (null : Bool) (value : List ℕ) → length name ≤ 8192 → length value ≤ 8192
@@ -490,7 +497,7 @@ pair-judging a b code nameNull name null value h k =
         (valueUnless (stringFault StringField.AttributeValue null value) (length a + 1 + length (stringBytes u name)) (endOf a (pairFields code u name null value)))
         (ValueRead.Refused (stringFault StringField.AttributeName u name))
     go u false e = refl
-    go true true e = absurd (false≢true (ap (λ (f : ℕ). eqb f 0) (sym (null-attribute name)) ∙ e))
+    go true true e = absurd (false≢true (ap (λ (f : ℕ). eqb f 0) (sym (null-barred StringField.AttributeName refl name)) ∙ e))
     go false true e =
         let x : List ℕ = code ∷ stringBytes false name in
         let place : length a + 1 + length (stringBytes false name) ≡ length a + length x = omega arith in
@@ -536,6 +543,7 @@ integer-read a b code seen value is new small =
     (rw (← front, ← append-assoc a (code ∷ []) (integerBytes value ++ b)) (integer-written (a ++ (code ∷ [])) b value small))
     ∙ rw end)
 
+-- so it is refused with the first of its faults, which is none
 pub integer-judged : (a b : List ℕ) (code : ℕ) (seen : ℕ → Bool) (value : ℕ) → isInteger (attributeKind code) ≡ true → seen code ≡ false → value < 65536
     → attributeRefusalIn (attributeAt (among a (integerFields code value) b) (length a) false seen)
     ≡ firstFault (faultsOf (integerFields code value))

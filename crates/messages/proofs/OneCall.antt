@@ -2,15 +2,15 @@
 -- then the packet stands in the buffer. Each of these packets parses as what was written, and each packet of these kinds that parses has
 -- the bytes that are written for the message that it shows.
 -- Assumes nothing.
-use mathlib.Core.Path.{_≡_, refl, sym, ap, _∙_}
+use native.Mathlib.Omega.{arith}
+use borrow.Author.Tests.{le-ltb, ltb-false, eq-eqb, ne-eqb, eqb-true, eqb-false}
+use mathlib.Core.Path.{_≡_, refl, sym, ap, subst, _∙_}
 use mathlib.Core.Bool.{Bool, true, false}
 use mathlib.Core.List.{List, [], _∷_, _++_}
 use Prim.Native.Nat.{ℕ, _+_, _≤_, _<_}
-use native.Mathlib.Omega.{arith}
-use borrow.Author.Tests.{le-ltb, ltb-false, eq-eqb, ne-eqb, eqb-true, eqb-false}
 use lib.Dec.{leb, ltb, eqb}
-use lib.ListN.{length, getD, drop, length-append, length-drop}
-use lib.Seq.{take-all, take-length, getD-append-seam, getD-append-add}
+use lib.ListN.{length, getD, drop, length-append}
+use lib.Seq.{take-length, getD-append-seam, getD-append-add}
 use Rattle.wire.specs.Pick.{pick}
 use Rattle.wire.specs.Bytes.{part, over, integerIn, integerBytes}
 use Rattle.wire.specs.Field.{byteAt, integerAt, booleanAt, booleanBytes}
@@ -19,42 +19,44 @@ use Rattle.wire.specs.declared.Direction.{Direction}
 use Rattle.wire.specs.declared.read.NumberRead.{NumberRead}
 use Rattle.wire.specs.declared.read.BooleanRead.{BooleanRead}
 use Rattle.wire.proofs.Tests.{both-first, both-second}
-use Rattle.wire.proofs.Bytes.{over-there, length-part, part-middle, part-add, part-one}
+use Rattle.wire.proofs.Bytes.{length-part, part-middle, part-add, part-one}
 use Rattle.wire.proofs.Field.{boolean-inside}
 use Rattle.wire.proofs.RoundTrip.{Bytes, integer-written, integer-kept, boolean-kept}
 use Rattle.connection.specs.Cycle.{kindOf, directionOf, inState, inSize, allowed, after}
 use Rattle.connection.specs.declared.Connection.{Connection}
 use Rattle.connection.specs.declared.Kind.{Kind}
 use Rattle.connection.specs.declared.Move.{Move}
-use Rattle.payload.specs.declared.packet.Part.{Part}
-use Rattle.payload.specs.declared.packet.Packet.{Packet}
-use Rattle.payload.specs.declared.packet.PacketRead.{PacketRead}
 use Rattle.payload.specs.Kinds.{packetAt, kindIn, moveIn}
-use Rattle.payload.specs.Packet.{partFrom, finished}
+use Rattle.payload.specs.Packet.{partFrom}
 use Rattle.payload.specs.Code.{payloadPlace, codeOf, kindAt}
 use Rattle.payload.specs.Bare.{bareAt}
 use Rattle.payload.specs.End.{endOf, endAt}
 use Rattle.payload.specs.GetBody.{getOf, getAt}
 use Rattle.payload.specs.Body.{bodyStart, sizedAt, sizedOf, bodyAt}
 use Rattle.payload.specs.BodyChunk.{chunkStart, chunkOf, chunkBy, chunkAt}
+use Rattle.payload.specs.declared.packet.Part.{Part}
+use Rattle.payload.specs.declared.packet.Packet.{Packet}
+use Rattle.payload.specs.declared.packet.PacketRead.{PacketRead}
 use Rattle.payload.proofs.Laws.{get-is, chunk-is, chunk-closed, body-is, sized-by}
-use Rattle.fields.specs.Fault.{firstFault}
 use Rattle.fields.specs.Field.{opening}
-use Rattle.fields.specs.Call.{Call, Outcome, refused, done, refusalOf, answered, outcome, bufferAfter}
+use Rattle.fields.specs.Call.{Call, refused, done, refusalOf, answered, outcome, bufferAfter}
 use Rattle.fields.proofs.Sizes.{unless-none}
 use Rattle.fields.proofs.Calls.{done-own, done-fits, after-written, fits-done}
 use Rattle.writer.specs.Meaning.{Written}
 use Rattle.writer.specs.Sending.{packetOf, sendingFaults, sending, bodyPayload, chunkPayload, bareCall, bodyCall, chunkCall, getCall, endCall}
-use Rattle.reader.specs.declared.frame.FrameRead.{FrameRead}
-use Rattle.reader.specs.Meaning.{told, placesNeeded}
-use Rattle.reader.proofs.Framing.{frame-inside}
-use Rattle.messages.specs.Message.{Message, cping, cpong, forward, body, getBody, sendHeaders, bodyChunk, end, wayOf, placesFor, Fit}
+use Rattle.reader.specs.Meaning.{told}
+use Rattle.messages.specs.Message as messages
+use Rattle.messages.specs.Message.{Message, cping, cpong, forward, body, getBody, sendHeaders, bodyChunk, end, wayOf, Fit}
 use Rattle.messages.specs.Bytes.{payloadOf, messageBytes}
 use Rattle.messages.specs.Writing.{wrote, wroteBy, oneCall, writing}
 use Rattle.messages.specs.Shown.{messageShown}
-use Rattle.messages.proofs.Fixed.{faultless, boolean-back}
-use Rattle.messages.proofs.Frames.{isBody, Parses, frame-written, head-kept, coded-parses, coded-kept}
-use Rattle.messages.proofs.RoundTrip.{Forth, Back, tableOf, Stands, stands-back}
+use Rattle.messages.proofs.Parts.{part-zero, rest-part, stands-there}
+use Rattle.messages.proofs.Fine.{faultless}
+use Rattle.messages.proofs.Fixed.{boolean-back}
+use Rattle.messages.proofs.Frames.{frame-written, head-kept}
+use Rattle.messages.proofs.Parses.{isBody, Parses, parses-most, coded-parses, coded-kept, finished-is}
+use Rattle.messages.proofs.Tables.{tableOf}
+use Rattle.messages.proofs.RoundTrip.{Forth, Back, wrote-done, Shows, Stands, stands-back}
 
 -- a call that is done: there was no fault, and its answer is what was answered
 answered-done : (fault : ℕ) (v w : Written) → answered fault v ≡ done w → (fault ≡ 0) × (v ≡ w)
@@ -96,38 +98,25 @@ module _ (c : Connection) (m : Move) (payload buffer : List ℕ) where
         size = length-is;
         steps = ap (λ (v : Written). v .connection) (sym (d .1));
         buffer-is = buffer-is;
-        stands = ap (part (bufferAfter call buffer) 0) length-is
-            ∙ ap (λ (l : List ℕ). part l 0 (length own)) buffer-is ∙ over-there buffer 0 own (fits .0);
+        stands = stands-there own buffer (bufferAfter call buffer) (w .length) length-is buffer-is (omega (arith, fits .0));
       }
 
   -- and by what it leaves
   pub one-written : (w : Written) (left : List ℕ) → oneCall (sending c m payload) buffer ≡ wrote w left → OneWritten c m payload buffer w left
-  one-written w left = go (outcome (sending c m payload) (length buffer)) refl
-    where
-      go : (o : Outcome Written) → outcome (sending c m payload) (length buffer) ≡ o
-          → wroteBy (bufferAfter (sending c m payload) buffer) o ≡ wrote w left → OneWritten c m payload buffer w left
-      go (refused n) p e = absurd (let z : _≡_ {A = ℕ} 0 1 = cc in omega arith)
-      go (done v) p e =
-          let same : v ≡ w = cc in
-          let lies : bufferAfter (sending c m payload) buffer ≡ left = cc in
-          rw (← same, ← lies) (done-written v p)
+  one-written w left e =
+      let call : Call Written = sending c m payload in
+      let d = wrote-done (bufferAfter call buffer) (outcome call (length buffer)) e in
+      subst (OneWritten c m payload buffer w) (d .1) (done-written w (d .0))
 
-  -- the call is done where the connection allows its move and the packet fits
-  pub done-outcome : allowed c m ≡ true → length (packetOf m payload) ≤ 8192 → length (packetOf m payload) ≤ length buffer
-      → outcome (sending c m payload) (length buffer) ≡ done (sending c m payload .answer)
-  done-outcome a most room =
-      let state : inState c (kindOf m) ≡ true = both-first (inState c (kindOf m)) (inSize c m) a in
-      let size : inSize c m ≡ true = both-second (inState c (kindOf m)) (inSize c m) a in
-      let fine : firstFault (sendingFaults c m) ≡ 0 = rw (state, size) in
-      fits-done (sending c m payload) (length buffer) fine (omega arith) (omega arith)
-
-  -- and then it leaves the packet at the start of the buffer
-  pub one-done : allowed c m ≡ true → length (packetOf m payload) ≤ 8192 → length (packetOf m payload) ≤ length buffer
+  -- the call is done where the connection allows its move and the packet fits, and then it leaves the packet at the start of the buffer
+  one-done : allowed c m ≡ true → length (packetOf m payload) ≤ 8192 → length (packetOf m payload) ≤ length buffer
       → oneCall (sending c m payload) buffer
       ≡ wrote (record { length = length (packetOf m payload); connection = after c m }) (over buffer 0 (packetOf m payload))
   one-done a most room =
       let call : Call Written = sending c m payload in
-      let e = done-outcome a most room in
+      let state : inState c (kindOf m) ≡ true = both-first (inState c (kindOf m)) (inSize c m) a in
+      let size : inSize c m ≡ true = both-second (inState c (kindOf m)) (inSize c m) a in
+      let e : outcome call (length buffer) ≡ done (call .answer) = fits-done call (length buffer) (rw (state, size)) (omega arith) (omega arith) in
       ap (wroteBy (bufferAfter call buffer)) e ∙ ap (wrote (call .answer)) (done-written (call .answer) e .buffer-is)
 
 -- CPing parses
@@ -175,7 +164,7 @@ chunk-parses bytes most =
     ∙ rw size)
 
 -- and its bytes stand there
-pub chunk-stands : (bytes : List ℕ) → part (messageBytes (bodyChunk bytes)) chunkStart (length bytes) ≡ bytes
+chunk-stands : (bytes : List ℕ) → part (messageBytes (bodyChunk bytes)) chunkStart (length bytes) ≡ bytes
 unfolding messageBytes
 chunk-stands bytes =
     part-middle (opening Kind.BodyChunk (length (payloadOf (bodyChunk bytes))) ++ integerBytes (length bytes)) bytes (0 ∷ [])
@@ -221,7 +210,7 @@ none-there [] e = refl
 none-there (x ∷ l) e = absurd (omega (arith, e))
 
 -- and its bytes stand there
-pub body-stands : (bytes : List ℕ) → part (messageBytes (body bytes)) (bodyPart bytes .start .0) (bodyPart bytes .len) ≡ bytes
+body-stands : (bytes : List ℕ) → part (messageBytes (body bytes)) (bodyPart bytes .start .0) (bodyPart bytes .len) ≡ bytes
 unfolding messageBytes part
 body-stands bytes = go (eqb (length bytes) 0) refl
   where
@@ -232,7 +221,7 @@ body-stands bytes = go (eqb (length bytes) 0) refl
     go false e = take-length bytes
 
 -- a body packet's part has as many bytes as were given
-body-long : (bytes : List ℕ) → bodyPart bytes .len ≡ length bytes
+pub body-long : (bytes : List ℕ) → bodyPart bytes .len ≡ length bytes
 body-long bytes = go (eqb (length bytes) 0) refl
   where
     go : (t : Bool) → eqb (length bytes) 0 ≡ t → pick t (partFrom payloadPlace 0) (partFrom bodyStart (length bytes)) .len ≡ length bytes
@@ -295,63 +284,68 @@ chunk-calls bytes p e = record {
   bytes-are = refl;
 }
 
--- a message that one call writes
-abbrev pub IsOne : Message → Type 0
-IsOne cping = Unit
-IsOne cpong = Unit
-IsOne (forward request) = ⊥
-IsOne (body bytes) = Unit
-IsOne (getBody asked) = Unit
-IsOne (sendHeaders response) = ⊥
-IsOne (bodyChunk bytes) = Unit
-IsOne (end reuse) = Unit
+-- a kind that one call writes
+abbrev pub IsOne : Kind → Type 0
+IsOne Kind.CPing = Unit
+IsOne Kind.CPong = Unit
+IsOne Kind.Forward = ⊥
+IsOne Kind.Body = Unit
+IsOne Kind.GetBody = Unit
+IsOne Kind.SendHeaders = ⊥
+IsOne Kind.BodyChunk = Unit
+IsOne Kind.End = Unit
 
--- as a packet: it is written by its call, parses where it fits, and shows the message
+-- a message of such a kind as a packet: it is written by its call, parses where it fits, and shows the message
 pub record OnePacket (m : Message) : Type 0 where
   pub packet : Packet
   pub calls : Calls m packet
   pub parses : length (messageBytes m) ≤ 8192 → Parses (wayOf m) (messageBytes m) packet
-  pub asks : placesNeeded (told packet) ≡ placesFor m
-  pub shows : (table : List ℕ) → messageShown (told packet) (messageBytes m) table ≡ m
+  pub shows : Shows packet (messageBytes m) m
 
 -- each such message has such a packet
-pub one-packet : (m : Message) → IsOne m → Fit m → OnePacket m
+pub one-packet : (m : Message) → IsOne (messages.kindOf m) → Fit m → OnePacket m
 unfolding messageShown
-one-packet cping one fit = record { packet = Packet.CPing; calls = cping-calls; parses = λ h. cping-parses; asks = refl; shows = λ table. refl }
-one-packet cpong one fit = record { packet = Packet.CPong; calls = cpong-calls; parses = λ h. cpong-parses; asks = refl; shows = λ table. refl }
+one-packet cping one fit = record {
+  packet = Packet.CPing;
+  calls = cping-calls;
+  parses = λ h. cping-parses;
+  shows = record { asks = refl; shown = λ table. refl };
+}
+one-packet cpong one fit = record {
+  packet = Packet.CPong;
+  calls = cpong-calls;
+  parses = λ h. cpong-parses;
+  shows = record { asks = refl; shown = λ table. refl };
+}
 one-packet (forward request) one fit = absurd one
 one-packet (body bytes) one fit = record {
   packet = Packet.Body (bodyPart bytes);
   calls = body-calls bytes (bodyPart bytes) (sym (body-long bytes));
   parses = λ h. body-parses bytes (body-most bytes h);
-  asks = refl;
-  shows = λ table. ap body (body-stands bytes);
+  shows = record { asks = refl; shown = λ table. ap body (body-stands bytes) };
 }
 one-packet (getBody asked) one fit = record {
   packet = Packet.GetBody asked;
   calls = get-calls asked;
   parses = λ h. get-parses asked fit;
-  asks = refl;
-  shows = λ table. refl;
+  shows = record { asks = refl; shown = λ table. refl };
 }
 one-packet (sendHeaders response) one fit = absurd one
 one-packet (bodyChunk bytes) one fit = record {
   packet = Packet.BodyChunk (chunkPart bytes);
   calls = chunk-calls bytes (chunkPart bytes) refl;
   parses = λ h. chunk-parses bytes (chunk-most bytes h);
-  asks = refl;
-  shows = λ table. ap bodyChunk (chunk-stands bytes);
+  shows = record { asks = refl; shown = λ table. ap bodyChunk (chunk-stands bytes) };
 }
 one-packet (end reuse) one fit = record {
   packet = Packet.End reuse;
   calls = end-calls reuse;
   parses = λ h. end-parses reuse;
-  asks = refl;
-  shows = λ table. ap end (boolean-back reuse);
+  shows = record { asks = refl; shown = λ table. ap end (boolean-back reuse) };
 }
 
 -- what a call wrote stands at the start of the buffer
-pub one-stands : {m : Message} (k : OnePacket m) {c : Connection} {buffer left : List ℕ} {w : Written}
+one-stands : {m : Message} (k : OnePacket m) {c : Connection} {buffer left : List ℕ} {w : Written}
     → OneWritten c (moveIn (k .packet)) (payloadOf m) buffer w left → Stands m c w left
 one-stands {m} k {c} {buffer} {left} {w} o =
     let own : messageBytes m ≡ part left 0 (w .length) = sym (o .stands ∙ k .calls .bytes-are) in
@@ -361,24 +355,14 @@ one-stands {m} k {c} {buffer} {left} {w} o =
       parses = rw (← own) (k .parses (rw (k .calls .bytes-are) at (o .most)));
       allows = o .allows;
       steps = sym (o .steps);
-      asks = k .asks;
-      shows = λ table. rw (← own) (k .shows (tableOf (k .packet) (messageBytes m) table));
+      shows = rw (← own) (k .shows);
     }
 
 -- and reads back
-pub one-forth : (m : Message) → IsOne m → Forth m
+pub one-forth : (m : Message) → IsOne (messages.kindOf m) → Forth m
 one-forth m one c buffer w left fit e =
     let k = one-packet m one fit in
     stands-back (one-stands k (one-written c (moveIn (k .packet)) (payloadOf m) buffer w left (sym (k .calls .call-is c buffer) ∙ e)))
-
--- nothing stands behind a packet's last field, and the packet is the one that was found
-finished-is : (size next : ℕ) (found p : Packet) → finished size next found ≡ PacketRead.Packet p → (next ≡ size) × (found ≡ p)
-finished-is size next found p = go (eqb next size) refl
-  where
-    go : (t : Bool) → eqb next size ≡ t → pick t (PacketRead.Packet found) (PacketRead.Refused 12) ≡ PacketRead.Packet p
-        → (next ≡ size) × (found ≡ p)
-    go true q e = (eqb-true next size q, cc)
-    go false q e = absurd (let z : _≡_ {A = ℕ} 0 1 = cc in omega arith)
 
 -- what a Get Body Chunk was read from
 get-read : (s : List ℕ) (asked : ℕ) → getAt s ≡ PacketRead.Packet (Packet.GetBody asked) → (length s ≡ 7) × (integerIn s 5 ≡ asked)
@@ -446,12 +430,12 @@ chunk-read s p = go (leb 7 (length s))
     go false e = absurd (let z : _≡_ {A = ℕ} 0 1 = cc in omega arith)
 
 -- what a body packet was read from: nothing behind the head, or a size and so many bytes
-data BodyRead (s : List ℕ) : Part → Type 0 where
+pub data BodyRead (s : List ℕ) : Part → Type 0 where
   empty : length s ≡ 4 → BodyRead s (partFrom 4 0)
   sized : (n : ℕ) → integerIn s 4 ≡ n → eqb n 0 ≡ false → length s ≡ 6 + n → BodyRead s (partFrom 6 n)
 
 -- a body packet was read from one of the two
-body-read : (s : List ℕ) (p : Part) → bodyAt s ≡ PacketRead.Packet (Packet.Body p) → BodyRead s p
+pub body-read : (s : List ℕ) (p : Part) → bodyAt s ≡ PacketRead.Packet (Packet.Body p) → BodyRead s p
 unfolding bodyAt integerAt sizedAt
 body-read s p = go (eqb (length s) 4) (leb 6 (length s)) refl
   where
@@ -478,21 +462,11 @@ body-read s p = go (eqb (length s) 4) (leb 6 (length s)) refl
     go false true q e = by (ltb (length s) (6 + n)) (ltb (6 + n) (length s)) (eqb n 0) refl refl refl e
     go false false q e = absurd (let z : _≡_ {A = ℕ} 0 1 = cc in omega arith)
 
--- what stands behind a place is a part of its own length
-rest-part : (s : List ℕ) (at n : ℕ) → length s ≡ at + n → drop at s ≡ part s at n
-unfolding part
-rest-part s at n e = sym (take-all n (drop at s) (omega (arith, length-drop at s)))
-
 -- a packet with a code, and so many bytes behind it
 behind-kept : {d : Direction} {s : List ℕ} {p : Packet} → Parses d s p → isBody (kindIn p) ≡ false → Bytes s → (n : ℕ) → length s ≡ 5 + n
     → (behind : List ℕ) → part s 5 n ≡ behind → s ≡ packet (directionOf (kindIn p)) (codeOf (kindIn p) ∷ behind)
 behind-kept {d} {s} {p} r b bytes n size behind e =
     coded-kept r b bytes ∙ ap (λ (l : List ℕ). packet (directionOf (kindIn p)) (codeOf (kindIn p) ∷ l)) (rest-part s 5 n size ∙ e)
-
--- no bytes
-part-zero : (s : List ℕ) (at : ℕ) → part s at 0 ≡ []
-unfolding part
-part-zero s at = refl
 
 -- the payload of a body packet is that of its bytes
 body-payload : {s : List ℕ} {p : Part} → Bytes s → BodyRead s p
@@ -563,26 +537,15 @@ module _ {d : Direction} {s : List ℕ} (bytes : Bytes s) where
         f .1,
       )
 
--- a packet that one call writes
-abbrev pub IsOneCall : Packet → Type 0
-IsOneCall Packet.CPing = Unit
-IsOneCall Packet.CPong = Unit
-IsOneCall (Packet.Forward f) = ⊥
-IsOneCall (Packet.Body p) = Unit
-IsOneCall (Packet.GetBody asked) = Unit
-IsOneCall (Packet.SendHeaders h) = ⊥
-IsOneCall (Packet.BodyChunk p) = Unit
-IsOneCall (Packet.End reuse) = Unit
-
--- as a message: it has the message's bytes, and its call writes it
-pub record OneShown (d : Direction) (s : List ℕ) (p : Packet) (m : Message) : Type 0 where
+-- a packet of such a kind as a message: it has the message's bytes, and its call writes it
+record OneShown (d : Direction) (s : List ℕ) (p : Packet) (m : Message) : Type 0 where
   pub calls : Calls m p
   pub kept : s ≡ messageBytes m
   pub fit : Fit m
   pub way : wayOf m ≡ d
 
 -- each such packet shows such a message
-pub one-shown : (d : Direction) (s table : List ℕ) (p : Packet) → IsOneCall p → Bytes s → Parses d s p
+one-shown : (d : Direction) (s table : List ℕ) (p : Packet) → IsOne (kindIn p) → Bytes s → Parses d s p
     → OneShown d s p (messageShown (told p) s table)
 unfolding messageShown
 one-shown d s table Packet.CPing one bytes r = record { calls = cping-calls; kept = cping-kept bytes r; fit = tt; way = r .way }
@@ -602,13 +565,12 @@ one-shown d s table (Packet.End reuse) one bytes r =
     rw (boolean-back reuse) (record { calls = end-calls reuse; kept = end-kept bytes reuse r; fit = tt; way = r .way })
 
 -- a packet that one call writes, once read, is written back
-pub one-back : (p : Packet) → IsOneCall p → Back p
+pub one-back : (p : Packet) → IsOne (kindIn p) → Back p
 one-back p one d c s table bytes r a places buffer room =
     let m : Message = messageShown (told p) s (tableOf p s table) in
     let k = one-shown d s (tableOf p s table) p one bytes r in
     let same : packetOf (moveIn p) (payloadOf m) ≡ s = k .calls .bytes-are ∙ sym (k .kept) in
-    let inside = frame-inside d s (FrameRead.Whole (length s)) (r .whole-is) in
-    let most : length (packetOf (moveIn p) (payloadOf m)) ≤ 8192 = rw same (inside .1 .0) in
+    let most : length (packetOf (moveIn p) (payloadOf m)) ≤ 8192 = rw same (parses-most r) in
     let fits : length (packetOf (moveIn p) (payloadOf m)) ≤ length buffer = rw same room in
     record {
       written = k .calls .call-is c buffer ∙ one-done c (moveIn p) (payloadOf m) buffer a most fits

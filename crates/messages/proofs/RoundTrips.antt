@@ -15,14 +15,14 @@ use Rattle.payload.specs.declared.packet.Packet.{Packet}
 use Rattle.writer.specs.Meaning.{Written}
 use Rattle.reader.specs.Meaning.{Told, accepted}
 use Rattle.reader.specs.Reading.{reading, tableAfter}
-use Rattle.messages.specs.Message.{Message, cping, cpong, forward, body, getBody, sendHeaders, bodyChunk, end, wayOf, placesFor, Fit}
+use Rattle.messages.specs.Message.{Message, kindOf, cping, cpong, forward, body, getBody, sendHeaders, bodyChunk, end, wayOf, placesFor, Fit}
 use Rattle.messages.specs.Bytes.{payloadOf, messageBytes}
 use Rattle.messages.specs.Writing.{wrote, writing}
 use Rattle.messages.specs.Shown.{messageShown}
 use Rattle.messages.proofs.RoundTrip.{ReadBack, Forth, WrittenBack, Back, back-by}
 use Rattle.messages.proofs.OneCall.{IsOne, one-packet, one-written, one-forth, one-back}
-use Rattle.messages.proofs.Built.{forward-written, send-headers-written}
-use Rattle.messages.proofs.InPieces.{forward-forth, head-forth, forward-back, head-back}
+use Rattle.messages.proofs.PiecesWritten.{forward-written, send-headers-written}
+use Rattle.messages.proofs.InPieces.{forward-forth, send-headers-forth, forward-back, send-headers-back}
 
 -- what was written for a message: its bytes from the buffer's first place on, all else as it was, and their number is answered
 pub record WrittenBytes (m : Message) (buffer : List ℕ) (w : Written) (left : List ℕ) : Type 0 where
@@ -31,7 +31,7 @@ pub record WrittenBytes (m : Message) (buffer : List ℕ) (w : Written) (left : 
   pub fits : length (messageBytes m) ≤ length buffer
 
 -- by one call
-one-bytes : (m : Message) → IsOne m → (c : Connection) (buffer : List ℕ) (w : Written) (left : List ℕ) → Fit m → writing c m buffer ≡ wrote w left
+one-bytes : (m : Message) → IsOne (kindOf m) → (c : Connection) (buffer : List ℕ) (w : Written) (left : List ℕ) → Fit m → writing c m buffer ≡ wrote w left
     → WrittenBytes m buffer w left
 one-bytes m one c buffer w left fit e =
     let calls = one-packet m one fit .calls in
@@ -65,7 +65,7 @@ forth cpong = one-forth cpong tt
 forth (forward request) = forward-forth request
 forth (body bytes) = one-forth (body bytes) tt
 forth (getBody asked) = one-forth (getBody asked) tt
-forth (sendHeaders response) = head-forth response
+forth (sendHeaders response) = send-headers-forth response
 forth (bodyChunk bytes) = one-forth (bodyChunk bytes) tt
 forth (end reuse) = one-forth (end reuse) tt
 
@@ -83,7 +83,7 @@ back Packet.CPong = one-back Packet.CPong tt
 back (Packet.Forward f) = forward-back f
 back (Packet.Body p) = one-back (Packet.Body p) tt
 back (Packet.GetBody asked) = one-back (Packet.GetBody asked) tt
-back (Packet.SendHeaders h) = head-back h
+back (Packet.SendHeaders h) = send-headers-back h
 back (Packet.BodyChunk p) = one-back (Packet.BodyChunk p) tt
 back (Packet.End reuse) = one-back (Packet.End reuse) tt
 

@@ -1,101 +1,92 @@
--- What stands in the table after an accepted packet: the places of its headers, and behind them those of its attributes. The packet's places
--- are laid over the table from its start on, so those of so many headers are the first of them; and so the message that is shown by the table is
--- the one by the packet's own places.
+-- The table that an accepted packet leaves: its places are laid over the table from the start on, so those of its headers are the first of them,
+-- and those of its attributes stand behind them.
 -- Assumes nothing.
-use mathlib.Core.Path.{_≡_, sym, ap, subst, _∙_}
-use mathlib.Core.List.{List, [], _++_, append-assoc}
-use Prim.Native.Nat.{ℕ, _+_, _*_}
-use lib.ListN.{length, drop}
+use native.Mathlib.Omega.{arith}
+use mathlib.Core.Path.{_≡_, refl, sym, ap, _∙_}
+use mathlib.Core.List.{List, [], _++_, append-nil}
+use Prim.Native.Nat.{ℕ, _*_}
+use lib.ListN.{length, length-append}
 use Rattle.wire.specs.Bytes.{part, over}
 use Rattle.wire.specs.declared.Direction.{Direction}
-use Rattle.wire.proofs.Bytes.{part-middle}
 use Rattle.connection.specs.declared.Connection.{Connection}
 use Rattle.connection.specs.declared.Kind.{Kind}
+use Rattle.payload.specs.Forward.{forwardAt}
+use Rattle.payload.specs.SendHeaders.{sendHeadersAt}
 use Rattle.payload.specs.Kinds.{packetAt, kindIn}
+use Rattle.payload.specs.declared.packet.Forward.{Forward}
+use Rattle.payload.specs.declared.packet.SendHeaders.{SendHeaders}
 use Rattle.payload.specs.declared.packet.Packet.{Packet}
 use Rattle.payload.specs.declared.packet.PacketRead.{PacketRead}
-use Rattle.payload.proofs.Parsed.{parsed-kind}
+use Rattle.payload.proofs.Parsed.{parsed-kind, forward-places, send-headers-places}
 use Rattle.reader.specs.Meaning.{Told, accepted, told}
-use Rattle.reader.specs.Reading.{parse, parseWhole, placesOf, readAsBody, reading, tableAfter}
-use Rattle.reader.proofs.Acceptance.{accepted-is}
-use Rattle.messages.specs.Shown.{headerPlaces, attributePlaces, shownBy, messageShown}
+use Rattle.reader.specs.Reading.{reading, tableAfter}
+use Rattle.reader.proofs.Acceptance.{accepted-is, accepted-fills}
+use Rattle.reader.proofs.Handed.{forward-handed}
+use Rattle.messages.specs.Shown.{headerPlaces, attributePlaces}
+use Rattle.messages.proofs.Parts.{over-first, over-second}
 
--- two lists that were laid over a table from its start on
-module _ (table first second : List ℕ) where
-  -- they stand one behind the other
-  over-parts : over table 0 (first ++ second) ≡ first ++ (second ++ drop (0 + length (first ++ second)) table)
-  unfolding over
-  over-parts = append-assoc first second (drop (0 + length (first ++ second)) table)
+-- the table with a packet's places
+abbrev pub tableOf : Packet → List ℕ → List ℕ → List ℕ
+tableOf p s table = over table 0 (packetAt (kindIn p) s .places)
 
-  -- the first is at its start
-  pub over-first : part (over table 0 (first ++ second)) 0 (length first) ≡ first
-  over-first =
-      ap (λ (l : List ℕ). part l 0 (length first)) over-parts ∙ part-middle [] first (second ++ drop (0 + length (first ++ second)) table)
+-- what a packet tells is of its kind
+told-kind : (p : Packet) → told p .kind ≡ kindIn p
+told-kind Packet.CPing = refl
+told-kind Packet.CPong = refl
+told-kind (Packet.Forward forward) = refl
+told-kind (Packet.Body part) = refl
+told-kind (Packet.GetBody asked) = refl
+told-kind (Packet.SendHeaders head) = refl
+told-kind (Packet.BodyChunk part) = refl
+told-kind (Packet.End reuse) = refl
 
-  -- and the second is behind it
-  pub over-second : part (over table 0 (first ++ second)) (length first) (length second) ≡ second
-  over-second =
-      ap (λ (l : List ℕ). part l (length first) (length second)) over-parts
-      ∙ part-middle first second (drop (0 + length (first ++ second)) table)
+-- an accepted packet fills the table with its own places
+pub table-filled : (d : Direction) (c : Connection) (s table : List ℕ) (p : Packet) (n : ℕ) (next : Connection)
+    → reading d c s (length table) ≡ accepted (told p) n next → tableAfter d c s table ≡ tableOf p (part s 0 n) table
+table-filled d c s table p n next e =
+    let a = accepted-is d c s (length table) (told p) n next e in
+    let kind : a .kind ≡ kindIn p =
+    sym (parsed-kind (a .kind) (part s 0 n) (a .packet) (a .fields-are)) ∙ sym (told-kind (a .packet))
+    ∙ ap (λ (t : Told). t .kind) (sym (a .tells)) ∙ told-kind p in
+    accepted-fills d c s table (told p) n next e .0 ∙ ap (λ (k : Kind). over table 0 (packetAt k (part s 0 n) .places)) kind
 
--- an accepted packet's table, by its places
-pub table-places : (direction : Direction) (c : Connection) (s table : List ℕ) (t : Told) (taken : ℕ) (next : Connection)
-    → reading direction c s (length table) ≡ accepted t taken next
-    → tableAfter direction c s table ≡ over table 0 (placesOf (parse direction (readAsBody direction c) s))
-unfolding tableAfter
-table-places direction c s table t taken next e = rw e
+-- a packet's places, parted into those of its headers and those of its attributes
+module _ (p : Packet) (s table headers attributes : List ℕ) (are : packetAt (kindIn p) s .places ≡ headers ++ attributes)
+    (many : length headers ≡ 2 * told p .headers) where
+  -- the places of its headers in the table, whatever its length
+  header-places : headerPlaces (told p) (tableOf p s table) ≡ headers
+  header-places = rw (are, ← many) (over-first table headers attributes)
 
--- the places of headers and of attributes in it, where the packet's places are so many of the one and so many of the other
-pub table-shows : (direction : Direction) (c : Connection) (s table : List ℕ) (t : Told) (taken : ℕ) (next : Connection)
-    → reading direction c s (length table) ≡ accepted t taken next → (headers attributes : List ℕ)
-    → placesOf (parse direction (readAsBody direction c) s) ≡ headers ++ attributes → length headers ≡ 2 * t .headers
-    → length attributes ≡ 2 * t .attributes
-    → (headerPlaces t (tableAfter direction c s table) ≡ headers) × (attributePlaces t (tableAfter direction c s table) ≡ attributes)
-table-shows direction c s table t taken next e headers attributes are p q =
-    let filled : tableAfter direction c s table ≡ over table 0 (headers ++ attributes) =
-    table-places direction c s table t taken next e ∙ ap (over table 0) are in (
-      rw (filled, ← p) (over-first table headers attributes),
-      rw (filled, ← p, ← q) (over-second table headers attributes),
+  -- and those of its attributes
+  attribute-places : length attributes ≡ 2 * told p .attributes → attributePlaces (told p) (tableOf p s table) ≡ attributes
+  attribute-places more = rw (are, ← many, ← more) (over-second table headers attributes)
+
+-- a Forward has two places for each header and two for each attribute
+pub forward-many : (s : List ℕ) (f : Forward) (e : forwardAt s .end ≡ PacketRead.Packet (Packet.Forward f)) → (let lists = forward-handed s f e .lists in
+    (length (lists .of-headers) ≡ 2 * f .headers) × (length (lists .of-attributes) ≡ 2 * f .attributes))
+forward-many s f e =
+    let lists = forward-handed s f e .lists in
+    let joined = length-append (lists .of-headers) (lists .of-attributes) in
+    (omega (arith, lists .many), omega (arith, forward-places s f e .many, ap length (lists .are), lists .many))
+
+-- they are those in the table
+pub forward-table : (s table : List ℕ) (f : Forward) (e : forwardAt s .end ≡ PacketRead.Packet (Packet.Forward f)) → (let lists = forward-handed s f e .lists in
+    let p = Packet.Forward f in
+    (headerPlaces (told p) (tableOf p s table) ≡ lists .of-headers) × (attributePlaces (told p) (tableOf p s table) ≡ lists .of-attributes))
+forward-table s table f e =
+    let lists = forward-handed s f e .lists in
+    let many = forward-many s f e in (
+      header-places (Packet.Forward f) s table (lists .of-headers) (lists .of-attributes) (lists .are) (many .0),
+      attribute-places (Packet.Forward f) s table (lists .of-headers) (lists .of-attributes) (lists .are) (many .0) (many .1),
     )
 
--- an accepted packet in front of other bytes
-module _ (direction : Direction) (c : Connection) (whole rest table : List ℕ) (t : Told) (taken : ℕ) (next : Connection)
-    (e : reading direction c (whole ++ rest) (length table) ≡ accepted t taken next) (size : taken ≡ length whole) where
-  -- it is the first part of them
-  whole-is : part (whole ++ rest) 0 taken ≡ whole
-  whole-is = ap (part (whole ++ rest) 0) size ∙ part-middle [] whole rest
+-- a Send Headers has two places for each header
+pub send-headers-many : (s : List ℕ) (h : SendHeaders) → sendHeadersAt s .end ≡ PacketRead.Packet (Packet.SendHeaders h)
+    → length (sendHeadersAt s .places) ≡ 2 * h .headers
+send-headers-many s h e = omega (arith, send-headers-places s h e .many)
 
-  module _ (packet : Packet) (same : accepted-is direction c (whole ++ rest) (length table) t taken next e .packet ≡ packet) where
-    -- its fields were read
-    fields-read : packetAt (accepted-is direction c (whole ++ rest) (length table) t taken next e .kind) whole .end ≡ PacketRead.Packet packet
-    fields-read =
-        let a = accepted-is direction c (whole ++ rest) (length table) t taken next e in
-        ap (λ (l : List ℕ). packetAt (a .kind) l .end) (sym whole-is) ∙ a .fields-are ∙ ap PacketRead.Packet same
-
-    -- as those of its own kind
-    read-as : accepted-is direction c (whole ++ rest) (length table) t taken next e .kind ≡ kindIn packet
-    read-as = sym (parsed-kind (accepted-is direction c (whole ++ rest) (length table) t taken next e .kind) whole packet fields-read)
-
-    -- so its bytes read as that kind are this packet
-    pub packet-read : packetAt (kindIn packet) whole .end ≡ PacketRead.Packet packet
-    packet-read = subst (λ (k : Kind). packetAt k whole .end ≡ PacketRead.Packet packet) read-as fields-read
-
-    -- its places are those of its own kind
-    packet-places : placesOf (parse direction (readAsBody direction c) (whole ++ rest)) ≡ packetAt (kindIn packet) whole .places
-    unfolding parse parseWhole
-    packet-places =
-        let a = accepted-is direction c (whole ++ rest) (length table) t taken next e in
-        rw (a .whole-is, a .kind-is, read-as, whole-is)
-
-    -- and the message that is shown by the table is the one by these places
-    pub packet-shown : (headers attributes : List ℕ) → packetAt (kindIn packet) whole .places ≡ headers ++ attributes
-        → length headers ≡ 2 * told packet .headers → length attributes ≡ 2 * told packet .attributes
-        → messageShown t (part (whole ++ rest) 0 taken) (tableAfter direction c (whole ++ rest) table)
-        ≡ shownBy (told packet) whole headers attributes (told packet .kind)
-    unfolding messageShown
-    packet-shown headers attributes are p q =
-        let tells : t ≡ told packet = accepted-is direction c (whole ++ rest) (length table) t taken next e .tells ∙ ap told same in
-        let shows =
-        table-shows direction c (whole ++ rest) table t taken next e headers attributes (packet-places ∙ are)
-        (p ∙ ap (λ (u : Told). 2 * u .headers) (sym tells)) (q ∙ ap (λ (u : Told). 2 * u .attributes) (sym tells)) in
-        rw (shows .0, shows .1, whole-is) (ap (λ (u : Told). shownBy u whole headers attributes (u .kind)) tells)
+-- they are those in the table
+pub send-headers-table : (s table : List ℕ) (h : SendHeaders) → sendHeadersAt s .end ≡ PacketRead.Packet (Packet.SendHeaders h)
+    → headerPlaces (told (Packet.SendHeaders h)) (tableOf (Packet.SendHeaders h) s table) ≡ sendHeadersAt s .places
+send-headers-table s table h e =
+    header-places (Packet.SendHeaders h) s table (sendHeadersAt s .places) [] (sym (append-nil (sendHeadersAt s .places))) (send-headers-many s h e)

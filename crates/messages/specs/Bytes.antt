@@ -9,7 +9,6 @@ use Rattle.wire.specs.Bytes.{integerBytes}
 use Rattle.wire.specs.Packet.{packet}
 use Rattle.wire.specs.declared.Direction.{Direction}
 use Rattle.connection.specs.Cycle.{directionOf}
-use Rattle.connection.specs.declared.Kind.{Kind}
 use Rattle.connection.specs.declared.Move.{Move}
 use Rattle.payload.specs.Code.{codeOf}
 use Rattle.fields.specs.Field.{Field, bytesOf}

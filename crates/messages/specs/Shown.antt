@@ -14,7 +14,7 @@ use Rattle.connection.specs.declared.Kind.{Kind}
 use Rattle.reader.specs.declared.view.HeaderName.{HeaderName}
 use Rattle.reader.specs.Meaning.{Told}
 use Rattle.reader.specs.View.{integerView, nullView, textView, nameView}
-use Rattle.messages.specs.Message.{Text, null, text, Name, coded, spelled, Header, Value, string, integer, pair, Attribute, Request, Response, Message, cping, cpong, forward, body, getBody, sendHeaders, bodyChunk, end}
+use Rattle.messages.specs.Message.{Text, null, text, Name, coded, spelled, Header, Value, string, integer, pair, Attribute, Message, cping, cpong, forward, body, getBody, sendHeaders, bodyChunk, end}
 
 -- the string at a place
 abbrev pub textShown : List ℕ → ℕ → Text

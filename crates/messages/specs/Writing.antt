@@ -5,7 +5,6 @@ use mathlib.Core.Bool.{false}
 use mathlib.Core.List.{List, [], _∷_}
 use Prim.Native.Nat.{ℕ}
 use lib.ListN.{length}
-use Rattle.wire.specs.declared.Direction.{Direction}
 use Rattle.connection.specs.declared.Connection.{Connection}
 use Rattle.fields.specs.Call.{Call, Outcome, refused, done, outcome, bufferAfter}
 use Rattle.pieces.specs.declared.Building.{Building}

@@ -1,11 +1,11 @@
 -- What the container's connection knows of the requests: in Busy the newest one got what it declared but for what is left. Every move that is
 -- allowed keeps that, by the rows of the cycle's table.
 -- Assumes nothing.
+use native.Mathlib.Omega.{arith}
 use mathlib.Core.Path.{_≡_, refl, subst}
 use mathlib.Core.Bool.{Bool, true, false, not, false≢true}
 use mathlib.Core.List.{List, [], _∷_}
 use Prim.Native.Nat.{ℕ, _+_, _-_, _≤_}
-use native.Mathlib.Omega.{arith}
 use lib.ListN.{length, length-append}
 use Rattle.wire.specs.Pick.{both}
 use Rattle.wire.specs.declared.Direction.{Direction}
@@ -17,7 +17,7 @@ use Rattle.connection.specs.declared.Move.{Move}
 use Rattle.connection.proofs.Commute.{body-within}
 use Rattle.pipes.specs.Past.{Request, gets}
 use Rattle.pipes.specs.Claims.{WithinDeclared}
-use Rattle.pipes.proofs.Facts.{Carries, counting}
+use Rattle.pipes.proofs.Readable.{Carries, counting}
 
 -- by the state and the bytes left: in Busy there is a request, and what it got and what is left make up what it declared
 abbrev CountedIn : State → ℕ → List Request → Type 0
@@ -31,7 +31,7 @@ CountedIn State.Busy left (request ∷ before) = (length (request .got) + left �
 abbrev pub Counted : Connection → List Request → Type 0
 Counted c before = CountedIn (c .state) (c .left .0) before
 
--- so no request got more than it declared
+-- so no request got more than it declared, by the state and the bytes left
 within-by : (state : State) (left : ℕ) (before : List Request) → CountedIn state left before → WithinDeclared before
 within-by State.Idle left before i = i
 within-by State.Pinged left before i = i
@@ -39,6 +39,7 @@ within-by State.Closed left before i = i
 within-by State.Busy left [] i = absurd i
 within-by State.Busy left (request ∷ before) i = (omega arith, i .1)
 
+-- and by the connection
 pub counted-within : (c : Connection) (before : List Request) → Counted c before → WithinDeclared before
 counted-within c before i = within-by (c .state) (c .left .0) before i
 

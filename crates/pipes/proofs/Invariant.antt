@@ -17,10 +17,10 @@ use Rattle.reader.specs.Meaning as read
 use Rattle.reader.specs.Reading.{reading}
 use Rattle.pipes.specs.Ends.{Send, wayOf, outcomeOf, bufferOf, isBodyCall, bodyGiven, Packet, Ends, pipeOf, senderOf, receiverOf, withSent, withRead, connectionAfter, packetsOf, afterSend, allBytes, Delivery, lent, answerOf, afterAnswer}
 use Rattle.pipes.specs.Past.{sent, refusedSend, delivered, World, start, send, deliver, entryOf, deliverFrom, happen, sentBytes, receivedBytes, heldIn, bytesIn, Request, requests}
-use Rattle.pipes.specs.Claims.{Good}
+use Rattle.pipes.specs.Claims.{AllTaken, NoneChanged}
 use Rattle.pipes.proofs.Moves.{opposite}
-use Rattle.pipes.proofs.Facts.{counting, Readable, packetBy, Made}
-use Rattle.pipes.proofs.Sends.{send-made}
+use Rattle.pipes.proofs.Readable.{counting, Readable}
+use Rattle.pipes.proofs.Sends.{packetBy, Made, send-made}
 use Rattle.pipes.proofs.Meeting.{empty, Meeting, meeting-sent, First, meeting-first, EndsMeet, meeting-of, after-sent, after-read}
 use Rattle.pipes.proofs.Counting.{Counted, count-move, reply-holds, reply-counts}
 
@@ -33,7 +33,8 @@ bytes-last (first ∷ packets) packet =
 -- what stays so
 pub record Kept (w : World) : Type 0 where
   pub meeting : EndsMeet (w .ends)
-  pub good : Good (w .past)
+  pub taken : AllTaken (w .past)
+  pub unchanged : NoneChanged (w .past)
   pub bytes : receivedBytes (w .past) ++ bytesIn (w .ends .toContainer) ≡ sentBytes (w .past)
   pub counted : Counted (w .ends .atContainer) (requests (w .past))
 
@@ -49,7 +50,8 @@ kept-start = record {
     sender-allows = tt;
     meets = refl;
   };
-  good = tt;
+  taken = tt;
+  unchanged = tt;
   bytes = refl;
   counted = tt;
 }
@@ -118,7 +120,8 @@ module _ (call : Send) (w : World) (kept : Kept w) where
       subst (λ (x : Ends). Kept (record { ends = x; past = refusedSend (w .ends) (afterSend call (w .ends)) ∷ w .past })) (sym same)
       (record {
         meeting = kept .meeting;
-        good = (sym stays, kept .good);
+        taken = kept .taken;
+        unchanged = (sym stays, kept .unchanged);
         bytes = kept .bytes;
         counted = kept .counted;
       })
@@ -138,7 +141,8 @@ module _ (call : Send) (w : World) (kept : Kept w) where
         meeting =
             after-sent direction (w .ends) (after given m) (pipeOf direction (w .ends) ++ packet ∷ [])
             (meeting-sent packet m (made .readable) (made .allows) (meeting-of direction (w .ends) (kept .meeting)));
-        good = kept .good;
+        taken = kept .taken;
+        unchanged = kept .unchanged;
         bytes =
             bytes-sent direction (w .ends) (after given m) packet m (receivedBytes (w .past)) (sentBytes (w .past)) (made .readable) (kept .bytes)
             ∙ ap (λ (l : List ℕ). sentBytes (w .past) ++ l) (made .holds);
@@ -176,7 +180,8 @@ module _ (direction : Direction) (d : Delivery) (w : World) (kept : Kept w) wher
       })) (sym answer)
       (record {
         meeting = after-read direction (w .ends) (after c m) later (first .rest);
-        good = (refl, kept .good);
+        taken = (refl, kept .taken);
+        unchanged = kept .unchanged;
         bytes =
             ap (λ (l : List ℕ). (receivedBytes (w .past) ++ l) ++ bytesIn (withRead direction (after c m) later (w .ends) .toContainer)) (readable .handed rest)
             ∙ bytes-read direction (w .ends) (after c m) packet later m (receivedBytes (w .past)) (sentBytes (w .past)) readable e (kept .bytes);

@@ -1,8 +1,9 @@
 pub mod Moves
-pub mod Facts
+pub mod Readable
 pub mod Packets
 pub mod Sends
 pub mod Meeting
 pub mod Counting
 pub mod Invariant
 pub mod Theorem
+pub mod Sample

@@ -10,7 +10,7 @@ use Rattle.connection.specs.declared.Connection.{Connection}
 use Rattle.connection.specs.declared.Move.{Move}
 use Rattle.pipes.specs.Ends.{Packet, Ends, pipeOf, senderOf, receiverOf, withSent, withRead}
 use Rattle.pipes.proofs.Moves.{opposite, opposite-twice, AllAllowed, afterAll, AllGo, allowed-last, after-last, Passing, passing}
-use Rattle.pipes.proofs.Facts.{Readable}
+use Rattle.pipes.proofs.Readable.{Readable}
 
 -- the moves that the packets of a pipe make, one after another
 pub data Pipe (direction : Direction) : List Packet → List Move → Type 0 where
@@ -77,6 +77,7 @@ pub record First (direction : Direction) (sender receiver : Connection) (packet 
   pub allows : allowed receiver move ≡ true
   pub rest : Meeting direction sender (after receiver move) later back
 
+-- that is so of every pipe with a packet in it
 pub meeting-first : {direction : Direction} {sender receiver : Connection} {packet : Packet} {later back : List Packet}
     → Meeting direction sender receiver (packet ∷ later) back → First direction sender receiver packet later back
 meeting-first {direction} {sender} {receiver} {packet} {later} {back} ends =
@@ -109,12 +110,13 @@ pub meeting-of : (direction : Direction) (e : Ends) → EndsMeet e
 meeting-of Direction.ToContainer e ends = ends
 meeting-of Direction.ToServer e ends = turned ends
 
--- and back, where the end that sends changed, or the end that reads
+-- and back, where the end that sends changed
 pub after-sent : (direction : Direction) (e : Ends) (c : Connection) (out : List Packet)
     → Meeting direction c (receiverOf direction e) out (pipeOf (opposite direction) e) → EndsMeet (withSent direction c out e)
 after-sent Direction.ToContainer e c out ends = ends
 after-sent Direction.ToServer e c out ends = turned ends
 
+-- or the end that reads
 pub after-read : (direction : Direction) (e : Ends) (c : Connection) (out : List Packet)
     → Meeting direction (senderOf direction e) c out (pipeOf (opposite direction) e) → EndsMeet (withRead direction c out e)
 after-read Direction.ToContainer e c out ends = ends

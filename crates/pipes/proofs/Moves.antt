@@ -15,6 +15,7 @@ abbrev pub opposite : Direction → Direction
 opposite Direction.ToContainer = Direction.ToServer
 opposite Direction.ToServer = Direction.ToContainer
 
+-- twice it is the same again
 pub opposite-twice : (direction : Direction) → opposite (opposite direction) ≡ direction
 opposite-twice Direction.ToContainer = refl
 opposite-twice Direction.ToServer = refl
@@ -34,12 +35,13 @@ abbrev pub AllGo : Direction → List Move → Type 0
 AllGo direction [] = Unit
 AllGo direction (m ∷ later) = (directionOf (kindOf m) ≡ direction) × AllGo direction later
 
--- a move behind moves
+-- a move behind moves is allowed where the connection after them allows it
 pub allowed-last : (c : Connection) (moves : List Move) (m : Move) → AllAllowed c moves → allowed (afterAll c moves) m ≡ true
     → AllAllowed c (moves ++ m ∷ [])
 allowed-last c [] m all f = (f, tt)
 allowed-last c (n ∷ moves) m all f = (all .0, allowed-last (after c n) moves m (all .1) f)
 
+-- and the connection after all of them is the one after it
 pub after-last : (c : Connection) (moves : List Move) (m : Move) → afterAll c (moves ++ m ∷ []) ≡ after (afterAll c moves) m
 after-last c [] m = refl
 after-last c (n ∷ moves) m = after-last (after c n) moves m
@@ -63,6 +65,7 @@ pub record Passing (c : Connection) (m : Move) (moves : List Move) : Type 0 wher
   pub others : AllAllowed (after c m) moves
   pub meets : afterAll (after c m) moves ≡ after (afterAll c moves) m
 
+-- that is so of every such move
 pub passing : (direction : Direction) (c : Connection) (m : Move) (moves : List Move) → directionOf (kindOf m) ≡ direction
     → AllGo (opposite direction) moves → allowed c m ≡ true → AllAllowed c moves → Passing c m moves
 passing direction c m [] p q f all = record { still = f; others = tt; meets = refl }

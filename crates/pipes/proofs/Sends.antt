@@ -2,45 +2,55 @@
 -- that move, and whoever allows the move at the other end reads the packet. A packet of one call parses as what was written; a packet that was
 -- closed has been judged by the sender's own connection.
 -- Assumes nothing.
+use native.Mathlib.Omega.{arith}
+use borrow.Author.Tests.{ne-eqb}
 use mathlib.Core.Path.{_≡_, refl, sym, ap, subst, _∙_}
 use mathlib.Core.Bool.{Bool, true, false}
 use mathlib.Core.List.{List, [], _∷_}
 use Prim.Native.Nat.{ℕ}
-use native.Mathlib.Omega.{arith}
-use borrow.Author.Tests.{ne-eqb}
 use lib.Dec.{eqb}
 use lib.ListN.{length, drop, length-append}
-use lib.Seq.{take-length}
 use Rattle.wire.specs.Pick.{pick}
 use Rattle.wire.specs.Bytes.{part}
 use Rattle.wire.specs.declared.Direction.{Direction}
-use Rattle.places.specs.Entries.{maxPlaces}
-use Rattle.connection.specs.Cycle.{directionOf, inState, allowed, after}
+use Rattle.connection.specs.Cycle.{allowed, after}
 use Rattle.connection.specs.declared.Connection.{Connection}
 use Rattle.connection.specs.declared.Move.{Move}
 use Rattle.connection.proofs.Commute.{body-within}
-use Rattle.fields.specs.Call.{done}
+use Rattle.places.specs.Entries.{maxPlaces}
 use Rattle.payload.specs.Body.{bodyStart}
 use Rattle.payload.specs.Kinds.{kindIn, moveIn}
 use Rattle.payload.specs.declared.packet.Packet as payload
-use Rattle.payload.proofs.Parsed.{move-kind}
+use Rattle.fields.specs.Call.{done}
+use Rattle.pieces.specs.Record as pieces
 use Rattle.pieces.specs.declared.BuildingKind.{BuildingKind}
 use Rattle.pieces.specs.declared.Building.{Building}
-use Rattle.pieces.specs.Record as pieces
 use Rattle.writer.specs.Meaning.{Written}
 use Rattle.writer.specs.Sending.{packetOf, barePayload, bodyPayload, chunkPayload, getPayload, endPayload, bareCall, bodyCall, chunkCall, getCall, endCall}
-use Rattle.closing.specs.Closing.{closedPacket, closeOutcome, closeBuffer}
-use Rattle.closing.proofs.Laws.{CloseDone, close-done}
 use Rattle.reader.specs.Meaning.{Told, accepted}
 use Rattle.reader.specs.Reading.{readAsBody, reading}
+use Rattle.closing.specs.Closing.{closedPacket, closeOutcome, closeBuffer}
+use Rattle.closing.proofs.Laws.{CloseDone, close-done}
 use Rattle.messages.specs.Bytes.{messageBytes}
-use Rattle.messages.proofs.Frames.{isBody, Parses, as-body, AcceptedAs, accepted-parses}
+use Rattle.messages.proofs.Parses.{isBody, Parses, packet-as-body, none-due, AcceptedAs, accepted-parses, all-parses}
 use Rattle.messages.proofs.OneCall as one
 use Rattle.messages.proofs.OneCall.{OneWritten, done-written, cping-parses, cpong-parses, body-parses, chunk-parses, get-parses, end-parses}
-use Rattle.pipes.specs.Ends.{recordOf, Send, cping, body, closeForward, cpong, bodyChunk, getBody, end, closeSendHeaders, wayOf, outcomeOf, bufferOf, isBodyCall, bodyGiven}
+use Rattle.pipes.specs.Ends.{recordOf, Send, cping, body, closeForward, cpong, bodyChunk, getBody, end, closeSendHeaders, wayOf, outcomeOf, bufferOf, isBodyCall, bodyGiven, Packet}
 use Rattle.pipes.specs.Past.{heldIn}
-use Rattle.pipes.proofs.Facts.{packetBy, Made}
+use Rattle.pipes.proofs.Readable.{Readable}
 use Rattle.pipes.proofs.Packets.{readable}
+
+-- the packet of a call, by its bytes
+abbrev pub packetBy : Send → List ℕ → Packet
+packetBy call bytes = record { bytes = bytes; ofBody = isBodyCall call }
+
+-- a send with this connection that wrote these bytes and came to the next connection
+pub record Made (c : Connection) (call : Send) (bytes : List ℕ) (next : Connection) : Type 0 where
+  pub move : Move
+  pub allows : allowed c move ≡ true
+  pub steps : next ≡ after c move
+  pub readable : Readable (wayOf call) (packetBy call bytes) move
+  pub holds : heldIn (packetBy call bytes) ≡ bodyGiven call
 
 -- a packet that parses, sent by a call
 made : (c : Connection) (call : Send) (bytes : List ℕ) (next : Connection) (p : payload.Packet) → Parses (wayOf call) bytes p
@@ -71,33 +81,15 @@ body-held : (bytes : List ℕ) → drop bodyStart (packetOf (Move.Body (length b
 body-held [] = refl
 body-held (byte ∷ later) = rw (some-bytes byte later)
 
--- and it makes the move of so many bytes
-body-move : (bytes : List ℕ) → moveIn (payload.Packet.Body (one.bodyPart bytes)) ≡ Move.Body (length bytes)
-body-move [] = refl
-body-move (byte ∷ later) = rw (some-bytes byte later)
-
--- a state that allows a packet in pieces has no body packet due at the end to which it goes
-none-due : (c : Connection) (kind : BuildingKind) → inState c (pieces.kindIn kind) ≡ true
-    → readAsBody (directionOf (pieces.kindIn kind)) c ≡ false
-none-due c BuildingKind.Forward e = as-body c (Move.Forward (record { 0 = 0 })) (rw e)
-none-due c BuildingKind.SendHeaders e = refl
-
--- a packet whose move is allowed is read as a body packet exactly if it is one
-read-as : (c : Connection) (d : Direction) (p : payload.Packet) → directionOf (kindIn p) ≡ d → allowed c (moveIn p) ≡ true
-    → isBody (kindIn p) ≡ readAsBody d c
-read-as c d p way a = rw (← way, ← move-kind p) (sym (as-body c (moveIn p) a))
-
 -- a packet that the sender's own connection accepts at the end to which it goes
 judged-made : (c : Connection) (call : Send) (bytes : List ℕ) (t : Told) (next : Connection)
     → reading (wayOf call) c bytes maxPlaces ≡ accepted t (length bytes) next → readAsBody (wayOf call) c ≡ isBodyCall call
     → heldIn (packetBy call bytes) ≡ bodyGiven call → Made c call bytes next
-unfolding part
 judged-made c call bytes t next e same holds =
     let found : AcceptedAs (wayOf call) c bytes t (length bytes) next = accepted-parses (wayOf call) c bytes maxPlaces t (length bytes) next e in
-    let p : payload.Packet = found .packet in
-    let whole : part bytes 0 (length bytes) ≡ bytes = take-length bytes in
-    let parses : Parses (wayOf call) bytes p = subst (λ (l : List ℕ). Parses (wayOf call) l p) whole (found .parses) in
-    made c call bytes next p parses (read-as c (wayOf call) p (parses .way) (found .allows) ∙ same) holds (found .allows) (found .steps)
+    let parses : Parses (wayOf call) bytes (found .packet) = all-parses (wayOf call) c bytes maxPlaces t next e in
+    made c call bytes next (found .packet) parses (sym (packet-as-body c (wayOf call) (found .packet) (parses .way) (found .allows)) ∙ same) holds
+    (found .allows) (found .steps)
 
 -- a packet that was closed
 close-made : (c : Connection) (call : Send) (r : Building) (buffer : List ℕ) (w : Written) → closeOutcome c r buffer ≡ done w
@@ -122,7 +114,7 @@ send-made c (cping buffer) w e =
     one-made (cping buffer) payload.Packet.CPing (done-written c Move.CPing (barePayload Move.CPing) buffer w e) refl cping-parses refl refl
 send-made c (body buffer bytes) w e =
     let wrote = done-written c (Move.Body (length bytes)) (bodyPayload bytes) buffer w e in
-    one-made (body buffer bytes) (payload.Packet.Body (one.bodyPart bytes)) wrote (body-move bytes)
+    one-made (body buffer bytes) (payload.Packet.Body (one.bodyPart bytes)) wrote (ap Move.Body (one.body-long bytes))
     (body-parses bytes (body-within c (length bytes) (wrote .allows) .of-packet)) refl (body-held bytes)
 send-made c (closeForward r buffer) w e =
     close-made c (closeForward r buffer) (recordOf BuildingKind.Forward r) buffer w e refl refl refl

@@ -1,11 +1,11 @@
 -- Demand 3, the theorem on two ends and their pipes: what document 01 demands holds after every list of events. Each event keeps what
 -- `Kept` says, and that gives each sentence.
 -- Assumes nothing.
+use native.Mathlib.Omega.{arith}
 use mathlib.Core.Path.{_≡_, refl, sym, ap, _∙_}
 use mathlib.Core.Bool.{false≢true}
 use mathlib.Core.List.{List, [], _∷_}
 use Prim.Native.Nat.{ℕ}
-use native.Mathlib.Omega.{arith}
 use Rattle.wire.specs.declared.Direction.{Direction}
 use Rattle.connection.specs.Cycle.{after}
 use Rattle.connection.specs.declared.State.{State}
@@ -58,7 +58,8 @@ module _ (w : World) (kept : Kept w) where
   -- every sentence of the demand
   kept-holds : Holds w
   kept-holds = record {
-    good = kept .good;
+    taken = kept .taken;
+    unchanged = kept .unchanged;
     equal = both-equal;
     idle = both-idle;
     bytes = kept .bytes;

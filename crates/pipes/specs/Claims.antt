@@ -15,12 +15,19 @@ Taken packet (read.needs n) = ⊥
 Taken packet (read.refused n) = ⊥
 Taken packet (read.accepted t taken after) = taken ≡ length packet
 
--- every packet delivered was accepted and exactly its bytes were taken; a refused send changed neither end and neither pipe
-abbrev pub Good : List Entry → Type 0
-Good [] = Unit
-Good (sent bytes ∷ before) = Good before
-Good (refusedSend e f ∷ before) = (e ≡ f) × Good before
-Good (delivered packet lent answer ∷ before) = Taken packet answer × Good before
+-- every packet delivered was accepted and exactly its bytes were taken
+abbrev pub AllTaken : List Entry → Type 0
+AllTaken [] = Unit
+AllTaken (sent bytes ∷ before) = AllTaken before
+AllTaken (refusedSend e f ∷ before) = AllTaken before
+AllTaken (delivered packet lent answer ∷ before) = Taken packet answer × AllTaken before
+
+-- a refused send changed neither end and neither pipe
+abbrev pub NoneChanged : List Entry → Type 0
+NoneChanged [] = Unit
+NoneChanged (sent bytes ∷ before) = NoneChanged before
+NoneChanged (refusedSend e f ∷ before) = (e ≡ f) × NoneChanged before
+NoneChanged (delivered packet lent answer ∷ before) = NoneChanged before
 
 -- no request got more than it declared
 abbrev pub WithinDeclared : List Request → Type 0
@@ -29,8 +36,10 @@ WithinDeclared (request ∷ before) = (length (request .got) ≤ request .declar
 
 -- the whole of demand 3
 pub record Holds (w : World) : Type 0 where
-  -- every packet delivered was accepted and exactly its bytes taken; a refused send changed nothing
-  pub good : Good (w .past)
+  -- every packet delivered was accepted and exactly its bytes taken
+  pub taken : AllTaken (w .past)
+  -- a refused send changed neither end and neither pipe
+  pub unchanged : NoneChanged (w .past)
   -- both pipes empty: the two connections are equal
   pub equal : w .ends .toContainer ≡ [] → w .ends .toServer ≡ [] → w .ends .atServer ≡ w .ends .atContainer
   -- the server's end Idle: both pipes are empty and the container's end is Idle

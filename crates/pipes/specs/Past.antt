@@ -2,7 +2,6 @@
 -- request got.
 -- Document 01, 'Two ends and their pipes'.
 -- Assumes nothing.
-use mathlib.Core.Bool.{Bool}
 use mathlib.Core.List.{List, [], _∷_, _++_}
 use Prim.Native.Nat.{ℕ}
 use lib.ListN.{drop}

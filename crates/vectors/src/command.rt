@@ -8,8 +8,8 @@ use cases::text;
 use wire::Direction;
 
 // What the commands are called in the order of their numbers, and then all of them, a slash between two.
-const NAMES: [u8; 115] =
-    *b"read at the container/read at the server/cping/cpong/body/chunk/get/end/forward/sendheaders/header/attribute/in all";
+const NAMES: [u8; 121] =
+    *b"read at the container/read at the server/cping/cpong/body/chunk/get/end/forward/sendheaders/header/attribute/close/in all";
 
 // The command of a case, by its first words.
 pub fn of(case: &[u8]) -> usize {
@@ -48,7 +48,7 @@ pub fn answer(command: usize, case: &[u8], out: &mut [u8]) -> usize {
         commands::READ_AT_CONTAINER => read::answer(Direction::ToContainer, case, out),
         commands::READ_AT_SERVER => read::answer(Direction::ToServer, case, out),
         commands::CPING..=commands::END => send::answer(command, case, out),
-        commands::FORWARD..=commands::ATTRIBUTE => piece::answer(command, case, out),
+        commands::FORWARD..=commands::CLOSE => piece::answer(command, case, out),
         _ => commands::NOT_UNDERSTOOD,
     }
 }

@@ -9,7 +9,7 @@ abbrev Inv-loop : tie.InvT-loop
 Inv-loop name names command₀ command = Unit {0}
 
 abbrev μ-loop : tie.MeasureT-loop
-μ-loop name names command₀ command = 12 - command
+μ-loop name names command₀ command = 13 - command
 
 pub to-build-spec : {M : Type 1} → statement M
 to-build-spec =

@@ -1,5 +1,5 @@
 -- From read to written: the bytes of a Forward or a Send Headers that was read are those of the message that it shows, and none of its pieces
--- has a fault. Its fields stand one behind the other, from its code to its last byte, and each is kept (`KeptFields`).
+-- has a fault. Its fields stand one behind the other, from its code to its last byte, and each is kept (`FieldsKept`).
 -- Assumes nothing.
 use native.Mathlib.Omega.{arith}
 use borrow.Author.Tests.{leb-true, eqb-true}
@@ -8,9 +8,8 @@ use mathlib.Core.Bool.{Bool, true, false}
 use mathlib.Core.List.{List, [], _∷_, _++_}
 use Prim.Native.Nat.{ℕ, _+_, _-_, _≤_, _<_}
 use lib.Dec.{leb, eqb}
-use lib.ListN.{length, getD, take, drop, length-drop}
-use lib.Seq.{take-all, take-at, drop-at}
-use Rattle.wire.specs.Pick.{pick, both, between}
+use lib.ListN.{length, getD, drop}
+use Rattle.wire.specs.Pick.{pick, between}
 use Rattle.wire.specs.Refusal.{outOfRange, cutShort, tooMany, leftOver}
 use Rattle.wire.specs.Bytes.{part, integerBytes}
 use Rattle.wire.specs.Field.{byteAt, integerAt, booleanAt, booleanBytes, stringAt, isOptional}
@@ -24,13 +23,13 @@ use Rattle.wire.proofs.Field.{BooleanInside, boolean-inside}
 use Rattle.wire.proofs.RoundTrip.{Bytes, boolean-kept}
 use Rattle.names.specs.Length.{declaredLength}
 use Rattle.names.specs.declared.length.Declared.{Declared}
+use Rattle.connection.specs.Cycle.{directionOf}
+use Rattle.connection.specs.declared.Kind.{Kind}
 use Rattle.places.specs.Entries.{maxHeaders, maxAttributes}
 use Rattle.headers.specs.Headers.{headersAt}
 use Rattle.headers.specs.declared.HeadersRead.{HeadersRead}
 use Rattle.attributes.specs.Attributes.{attributesAt}
 use Rattle.attributes.specs.declared.AttributesRead.{AttributesRead}
-use Rattle.connection.specs.Cycle.{directionOf}
-use Rattle.connection.specs.declared.Kind.{Kind}
 use Rattle.payload.specs.Code.{codeOf}
 use Rattle.payload.specs.Sequence.{afterCode, stringField as stringRead, stringFieldAt, stringAfter, booleanNumber, booleanField, booleanFieldAt, booleanAfter, numberField, anyIntegerAfter, bounded, byteAfter, integerAfter, placeOf, valueOf}
 use Rattle.payload.specs.Lists.{headersAfter, listsOf, attributesBehind, behindHeaders, listsAt}
@@ -42,19 +41,23 @@ use Rattle.payload.specs.declared.packet.Forward.{Forward}
 use Rattle.payload.specs.declared.packet.SendHeaders.{SendHeaders}
 use Rattle.payload.specs.declared.packet.Packet.{Packet}
 use Rattle.payload.specs.declared.packet.PacketRead.{PacketRead}
-use Rattle.fields.specs.Fault.{unless, rangeFault}
+use Rattle.fields.specs.Fault.{rangeFault}
 use Rattle.fields.specs.Field.{Field, plain, byteWithin, integerWithin, bytesOf}
-use Rattle.pieces.specs.declared.BuildingKind.{BuildingKind}
 use Rattle.pieces.specs.Record.{kindIn}
-use Rattle.closing.specs.Closing.{lastBytes}
+use Rattle.pieces.specs.declared.BuildingKind.{BuildingKind}
 use Rattle.reader.specs.Meaning.{told}
-use Rattle.reader.proofs.Handed.{StringEnds, attributes-handed, forward-handed}
+use Rattle.reader.proofs.Handed.{StringEnds, attributes-handed}
+use Rattle.closing.specs.Closing.{lastBytes}
 use Rattle.messages.specs.Message.{Header, Attribute, Request, Response, Message, forward, sendHeaders, wayOf, Fit}
 use Rattle.messages.specs.Bytes.{attributesBytes, requestFields, responseFields, piecesPayload, payloadOf, messageBytes}
 use Rattle.messages.specs.Shown.{textShown, headersShown, attributesShown, shownBy}
+use Rattle.messages.proofs.Parts.{rest-part, same-front, same-rest}
+use Rattle.messages.proofs.Fine.{FieldsFine, HeadersFine, AttributesFine, range-most}
 use Rattle.messages.proofs.Fixed.{boolean-back}
-use Rattle.messages.proofs.Fine.{FieldsFine, HeadersFine, AttributesFine}
-use Rattle.messages.proofs.KeptFields.{Held, held-none, held-byte, held-join, FieldKept, FieldsKept, fields-front, fields-last, shownField, string-kept, number-kept, NumberKept, HeadersKept, headers-kept, AttributesKept, attributes-kept}
+use Rattle.messages.proofs.Parses.{Parses, coded-kept, finished-is}
+use Rattle.messages.proofs.Texts.{textField}
+use Rattle.messages.proofs.FieldsShown.{headers-many}
+use Rattle.messages.proofs.FieldsKept.{Held, held-none, held-byte, held-join, FieldKept, FieldsKept, fields-front, fields-last, string-kept, number-kept, NumberKept, HeadersKept, headers-kept, AttributesKept, attributes-kept}
 
 -- a fixed field that is read, by where it ends
 abbrev FieldEnds : ℕ → FieldRead → Type 0
@@ -62,19 +65,19 @@ FieldEnds end (FieldRead.Refused n) = ⊥
 FieldEnds end (FieldRead.Field at value next) = next ≡ end
 
 -- where a field is read behind another one, it is read where that one ends, and is kept
-abbrev Stands : List ℕ → FieldRead → FieldRead → Field → Type 0
-Stands s before got field = (end : ℕ) → FieldEnds end got → FieldEnds (placeOf got .0) before × FieldKept s (placeOf got .0) end field
+abbrev KeptBehind : List ℕ → FieldRead → FieldRead → Field → Type 0
+KeptBehind s before got field = (end : ℕ) → FieldEnds end got → FieldEnds (placeOf got .0) before × FieldKept s (placeOf got .0) end field
 
 -- a string
-string-stands : (s : List ℕ) (field : StringField) (before : FieldRead) → Bytes s
-    → Stands s before (stringAfter s field before) (shownField field (textShown s (placeOf (stringAfter s field before) .0)))
+string-behind : (s : List ℕ) (field : StringField) (before : FieldRead) → Bytes s
+    → KeptBehind s before (stringAfter s field before) (textField field (textShown s (placeOf (stringAfter s field before) .0)))
 unfolding stringAfter stringFieldAt
-string-stands s field (FieldRead.Refused n) bytes end h = absurd h
-string-stands s field (FieldRead.Field from value at) bytes end h = go (stringAt s at (isOptional field)) refl h
+string-behind s field (FieldRead.Refused n) bytes end h = absurd h
+string-behind s field (FieldRead.Field from value at) bytes end h = go (stringAt s at (isOptional field)) refl h
   where
     go : (r : StringRead) → stringAt s at (isOptional field) ≡ r → FieldEnds end (stringRead at r)
         → (at ≡ placeOf (stringRead at r) .0)
-        × FieldKept s (placeOf (stringRead at r) .0) end (shownField field (textShown s (placeOf (stringRead at r) .0)))
+        × FieldKept s (placeOf (stringRead at r) .0) end (textField field (textShown s (placeOf (stringRead at r) .0)))
     go (StringRead.Refused n) e q = absurd q
     go (StringRead.Null next) e q = (refl, string-kept s at field end bytes (subst (StringEnds end) (sym e) q))
     go (StringRead.Text start len next) e q = (refl, string-kept s at field end bytes (subst (StringEnds end) (sym e) q))
@@ -100,14 +103,14 @@ integer-held s at (NumberRead.Refused n) k = tt
 integer-held s at (NumberRead.Number value next) k = k .0
 
 -- a number from `low` to `high`, as a field
-bounded-stands : (write : ℕ → List ℕ) (s : List ℕ) (at low high fault end : ℕ) (r : NumberRead) → HeldAs write s at r
+bounded-behind : (write : ℕ → List ℕ) (s : List ℕ) (at low high fault end : ℕ) (r : NumberRead) → HeldAs write s at r
     → FieldEnds end (bounded at low high fault r)
     → (at ≡ placeOf (bounded at low high fault r) .0)
     × FieldKept s (placeOf (bounded at low high fault r) .0) end
     (record { fault = rangeFault low high (valueOf (bounded at low high fault r)); bytes = write (valueOf (bounded at low high fault r)) })
 unfolding rangeFault
-bounded-stands write s at low high fault end (NumberRead.Refused n) k h = absurd h
-bounded-stands write s at low high fault end (NumberRead.Number value next) k h = go (between low high value) refl h
+bounded-behind write s at low high fault end (NumberRead.Refused n) k h = absurd h
+bounded-behind write s at low high fault end (NumberRead.Number value next) k h = go (between low high value) refl h
   where
     go : (t : Bool) → between low high value ≡ t → FieldEnds end (pick t (FieldRead.Field at value next) (FieldRead.Refused fault))
         → (at ≡ placeOf (pick t (FieldRead.Field at value next) (FieldRead.Refused fault)) .0)
@@ -120,28 +123,28 @@ bounded-stands write s at low high fault end (NumberRead.Number value next) k h 
     go false e q = absurd q
 
 -- a byte from `low` to `high`
-byte-stands : (s : List ℕ) (low high fault : ℕ) (before : FieldRead)
-    → Stands s before (byteAfter s low high fault before) (byteWithin low high (valueOf (byteAfter s low high fault before)))
+byte-behind : (s : List ℕ) (low high fault : ℕ) (before : FieldRead)
+    → KeptBehind s before (byteAfter s low high fault before) (byteWithin low high (valueOf (byteAfter s low high fault before)))
 unfolding byteAfter
-byte-stands s low high fault (FieldRead.Refused n) end h = absurd h
-byte-stands s low high fault (FieldRead.Field from value at) end h =
-    bounded-stands (λ n. n ∷ []) s at low high fault end (byteAt s at) (byte-held s at) h
+byte-behind s low high fault (FieldRead.Refused n) end h = absurd h
+byte-behind s low high fault (FieldRead.Field from value at) end h =
+    bounded-behind (λ n. n ∷ []) s at low high fault end (byteAt s at) (byte-held s at) h
 
 -- an integer from `low` to `high`
-integer-stands : (s : List ℕ) (low high fault : ℕ) (before : FieldRead) → Bytes s
-    → Stands s before (integerAfter s low high fault before) (integerWithin low high (valueOf (integerAfter s low high fault before)))
+integer-behind : (s : List ℕ) (low high fault : ℕ) (before : FieldRead) → Bytes s
+    → KeptBehind s before (integerAfter s low high fault before) (integerWithin low high (valueOf (integerAfter s low high fault before)))
 unfolding integerAfter
-integer-stands s low high fault (FieldRead.Refused n) bytes end h = absurd h
-integer-stands s low high fault (FieldRead.Field from value at) bytes end h =
-    bounded-stands integerBytes s at low high fault end (integerAt s at)
+integer-behind s low high fault (FieldRead.Refused n) bytes end h = absurd h
+integer-behind s low high fault (FieldRead.Field from value at) bytes end h =
+    bounded-behind integerBytes s at low high fault end (integerAt s at)
     (integer-held s at (integerAt s at) (number-kept s at (integerAt s at) bytes refl)) h
 
 -- any integer
-any-integer-stands : (s : List ℕ) (before : FieldRead) → Bytes s
-    → Stands s before (anyIntegerAfter s before) (plain (integerBytes (valueOf (anyIntegerAfter s before))))
+any-integer-behind : (s : List ℕ) (before : FieldRead) → Bytes s
+    → KeptBehind s before (anyIntegerAfter s before) (plain (integerBytes (valueOf (anyIntegerAfter s before))))
 unfolding anyIntegerAfter
-any-integer-stands s (FieldRead.Refused n) bytes end h = absurd h
-any-integer-stands s (FieldRead.Field from value at) bytes end h = go (integerAt s at) (number-kept s at (integerAt s at) bytes refl) h
+any-integer-behind s (FieldRead.Refused n) bytes end h = absurd h
+any-integer-behind s (FieldRead.Field from value at) bytes end h = go (integerAt s at) (number-kept s at (integerAt s at) bytes refl) h
   where
     go : (r : NumberRead) → NumberKept s at r → FieldEnds end (numberField at r)
         → (at ≡ placeOf (numberField at r) .0) × FieldKept s (placeOf (numberField at r) .0) end (plain (integerBytes (valueOf (numberField at r))))
@@ -160,11 +163,11 @@ any-integer-fits s (FieldRead.Field from value at) bytes = go (integerAt s at) (
     go (NumberRead.Number number next) k = k .1
 
 -- a boolean
-boolean-stands : (s : List ℕ) (before : FieldRead)
-    → Stands s before (booleanAfter s before) (plain (booleanBytes (eqb (valueOf (booleanAfter s before)) 1)))
+boolean-behind : (s : List ℕ) (before : FieldRead)
+    → KeptBehind s before (booleanAfter s before) (plain (booleanBytes (eqb (valueOf (booleanAfter s before)) 1)))
 unfolding booleanAfter booleanFieldAt
-boolean-stands s (FieldRead.Refused n) end h = absurd h
-boolean-stands s (FieldRead.Field from value at) end h = go (booleanAt s at) refl (boolean-inside s at (booleanAt s at) refl) h
+boolean-behind s (FieldRead.Refused n) end h = absurd h
+boolean-behind s (FieldRead.Field from value at) end h = go (booleanAt s at) refl (boolean-inside s at (booleanAt s at) refl) h
   where
     go : (r : BooleanRead) → booleanAt s at ≡ r → BooleanInside (length s) at r → FieldEnds end (booleanField at r)
         → (at ≡ placeOf (booleanField at r) .0)
@@ -239,10 +242,11 @@ ListsBehind s count headers attributes (ListsRead.Refused n) = Unit
 ListsBehind s count headers attributes (ListsRead.Lists declared many) =
     (at : ℕ) × FieldEnds at count × (at ≤ length s → ListsKept s at (valueOf count) headers attributes)
 
--- the places of the headers behind a count, and those of the attributes behind the headers
+-- the places of the headers behind a count
 abbrev headersOf : List ℕ → FieldRead → List ℕ
 headersOf s count = headersAfter Direction.ToContainer s count .places
 
+-- and those of the attributes behind the headers
 abbrev attributesOf : List ℕ → FieldRead → List ℕ
 attributesOf s count = behindHeaders s (headersAfter Direction.ToContainer s count .end) .places
 
@@ -261,29 +265,27 @@ lists-behind s count bytes = go (headersAfter Direction.ToContainer s count .end
         by (ListsRead.Refused n) q = tt
         by (ListsRead.Lists size many) q = (h .0, h .1, λ k. record { middle = middle; of-headers = h .2 k; of-attributes = q })
 
--- a packet in pieces that was read shows a message whose bytes are the packet; its fixed fields, its headers, of which there are so many, and
+-- a packet in pieces that was read shows a message whose bytes are the packet; its own fields, its headers, of which there are at most 100, and
 -- its attributes have no fault, and each of its numbers fits the call that takes it
-pub record PiecesKept (direction : Direction) (s : List ℕ) (m : Message) (own : List Field) (count : ℕ) (headers : List Header)
-    (attributes : List Attribute) : Type 0 where
+pub record PiecesKept (direction : Direction) (s : List ℕ) (m : Message) (own : List Field) (headers : List Header) (attributes : List Attribute) : Type 0 where
   pub bytes-are : messageBytes m ≡ s
   pub way-is : wayOf m ≡ direction
-  pub fixed-fine : FieldsFine own
+  pub own-fine : FieldsFine own
   pub headers-fine : HeadersFine direction headers
-  pub headers-many : length headers ≡ count
-  pub headers-most : count ≤ 100
+  pub few : length headers ≤ 100
   pub attributes-fine : AttributesFine attributes
   pub fit : Fit m
 
 -- that is so of a Forward
-abbrev pub RequestKept : List ℕ → ℕ → Message → Type 0
-RequestKept s count m =
+abbrev pub RequestKept : List ℕ → Message → Type 0
+RequestKept s m =
     (request : Request) × (m ≡ forward request)
-    × PiecesKept Direction.ToContainer s m (requestFields request) count (request .headers) (request .attributes)
+    × PiecesKept Direction.ToContainer s m (requestFields request) (request .headers) (request .attributes)
 
 -- and of a Send Headers
-abbrev pub ResponseKept : List ℕ → ℕ → Message → Type 0
-ResponseKept s count m =
-    (response : Response) × (m ≡ sendHeaders response) × PiecesKept Direction.ToServer s m (responseFields response) count (response .headers) []
+abbrev pub ResponseKept : List ℕ → Message → Type 0
+ResponseKept s m =
+    (response : Response) × (m ≡ sendHeaders response) × PiecesKept Direction.ToServer s m (responseFields response) (response .headers) []
 
 -- the message that a Forward shows, by where its headers and attributes are
 abbrev pub forwardShown : List ℕ → Forward → List ℕ → List ℕ → Message
@@ -295,45 +297,31 @@ sendHeadersShown s h headers = shownBy (told (Packet.SendHeaders h)) s headers [
 
 -- what is held up to the end is what stands there
 held-rest : (s : List ℕ) (at : ℕ) (bytes : List ℕ) → Held s at (length s) bytes → drop at s ≡ bytes
-unfolding part
-held-rest s at bytes h = sym (take-all (length s - at) (drop at s) (rw (length-drop at s) (omega arith))) ∙ h .are
+held-rest s at bytes h = rest-part s at (length s - at) (omega (arith, h .forth)) ∙ h .are
 
--- a number without fault is at most what it may be
-range-most : (low high n : ℕ) → rangeFault low high n ≡ 0 → n ≤ high
-unfolding rangeFault
-range-most low high n h = go (leb low n) (leb n high) refl h
-  where
-    go : (t u : Bool) → leb n high ≡ u → unless (both t u) outOfRange ≡ 0 → n ≤ high
-    go true true e q = leb-true n high e
-    go true false e q = absurd (omega (arith, q))
-    go false u e q = absurd (omega (arith, q))
-
--- a packet whose pieces are kept, one behind the other, from behind its head and its code to its end
+-- a packet whose pieces are kept, one behind the other, from behind its code to its end
 pieces-kept : (kind : BuildingKind) (s : List ℕ) {own : List Field} {at count next n : ℕ} {places : List ℕ} {middle : ℕ} (attributes : List Attribute)
-    (m : Message) → s ≡ packet (directionOf (kindIn kind)) (drop 4 s) → getD s 4 0 ≡ codeOf (kindIn kind) → wayOf m ≡ directionOf (kindIn kind)
+    (m : Message) → s ≡ packet (directionOf (kindIn kind)) (codeOf (kindIn kind) ∷ drop 5 s) → wayOf m ≡ directionOf (kindIn kind)
     → payloadOf m ≡ piecesPayload kind own (headersShown s places) attributes → 5 ≡ at → FieldsKept s at count own
     → FieldKept s count next (integerWithin 0 maxHeaders n) → HeadersKept (directionOf (kindIn kind)) s next n places middle
     → Held s middle (length s) (attributesBytes attributes ++ lastBytes kind) → AttributesFine attributes → Fit m
-    → PiecesKept (directionOf (kindIn kind)) s m own n (headersShown s places) attributes
+    → PiecesKept (directionOf (kindIn kind)) s m own (headersShown s places) attributes
 unfolding messageBytes
-pieces-kept kind s {own} {at} {count} {next} {n} {places} {middle} attributes m packed code way payload opened fixed counted of-headers rest fine fit =
+pieces-kept kind s {own} {at} {count} {next} {n} {places} {middle} attributes m packed way payload opened fixed counted of-headers rest fine fit =
     let first : Held s 5 count (bytesOf own) = subst (λ (i : ℕ). Held s i count (bytesOf own)) (sym opened) (fixed .held) in
-    let begins : Held s 4 5 (codeOf (kindIn kind) ∷ []) =
-    subst (λ (b : ℕ). Held s 4 5 (b ∷ [])) code (held-byte s 4 (omega (arith, first .forth, first .inside))) in
+    let own-many : length (headersShown s places) ≡ n = headers-many s places n (omega (arith, of-headers .placed)) in
     let many : Held s count next (integerBytes (length (headersShown s places))) =
-    subst (λ (k : ℕ). Held s count next (integerBytes k)) (sym (of-headers .many)) (counted .held) in
-    let whole : Held s 4 (length s) (piecesPayload kind own (headersShown s places) attributes) =
-    held-join begins (held-join first (held-join many (held-join (of-headers .held) rest))) in
+    subst (λ (k : ℕ). Held s count next (integerBytes k)) (sym own-many) (counted .held) in
+    let whole = held-join first (held-join many (held-join (of-headers .held) rest)) in
     record {
       bytes-are =
           ap (λ (d : Direction). packet d (payloadOf m)) way
-          ∙ ap (packet (directionOf (kindIn kind))) (payload ∙ sym (held-rest s 4 (piecesPayload kind own (headersShown s places) attributes) whole))
+          ∙ ap (packet (directionOf (kindIn kind))) (payload ∙ ap (λ (l : List ℕ). codeOf (kindIn kind) ∷ l) (sym (held-rest s 5 _ whole)))
           ∙ sym packed;
       way-is = way;
-      fixed-fine = fixed .fine;
+      own-fine = fixed .fine;
       headers-fine = of-headers .fine;
-      headers-many = of-headers .many;
-      headers-most = range-most 0 maxHeaders n (counted .fine);
+      few = omega (arith, own-many, range-most 0 maxHeaders n (counted .fine));
       attributes-fine = fine;
       fit = fit;
     }
@@ -343,63 +331,56 @@ forward-same : (g f : Forward) → PacketRead.Packet (Packet.Forward g) ≡ Pack
 forward-same g f e = cc
 
 -- a Forward, by its fixed fields, each of which stands behind the one before it
-module _ (s : List ℕ) (packed : s ≡ packet Direction.ToContainer (drop 4 s)) (code : getD s 4 0 ≡ 2)
+module _ (s : List ℕ) (packed : s ≡ packet Direction.ToContainer (codeOf Kind.Forward ∷ drop 5 s))
     (method protocol uri addr host name port ssl count : FieldRead)
-    (method-stands : Stands s afterCode method (byteWithin firstMethod lastMethod (valueOf method)))
-    (protocol-stands : Stands s method protocol (shownField StringField.Protocol (textShown s (placeOf protocol .0))))
-    (uri-stands : Stands s protocol uri (shownField StringField.ReqUri (textShown s (placeOf uri .0))))
-    (addr-stands : Stands s uri addr (shownField StringField.RemoteAddr (textShown s (placeOf addr .0))))
-    (host-stands : Stands s addr host (shownField StringField.RemoteHost (textShown s (placeOf host .0))))
-    (name-stands : Stands s host name (shownField StringField.ServerName (textShown s (placeOf name .0))))
-    (port-stands : Stands s name port (plain (integerBytes (valueOf port))))
+    (method-behind : KeptBehind s afterCode method (byteWithin firstMethod lastMethod (valueOf method)))
+    (protocol-behind : KeptBehind s method protocol (textField StringField.Protocol (textShown s (placeOf protocol .0))))
+    (uri-behind : KeptBehind s protocol uri (textField StringField.ReqUri (textShown s (placeOf uri .0))))
+    (addr-behind : KeptBehind s uri addr (textField StringField.RemoteAddr (textShown s (placeOf addr .0))))
+    (host-behind : KeptBehind s addr host (textField StringField.RemoteHost (textShown s (placeOf host .0))))
+    (name-behind : KeptBehind s host name (textField StringField.ServerName (textShown s (placeOf name .0))))
+    (port-behind : KeptBehind s name port (plain (integerBytes (valueOf port))))
     (port-fits : valueOf port < 65536)
-    (ssl-stands : Stands s port ssl (plain (booleanBytes (eqb (valueOf ssl) 1))))
-    (count-stands : Stands s ssl count (integerWithin 0 maxHeaders (valueOf count)))
+    (ssl-behind : KeptBehind s port ssl (plain (booleanBytes (eqb (valueOf ssl) 1))))
+    (count-behind : KeptBehind s ssl count (integerWithin 0 maxHeaders (valueOf count)))
     (headers attributes : List ℕ) where
   -- it is kept, and the places of its headers are two for each
   forward-found : (f : Forward) (r : ListsRead) → ListsBehind s count headers attributes r
       → forwardOf method protocol uri addr host name port ssl count r ≡ PacketRead.Packet (Packet.Forward f)
-      → (length headers ≡ f .headers + f .headers) × RequestKept s (f .headers) (forwardShown s f headers attributes)
+      → (length headers ≡ f .headers + f .headers) × RequestKept s (forwardShown s f headers attributes)
   forward-found f (ListsRead.Refused n) h e = let z : _≡_ {A = ℕ} 0 1 = cc in absurd (omega arith)
   forward-found f (ListsRead.Lists declared many) h e =
-      let k9 = count-stands (h .0) (h .1) in
-      let k8 = ssl-stands (placeOf count .0) (k9 .0) in
-      let k7 = port-stands (placeOf ssl .0) (k8 .0) in
-      let k6 = name-stands (placeOf port .0) (k7 .0) in
-      let k5 = host-stands (placeOf name .0) (k6 .0) in
-      let k4 = addr-stands (placeOf host .0) (k5 .0) in
-      let k3 = uri-stands (placeOf addr .0) (k4 .0) in
-      let k2 = protocol-stands (placeOf uri .0) (k3 .0) in
-      let k1 = method-stands (placeOf protocol .0) (k2 .0) in
+      let k9 = count-behind (h .0) (h .1) in
+      let k8 = ssl-behind (placeOf count .0) (k9 .0) in
+      let k7 = port-behind (placeOf ssl .0) (k8 .0) in
+      let k6 = name-behind (placeOf port .0) (k7 .0) in
+      let k5 = host-behind (placeOf name .0) (k6 .0) in
+      let k4 = addr-behind (placeOf host .0) (k5 .0) in
+      let k3 = uri-behind (placeOf addr .0) (k4 .0) in
+      let k2 = protocol-behind (placeOf uri .0) (k3 .0) in
+      let k1 = method-behind (placeOf protocol .0) (k2 .0) in
       let lists = h .2 (k9 .1 .held .inside) in
       let shown : FieldKept s (placeOf ssl .0) (placeOf count .0) (plain (booleanBytes (eqb (booleanNumber (eqb (valueOf ssl) 1)) 1))) =
       subst (λ (b : Bool). FieldKept s (placeOf ssl .0) (placeOf count .0) (plain (booleanBytes b))) (sym (boolean-back (eqb (valueOf ssl) 1))) (k8 .1) in
       let fixed = fields-front (k1 .1) (fields-front (k2 .1) (fields-front (k3 .1) (fields-front (k4 .1) (fields-front (k5 .1)
       (fields-front (k6 .1) (fields-front (k7 .1) (fields-last shown))))))) in
-      subst (λ (g : Forward). (length headers ≡ g .headers + g .headers) × RequestKept s (g .headers) (forwardShown s g headers attributes)) (forward-same _ f e) (
+      subst (λ (g : Forward). (length headers ≡ g .headers + g .headers) × RequestKept s (forwardShown s g headers attributes)) (forward-same _ f e) (
         lists .of-headers .placed,
         (
           _,
           refl,
-          pieces-kept BuildingKind.Forward s (attributesShown s attributes) _ packed code refl refl (k1 .0) fixed (k9 .1) (lists .of-headers)
+          pieces-kept BuildingKind.Forward s (attributesShown s attributes) _ packed refl refl (k1 .0) fixed (k9 .1) (lists .of-headers)
               (lists .of-attributes .held) (lists .of-attributes .fine)
               (omega (arith, range-most firstMethod lastMethod (valueOf method) (k1 .1 .fine)), port-fits, lists .of-headers .fit, lists .of-attributes .fit),
         ),
       )
 
--- two lists that are one, parted at the same place, have the same parts
-same-front : (a b c d : List ℕ) → a ++ b ≡ c ++ d → length a ≡ length c → a ≡ c
-same-front a b c d e n = sym (take-at a b (length c) n) ∙ ap (take (length c)) e ∙ take-at c d (length c) refl
-
-same-rest : (a b c d : List ℕ) → a ++ b ≡ c ++ d → length a ≡ length c → b ≡ d
-same-rest a b c d e n = sym (drop-at a b (length c) n) ∙ ap (drop (length c)) e ∙ drop-at c d (length c) refl
-
 -- a Forward that was read, its places parted into those of its headers and those of its attributes
-pub forward-kept-by : (s : List ℕ) (f : Forward) (headers attributes : List ℕ) → Bytes s → s ≡ packet Direction.ToContainer (drop 4 s) → getD s 4 0 ≡ 2
-    → forwardAt s .end ≡ PacketRead.Packet (Packet.Forward f) → forwardAt s .places ≡ headers ++ attributes → length headers ≡ f .headers + f .headers
-    → RequestKept s (f .headers) (forwardShown s f headers attributes)
+pub forward-kept : (s : List ℕ) (f : Forward) (headers attributes : List ℕ) → Bytes s → Parses Direction.ToContainer s (Packet.Forward f)
+    → forwardAt s .places ≡ headers ++ attributes → length headers ≡ f .headers + f .headers
+    → RequestKept s (forwardShown s f headers attributes)
 unfolding forwardAt listsAt
-forward-kept-by s f headers attributes bytes packed code e are many =
+forward-kept s f headers attributes bytes r are many =
     let method = byteAfter s firstMethod lastMethod outOfRange afterCode in
     let protocol = stringAfter s StringField.Protocol method in
     let uri = stringAfter s StringField.ReqUri protocol in
@@ -410,78 +391,62 @@ forward-kept-by s f headers attributes bytes packed code e are many =
     let ssl = booleanAfter s port in
     let count = integerAfter s 0 maxHeaders tooMany ssl in
     let found =
-    forward-found s packed code method protocol uri addr host name port ssl count (byte-stands s firstMethod lastMethod outOfRange afterCode)
-    (string-stands s StringField.Protocol method bytes) (string-stands s StringField.ReqUri protocol bytes)
-    (string-stands s StringField.RemoteAddr uri bytes) (string-stands s StringField.RemoteHost addr bytes)
-    (string-stands s StringField.ServerName host bytes) (any-integer-stands s name bytes) (any-integer-fits s name bytes) (boolean-stands s port)
-    (integer-stands s 0 maxHeaders tooMany ssl bytes) (headersOf s count) (attributesOf s count) f (listsAt s count .end) (lists-behind s count bytes) e in
+    forward-found s (coded-kept r refl bytes) method protocol uri addr host name port ssl count (byte-behind s firstMethod lastMethod outOfRange afterCode)
+    (string-behind s StringField.Protocol method bytes) (string-behind s StringField.ReqUri protocol bytes)
+    (string-behind s StringField.RemoteAddr uri bytes) (string-behind s StringField.RemoteHost addr bytes)
+    (string-behind s StringField.ServerName host bytes) (any-integer-behind s name bytes) (any-integer-fits s name bytes) (boolean-behind s port)
+    (integer-behind s 0 maxHeaders tooMany ssl bytes) (headersOf s count) (attributesOf s count) f (listsAt s count .end) (lists-behind s count bytes) (r .fields-are) in
     let parted : headersOf s count ++ attributesOf s count ≡ headers ++ attributes = are in
     let same : length (headersOf s count) ≡ length headers = found .0 ∙ sym many in
-    subst (λ (p : List ℕ). RequestKept s (f .headers) (forwardShown s f p attributes))
+    subst (λ (p : List ℕ). RequestKept s (forwardShown s f p attributes))
     (same-front (headersOf s count) (attributesOf s count) headers attributes parted same)
-    (subst (λ (p : List ℕ). RequestKept s (f .headers) (forwardShown s f (headersOf s count) p))
+    (subst (λ (p : List ℕ). RequestKept s (forwardShown s f (headersOf s count) p))
     (same-rest (headersOf s count) (attributesOf s count) headers attributes parted same) (found .1))
 
--- a Forward that was read, with the places that reading handed out
-pub forward-kept : (s : List ℕ) (f : Forward) → Bytes s → s ≡ packet Direction.ToContainer (drop 4 s) → getD s 4 0 ≡ 2
-    → (e : forwardAt s .end ≡ PacketRead.Packet (Packet.Forward f))
-    → RequestKept s (f .headers) (forwardShown s f (forward-handed s f e .lists .of-headers) (forward-handed s f e .lists .of-attributes))
-forward-kept s f bytes packed code e =
-    let lists = forward-handed s f e .lists in
-    forward-kept-by s f (lists .of-headers) (lists .of-attributes) bytes packed code e (lists .are) (lists .many)
-
 -- two Send Headers that are found to be the same packet are the same
-head-same : (g h : SendHeaders) → PacketRead.Packet (Packet.SendHeaders g) ≡ PacketRead.Packet (Packet.SendHeaders h) → g ≡ h
-head-same g h e = cc
+send-headers-same : (g h : SendHeaders) → PacketRead.Packet (Packet.SendHeaders g) ≡ PacketRead.Packet (Packet.SendHeaders h) → g ≡ h
+send-headers-same g h e = cc
 
 -- a Send Headers, by its fixed fields, each of which stands behind the one before it
-module _ (s : List ℕ) (packed : s ≡ packet Direction.ToServer (drop 4 s)) (code : getD s 4 0 ≡ 4) (status message count : FieldRead)
-    (status-stands : Stands s afterCode status (integerWithin leastStatus greatestStatus (valueOf status)))
-    (message-stands : Stands s status message (shownField StringField.Message (textShown s (placeOf message .0))))
-    (count-stands : Stands s message count (integerWithin 0 maxHeaders (valueOf count)))
+module _ (s : List ℕ) (packed : s ≡ packet Direction.ToServer (codeOf Kind.SendHeaders ∷ drop 5 s)) (status message count : FieldRead)
+    (status-behind : KeptBehind s afterCode status (integerWithin leastStatus greatestStatus (valueOf status)))
+    (message-behind : KeptBehind s status message (textField StringField.Message (textShown s (placeOf message .0))))
+    (count-behind : KeptBehind s message count (integerWithin 0 maxHeaders (valueOf count)))
     (headers : List ℕ) where
   -- it is kept
-  head-found : (h : SendHeaders) (r : HeadersRead) → HeadersBehind Direction.ToServer s count headers r
+  send-headers-found : (h : SendHeaders) (r : HeadersRead) → HeadersBehind Direction.ToServer s count headers r
       → sendHeadersOf (length s) status message count r ≡ PacketRead.Packet (Packet.SendHeaders h)
-      → ResponseKept s (h .headers) (sendHeadersShown s h headers)
-  head-found h (HeadersRead.Refused n) b e = let z : _≡_ {A = ℕ} 0 1 = cc in absurd (omega arith)
-  head-found h (HeadersRead.Headers declared end) b e = go (eqb end (length s)) refl e
-    where
-      found : SendHeaders
-      found = record {
+      → ResponseKept s (sendHeadersShown s h headers)
+  send-headers-found h (HeadersRead.Refused n) b e = let z : _≡_ {A = ℕ} 0 1 = cc in absurd (omega arith)
+  send-headers-found h (HeadersRead.Headers declared end) b e =
+      let found : SendHeaders = record {
         status = valueOf status;
         message = placeOf message;
         headers = valueOf count;
-      }
-
-      go : (t : Bool) → eqb end (length s) ≡ t
-          → pick t (PacketRead.Packet (Packet.SendHeaders found)) (PacketRead.Refused leftOver) ≡ PacketRead.Packet (Packet.SendHeaders h)
-          → ResponseKept s (h .headers) (sendHeadersShown s h headers)
-      go true q f =
-          let k3 = count-stands (b .0) (b .1) in
-          let k2 = message-stands (placeOf count .0) (k3 .0) in
-          let k1 = status-stands (placeOf message .0) (k2 .0) in
-          let all : HeadersKept Direction.ToServer s (b .0) (valueOf count) headers (length s) =
-          subst (HeadersKept Direction.ToServer s (b .0) (valueOf count) headers) (eqb-true end (length s) q) (b .2 (k3 .1 .held .inside)) in
-          subst (λ (g : SendHeaders). ResponseKept s (g .headers) (sendHeadersShown s g headers)) (head-same found h f) (
-            _,
-            refl,
-            pieces-kept BuildingKind.SendHeaders s [] _ packed code refl refl (k1 .0) (fields-front (k1 .1) (fields-last (k2 .1))) (k3 .1) all
-                (held-none s (length s) (omega arith)) tt
-                (omega (arith, range-most leastStatus greatestStatus (valueOf status) (k1 .1 .fine)), all .fit),
-          )
-      go false q f = let z : _≡_ {A = ℕ} 0 1 = cc in absurd (omega arith)
+      } in
+      let f = finished-is (length s) end (Packet.SendHeaders found) (Packet.SendHeaders h) e in
+      let k3 = count-behind (b .0) (b .1) in
+      let k2 = message-behind (placeOf count .0) (k3 .0) in
+      let k1 = status-behind (placeOf message .0) (k2 .0) in
+      let all : HeadersKept Direction.ToServer s (b .0) (valueOf count) headers (length s) =
+      subst (HeadersKept Direction.ToServer s (b .0) (valueOf count) headers) (f .0) (b .2 (k3 .1 .held .inside)) in
+      subst (λ (g : SendHeaders). ResponseKept s (sendHeadersShown s g headers)) (send-headers-same found h (ap PacketRead.Packet (f .1))) (
+        _,
+        refl,
+        pieces-kept BuildingKind.SendHeaders s [] _ packed refl refl (k1 .0) (fields-front (k1 .1) (fields-last (k2 .1))) (k3 .1) all
+            (held-none s (length s) (omega arith)) tt
+            (omega (arith, range-most leastStatus greatestStatus (valueOf status) (k1 .1 .fine)), all .fit),
+      )
 
 -- a Send Headers that was read
-pub send-headers-kept : (s : List ℕ) (h : SendHeaders) → Bytes s → s ≡ packet Direction.ToServer (drop 4 s) → getD s 4 0 ≡ 4
-    → sendHeadersAt s .end ≡ PacketRead.Packet (Packet.SendHeaders h)
-    → ResponseKept s (h .headers) (sendHeadersShown s h (sendHeadersAt s .places))
+pub send-headers-kept : (s : List ℕ) (h : SendHeaders) → Bytes s → Parses Direction.ToServer s (Packet.SendHeaders h)
+    → ResponseKept s (sendHeadersShown s h (sendHeadersAt s .places))
 unfolding sendHeadersAt
-send-headers-kept s h bytes packed code e =
+send-headers-kept s h bytes r =
     let status = integerAfter s leastStatus greatestStatus outOfRange afterCode in
     let message = stringAfter s StringField.Message status in
     let count = integerAfter s 0 maxHeaders tooMany message in
     let headers = headersAfter Direction.ToServer s count in
-    head-found s packed code status message count (integer-stands s leastStatus greatestStatus outOfRange afterCode bytes)
-    (string-stands s StringField.Message status bytes) (integer-stands s 0 maxHeaders tooMany message bytes) (headers .places) h (headers .end)
-    (headers-behind Direction.ToServer s count bytes) e
+    send-headers-found s (coded-kept r refl bytes) status message count (integer-behind s leastStatus greatestStatus outOfRange afterCode bytes)
+    (string-behind s StringField.Message status bytes) (integer-behind s 0 maxHeaders tooMany message bytes) (headers .places) h (headers .end)
+    (headers-behind Direction.ToServer s count bytes) (r .fields-are)

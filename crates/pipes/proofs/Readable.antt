@@ -1,5 +1,5 @@
 -- What a packet in a pipe is: it makes a move, and every connection that allows the move accepts it, whatever stands behind it, and is told
--- the same. And what one send comes to: a packet of a move that the sender's connection allows.
+-- the same.
 -- Assumes nothing.
 use mathlib.Core.Path.{_≡_}
 use mathlib.Core.Bool.{true}
@@ -7,13 +7,13 @@ use mathlib.Core.List.{List, [], _∷_, _++_}
 use Prim.Native.Nat.{ℕ}
 use lib.ListN.{length}
 use Rattle.wire.specs.declared.Direction.{Direction}
-use Rattle.places.specs.Entries.{maxPlaces}
 use Rattle.connection.specs.Cycle.{kindOf, directionOf, allowed, after}
 use Rattle.connection.specs.declared.Connection.{Connection}
 use Rattle.connection.specs.declared.Move.{Move}
+use Rattle.places.specs.Entries.{maxPlaces}
 use Rattle.reader.specs.Meaning.{Told, accepted}
 use Rattle.reader.specs.Reading.{reading}
-use Rattle.pipes.specs.Ends.{Send, wayOf, isBodyCall, bodyGiven, Packet}
+use Rattle.pipes.specs.Ends.{Packet}
 use Rattle.pipes.specs.Past.{bodyPart, heldIn, Request, gets, countKind}
 
 -- the body bytes in a packet of a move: in a body packet as many as it says, in every other none
@@ -49,15 +49,3 @@ pub record Readable (direction : Direction) (packet : Packet) (m : Move) : Type 
       → countKind (packet .bytes ++ rest) tells (tells .kind) before ≡ counting m (heldIn packet) before
   pub reads : (c : Connection) (rest : List ℕ) → allowed c m ≡ true
       → reading direction c (packet .bytes ++ rest) maxPlaces ≡ accepted tells (length (packet .bytes)) (after c m)
-
--- the packet of a call, by its bytes
-abbrev pub packetBy : Send → List ℕ → Packet
-packetBy call bytes = record { bytes = bytes; ofBody = isBodyCall call }
-
--- a send with this connection that wrote these bytes and came to the next connection
-pub record Made (c : Connection) (call : Send) (bytes : List ℕ) (next : Connection) : Type 0 where
-  pub move : Move
-  pub allows : allowed c move ≡ true
-  pub steps : next ≡ after c move
-  pub readable : Readable (wayOf call) (packetBy call bytes) move
-  pub holds : heldIn (packetBy call bytes) ≡ bodyGiven call

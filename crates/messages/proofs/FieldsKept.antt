@@ -17,7 +17,7 @@ use Rattle.wire.specs.declared.Direction.{Direction}
 use Rattle.wire.specs.declared.StringField.{StringField}
 use Rattle.wire.specs.declared.read.NumberRead.{NumberRead}
 use Rattle.wire.specs.declared.read.StringRead.{StringRead}
-use Rattle.wire.proofs.Bytes.{part-none, part-add, part-one}
+use Rattle.wire.proofs.Bytes.{part-none, part-one}
 use Rattle.wire.proofs.Field.{TextRead, text-read, NullRead, null-read}
 use Rattle.wire.proofs.RoundTrip.{Bytes, integer-kept, text-kept, null-kept}
 use Rattle.names.specs.Header.{beginsCode, codeFault, spelledFault}
@@ -36,21 +36,13 @@ use Rattle.pieces.specs.Header.{codedName, spelledName, declaringFault, valueFa
 use Rattle.pieces.specs.Attribute.{isText, isInteger, isPair, codeField}
 use Rattle.reader.specs.View.{integerView, textView}
 use Rattle.reader.proofs.Handed.{StringEnds, NumberEnds, StringThere, ValueThere, AttributesHanded}
-use Rattle.reader.proofs.Shown.{integer-shown, text-shown, null-shown, code-shown, spelled-shown}
+use Rattle.reader.proofs.Shown.{integer-shown, text-shown, code-shown, spelled-shown}
 use Rattle.messages.specs.Message.{Text, null, text, Name, coded, spelled, isNull, bytesIn, NameFits, HeadersFit, ValueFits, AttributesFit}
 use Rattle.messages.specs.Bytes.{fieldsBy, headersBytes, fieldsOf, attributesBytes}
 use Rattle.messages.specs.Shown.{textShown, nameBy, nameShown, headersShown, valueBy, attributesShown}
+use Rattle.messages.proofs.Parts.{part-join}
 use Rattle.messages.proofs.Fine.{FieldsFine, HeadersFine, AttributesFine}
-
--- two parts side by side are one
-pub part-join : (s : List ℕ) (at middle end : ℕ) → at ≤ middle → middle ≤ end
-    → part s at (end - at) ≡ part s at (middle - at) ++ part s middle (end - middle)
-part-join s at middle end h k =
-    let whole : end - at ≡ (middle - at) + (end - middle) = omega arith in
-    let seam : at + (middle - at) ≡ middle = omega arith in
-    ap (part s at) whole
-    ∙ part-add s at (middle - at) (end - middle)
-    ∙ ap (λ (i : ℕ). part s at (middle - at) ++ part s i (end - middle)) seam
+use Rattle.messages.proofs.Texts.{textField, null-told, text-told}
 
 -- a packet has these bytes from a place to another
 pub record Held (s : List ℕ) (at end : ℕ) (bytes : List ℕ) : Type 0 where
@@ -70,7 +62,7 @@ held-byte s at h =
     record { forth = omega arith; inside = h; are = ap (part s at) one ∙ part-one s at (omega arith) }
 
 -- an integer
-pub held-integer : (s : List ℕ) (at : ℕ) → Bytes s → at + 2 ≤ length s → Held s at (at + 2) (integerBytes (integerIn s at))
+held-integer : (s : List ℕ) (at : ℕ) → Bytes s → at + 2 ≤ length s → Held s at (at + 2) (integerBytes (integerIn s at))
 held-integer s at bytes h =
     let two : at + 2 - at ≡ 2 = omega arith in
     record { forth = omega arith; inside = h; are = ap (part s at) two ∙ integer-kept s at bytes h }
@@ -94,7 +86,7 @@ pub record FieldsKept (s : List ℕ) (at end : ℕ) (own : List Field) : Type 0 
   pub fine : FieldsFine own
 
 -- no field
-pub fields-none : (s : List ℕ) (at : ℕ) → at ≤ length s → FieldsKept s at at []
+fields-none : (s : List ℕ) (at : ℕ) → at ≤ length s → FieldsKept s at at []
 fields-none s at h = record { held = held-none s at h; fine = refl }
 
 -- a field in front of others
@@ -110,7 +102,7 @@ pub fields-last : {s : List ℕ} {at end : ℕ} {field : Field} → FieldKept s 
 fields-last {s} {at} {end} p = fields-front p (fields-none s end (p .held .inside))
 
 -- a string that was read as a text: its bytes are those of the text that is shown, which may stand in the field
-pub text-held : (s : List ℕ) (at : ℕ) (field : StringField) (start len next : ℕ) → Bytes s
+text-held : (s : List ℕ) (at : ℕ) (field : StringField) (start len next : ℕ) → Bytes s
     → stringAt s at (isOptional field) ≡ StringRead.Text start len next → FieldKept s at next (stringField field false (textView s at))
 unfolding stringFault
 text-held s at field start len next bytes e =
@@ -147,31 +139,18 @@ null-held s at field next bytes e =
       fine = rw (null-stands (isOptional field) (r .may-stand));
     }
 
--- what is shown of a string that was read as null
-null-told : (s : List ℕ) (at : ℕ) (optional : Bool) (next : ℕ) → stringAt s at optional ≡ StringRead.Null next → textShown s at ≡ null
-null-told s at optional next e = rw (null-shown s at optional next e .0)
-
--- and of one that was read as a text
-text-told : (s : List ℕ) (at : ℕ) (optional : Bool) (start len next : ℕ) → stringAt s at optional ≡ StringRead.Text start len next
-    → textShown s at ≡ text (textView s at)
-text-told s at optional start len next e = rw (text-shown s at optional start len next e .0)
-
--- a field that holds the string that is shown at a place
-abbrev pub shownField : StringField → Text → Field
-shownField field t = stringField field (isNull t) (bytesIn t)
-
 -- a string that was read: its bytes are those of the string that is shown, which has no fault
 pub string-kept : (s : List ℕ) (at : ℕ) (field : StringField) (end : ℕ) → Bytes s → StringThere s field at end
-    → FieldKept s at end (shownField field (textShown s at))
+    → FieldKept s at end (textField field (textShown s at))
 string-kept s at field end bytes h = go (stringAt s at (isOptional field)) refl h
   where
-    go : (r : StringRead) → stringAt s at (isOptional field) ≡ r → StringEnds end r → FieldKept s at end (shownField field (textShown s at))
+    go : (r : StringRead) → stringAt s at (isOptional field) ≡ r → StringEnds end r → FieldKept s at end (textField field (textShown s at))
     go (StringRead.Refused n) e q = absurd q
     go (StringRead.Null next) e q =
-        subst (λ (t : Text). FieldKept s at end (shownField field t)) (sym (null-told s at (isOptional field) next e))
+        subst (λ (t : Text). FieldKept s at end (textField field t)) (sym (null-told s at (isOptional field) next e))
         (subst (λ (i : ℕ). FieldKept s at i (stringField field true [])) q (null-held s at field next bytes e))
     go (StringRead.Text start len next) e q =
-        subst (λ (t : Text). FieldKept s at end (shownField field t)) (sym (text-told s at (isOptional field) start len next e))
+        subst (λ (t : Text). FieldKept s at end (textField field t)) (sym (text-told s at (isOptional field) start len next e))
         (subst (λ (i : ℕ). FieldKept s at i (stringField field false (textView s at))) q (text-held s at field start len next bytes e))
 
 -- a number from two bytes fits them
@@ -201,10 +180,10 @@ NameKept d s at (NameRead.Code code next) = FieldKept s at next (codedName d cod
 NameKept d s at (NameRead.Spelled start len next) = FieldKept s at next (spelledName d false (textView s at))
 
 -- a name that begins as a code
-code-kept : (d : Direction) (s : List ℕ) (at : ℕ) (r : NumberRead) → NumberKept s at r → NameKept d s at (codeNameOf d r)
+coded-kept : (d : Direction) (s : List ℕ) (at : ℕ) (r : NumberRead) → NumberKept s at r → NameKept d s at (codeNameOf d r)
 unfolding codeNameOf
-code-kept d s at (NumberRead.Refused n) k = tt
-code-kept d s at (NumberRead.Number code next) k = go (eqb (codeFault d code) none) refl
+coded-kept d s at (NumberRead.Refused n) k = tt
+coded-kept d s at (NumberRead.Number code next) k = go (eqb (codeFault d code) none) refl
   where
     go : (t : Bool) → eqb (codeFault d code) none ≡ t → NameKept d s at (pick t (NameRead.Code code next) (NameRead.Refused (codeFault d code)))
     go true e = (record { held = k .0; fine = eqb-true (codeFault d code) none e }, k .1)
@@ -235,7 +214,7 @@ name-kept d s at bytes = go (leb (at + 2) (length s)) (beginsCode (getD s at 0))
     go : (t u : Bool)
         → NameKept d s at
         (pick t (pick u (codeNameOf d (integerAt s at)) (spelledOf d s (stringAt s at (isOptional StringField.HeaderName)))) (NameRead.Refused cutShort))
-    go true true = code-kept d s at (integerAt s at) (number-kept s at (integerAt s at) bytes refl)
+    go true true = coded-kept d s at (integerAt s at) (number-kept s at (integerAt s at) bytes refl)
     go true false = spelled-kept d s at (stringAt s at (isOptional StringField.HeaderName)) bytes refl
     go false u = tt
 
@@ -253,7 +232,7 @@ abbrev valueField : Bool → Text → Field
 valueField declaring t = headerValue declaring (isNull t) (bytesIn t)
 
 -- it has no fault where its string has none and it may come first
-value-fine : (s : List ℕ) (at end : ℕ) (declaring : Bool) (t : Text) → FieldKept s at end (shownField StringField.HeaderValue t)
+value-fine : (s : List ℕ) (at end : ℕ) (declaring : Bool) (t : Text) → FieldKept s at end (textField StringField.HeaderValue t)
     → declaringFault (declaredBy declaring Declared.Absent (isNull t) (bytesIn t)) ≡ 0 → FieldKept s at end (valueField declaring t)
 unfolding valueFault
 value-fine s at end declaring t k first = record {
@@ -327,12 +306,11 @@ header-kept d s at before bytes = go (nameAt d s at) refl (name-kept d s at byte
         (λ end v. (fields-front k (fields-last v), tt))
         (valueAt s next false before) (value-kept s next false before bytes)
 
--- headers stand as they would be written: from a place to another, so many, with these places for their names and values, two for each
+-- headers stand as they would be written: from a place to another, with these places for their names and values, two for each of so many
 pub record HeadersKept (d : Direction) (s : List ℕ) (at count : ℕ) (places : List ℕ) (end : ℕ) : Type 0 where
   pub held : Held s at end (headersBytes d (headersShown s places))
   pub fine : HeadersFine d (headersShown s places)
   pub fit : HeadersFit (headersShown s places)
-  pub many : length (headersShown s places) ≡ count
   pub placed : length places ≡ count + count
 
 -- headers with these places, where none is refused
@@ -348,7 +326,6 @@ header-front d s at value next count places (HeadersRead.Headers now end) k late
   held = held-join (k .0 .held) (later .held);
   fine = (k .0 .fine, later .fine);
   fit = (k .1, later .fit);
-  many = ap suc (later .many);
   placed = omega (arith, later .placed);
 }
 
@@ -360,7 +337,6 @@ headers-to d s at zero declared bytes h = record {
   held = held-none s at h;
   fine = tt;
   fit = tt;
-  many = refl;
   placed = refl;
 }
 headers-to d s at (suc count) declared bytes h =
@@ -423,8 +399,8 @@ attribute-kept : (s : List ℕ) (at value end : ℕ) (kind : AttributeKind) → 
 attribute-kept s at value end AttributeKind.NotServed bytes h is = absurd h
 attribute-kept s at value end AttributeKind.Text bytes h is =
     let k = string-kept s value StringField.AttributeValue end bytes (h .1) in
-    let from : FieldKept s (at + 1) end (shownField StringField.AttributeValue (textShown s value)) =
-    subst (λ (i : ℕ). FieldKept s i end (shownField StringField.AttributeValue (textShown s value))) (h .0) k in
+    let from : FieldKept s (at + 1) end (textField StringField.AttributeValue (textShown s value)) =
+    subst (λ (i : ℕ). FieldKept s i end (textField StringField.AttributeValue (textShown s value))) (h .0) k in
     (fields-front (code-field s at (isText (attributeKind (getD s at 0))) (ap isText is) (omega (arith, from .held .forth, from .held .inside))) (fields-last from), tt)
 attribute-kept s at value end AttributeKind.Integer bytes h is =
     let k = integer-there s value end bytes (h .1) in

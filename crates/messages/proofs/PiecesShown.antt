@@ -1,25 +1,21 @@
--- From written to read, for packets in pieces: a Forward or a Send Headers whose fields have no fault, where reading accepts it, shows the
+-- From written to read, for packets in pieces: a Forward or a Send Headers whose fields have no fault, where it is read, shows the
 -- message that was written. The fixed fields are read as they were written (`Fixed`), and at every place that is handed out the field is shown
--- that was written there (`ShownFields`).
+-- that was written there (`FieldsShown`).
 -- Assumes nothing.
 use native.Mathlib.Omega.{arith}
-use borrow.Author.Tests.{leb-true}
 use mathlib.Core.Path.{_≡_, refl, sym, ap, subst, _∙_}
-use mathlib.Core.Bool.{Bool, true, false}
-use mathlib.Core.List.{List, [], _∷_, _++_, append-assoc, append-nil}
+use mathlib.Core.List.{List, [], _∷_, _++_, append-assoc}
 use Prim.Native.Nat.{ℕ, _+_, _≤_, _<_}
-use lib.Dec.{leb, eqb}
-use lib.ListN.{length, length-append}
-use Rattle.wire.specs.Pick.{pick, both}
-use Rattle.wire.specs.Bytes.{part, integerBytes}
+use lib.Dec.{eqb}
+use lib.ListN.{length}
+use Rattle.wire.specs.Bytes.{integerBytes}
 use Rattle.wire.specs.Field.{booleanBytes}
 use Rattle.wire.specs.declared.Direction.{Direction}
 use Rattle.wire.specs.declared.StringField.{StringField}
-use Rattle.places.specs.Entries.{Entries}
-use Rattle.attributes.specs.Attributes.{lastMark}
-use Rattle.headers.specs.declared.HeadersRead.{HeadersRead}
-use Rattle.connection.specs.declared.Connection.{Connection}
 use Rattle.connection.specs.declared.Kind.{Kind}
+use Rattle.places.specs.Entries.{Entries}
+use Rattle.headers.specs.declared.HeadersRead.{HeadersRead}
+use Rattle.attributes.specs.Attributes.{lastMark}
 use Rattle.payload.specs.Sequence.{booleanNumber, placeOf, valueOf}
 use Rattle.payload.specs.Forward.{forwardOf, forwardAt}
 use Rattle.payload.specs.SendHeaders.{sendHeadersOf, sendHeadersAt}
@@ -30,22 +26,22 @@ use Rattle.payload.specs.declared.packet.Forward.{Forward}
 use Rattle.payload.specs.declared.packet.SendHeaders.{SendHeaders}
 use Rattle.payload.specs.declared.packet.Packet.{Packet}
 use Rattle.payload.specs.declared.packet.PacketRead.{PacketRead}
-use Rattle.payload.proofs.Parsed.{forward-places, send-headers-places}
-use Rattle.reader.specs.Meaning.{Told, accepted, told}
-use Rattle.reader.specs.Reading.{reading, tableAfter}
-use Rattle.reader.proofs.Acceptance.{accepted-is}
-use Rattle.reader.proofs.Handed.{forward-handed, head-handed}
-use Rattle.fields.specs.Fault.{unless, rangeFault}
+use Rattle.payload.proofs.Parsed.{send-headers-places}
 use Rattle.fields.specs.Field.{opening, faultsOf, bytesOf}
 use Rattle.fields.proofs.Sizes.{boolean-one}
+use Rattle.reader.specs.Meaning.{told}
+use Rattle.reader.proofs.Handed.{forward-handed, head-handed}
 use Rattle.messages.specs.Message.{Request, Response, forward, sendHeaders, isNull, bytesIn, AttributesFit}
 use Rattle.messages.specs.Bytes.{headersBytes, attributesBytes, numbersOf, nullsOf, requestFields, responseFields, payloadOf, messageBytes}
-use Rattle.messages.specs.Shown.{shownBy, messageShown}
+use Rattle.messages.specs.Shown.{headersShown, attributesShown, shownBy, messageShown}
+use Rattle.messages.proofs.Fine.{FieldsFine, HeadersFine, AttributesFine, faultless, range-most}
 use Rattle.messages.proofs.Judged.{among}
-use Rattle.messages.proofs.Fixed.{Ahead, ahead-next, forward-read, send-headers-read, reached, boolean-back, faultless}
-use Rattle.messages.proofs.Fine.{FieldsFine, HeadersFine, AttributesFine}
-use Rattle.messages.proofs.Tables.{packet-read, packet-shown}
-use Rattle.messages.proofs.ShownFields.{textBytes, string-fits, string-shows, headers-show, attributes-show}
+use Rattle.messages.proofs.Fixed.{Ahead, ahead-next, forward-read, send-headers-read, reached, boolean-back}
+use Rattle.messages.proofs.Parses.{finished-is}
+use Rattle.messages.proofs.Tables.{forward-many, forward-table, send-headers-many, send-headers-table}
+use Rattle.messages.proofs.RoundTrip.{Shows}
+use Rattle.messages.proofs.Texts.{textBytes}
+use Rattle.messages.proofs.FieldsShown.{headers-many, attributes-many, string-fits, string-shows, headers-show, attributes-show}
 
 -- the numbers of a Forward, by its fixed fields
 forward-numbers : (method protocol uri addr host name port ssl headers : FieldRead) (r : ListsRead) (f : Forward)
@@ -61,14 +57,14 @@ forward-numbers method protocol uri addr host name port ssl headers (ListsRead.L
     (method-is, port-is, ssl-is, headers-are)
 
 -- the bytes of a Forward behind its count of headers
-abbrev pub listsBytes : Request → List ℕ
-listsBytes request = headersBytes Direction.ToContainer (request .headers) ++ (attributesBytes (request .attributes) ++ (lastMark ∷ []))
+abbrev behindCount : Request → List ℕ
+behindCount request = headersBytes Direction.ToContainer (request .headers) ++ (attributesBytes (request .attributes) ++ (lastMark ∷ []))
 
 -- a Forward without fault, behind five bytes
 module _ {s : List ℕ} (short : length s ≤ 8192) (request : Request) (own : FieldsFine (requestFields request))
     (headers-fine : HeadersFine Direction.ToContainer (request .headers)) (attributes-fine : AttributesFine (request .attributes))
     (port-fits : request .port < 65536) (fit : AttributesFit (request .attributes)) (few : length (request .headers) ≤ 100)
-    (stands : Ahead s 5 (bytesOf (requestFields request) ++ (integerBytes (length (request .headers)) ++ listsBytes request))) where
+    (stands : Ahead s 5 (bytesOf (requestFields request) ++ (integerBytes (length (request .headers)) ++ behindCount request))) where
   -- where it is read, its numbers are those that were written
   forward-counts : (f : Forward) → forwardAt s .end ≡ PacketRead.Packet (Packet.Forward f) → length (bytesIn (request .protocol)) ≤ 8192
       → length (bytesIn (request .uri)) ≤ 8192 → length (bytesIn (request .addr)) ≤ 8192 → length (bytesIn (request .host)) ≤ 8192
@@ -78,7 +74,7 @@ module _ {s : List ℕ} (short : length s ≤ 8192) (request : Request) (own : F
   forward-counts f e h1 h2 h3 h4 h5 =
       let count : ℕ = length (request .headers) in
       let read =
-      forward-read (stands .front) (listsBytes request) (numbersOf request) (nullsOf request) (bytesIn (request .protocol)) (bytesIn (request .uri))
+      forward-read (stands .front) (behindCount request) (numbersOf request) (nullsOf request) (bytesIn (request .protocol)) (bytesIn (request .uri))
       (bytesIn (request .addr)) (bytesIn (request .host)) (bytesIn (request .name)) count (stands .place) port-fits few h1 h2 h3 h4 h5 (rw own) in
       let f1 : FieldRead = FieldRead.Field 5 (request .method) 6 in
       let f2 : FieldRead = reached 0 (length (textBytes (request .protocol))) f1 in
@@ -89,7 +85,7 @@ module _ {s : List ℕ} (short : length s ≤ 8192) (request : Request) (own : F
       let f7 : FieldRead = reached (request .port) 2 f6 in
       let f8 : FieldRead = reached (booleanNumber (request .ssl)) 1 f7 in
       let f9 : FieldRead = reached count 2 f8 in
-      let l : List ℕ = among (stands .front) (requestFields request) (integerBytes count ++ listsBytes request) in
+      let l : List ℕ = among (stands .front) (requestFields request) (integerBytes count ++ behindCount request) in
       let there : forwardAt l .end ≡ PacketRead.Packet (Packet.Forward f) =
       subst (λ (l : List ℕ). forwardAt l .end ≡ PacketRead.Packet (Packet.Forward f)) (stands .is) e in
       let numbers =
@@ -97,10 +93,10 @@ module _ {s : List ℕ} (short : length s ≤ 8192) (request : Request) (own : F
       (numbers .0, numbers .1, rw (numbers .2, boolean-back (request .ssl), boolean-back (request .ssl)), numbers .3)
 
   -- and its fields and the places of its lists show the message
-  pub forward-shows : (f : Forward) (e : forwardAt s .end ≡ PacketRead.Packet (Packet.Forward f)) → let lists = forward-handed s f e .lists in
+  forward-shows : (f : Forward) (e : forwardAt s .end ≡ PacketRead.Packet (Packet.Forward f)) → let lists = forward-handed s f e .lists in
       shownBy (told (Packet.Forward f)) s (lists .of-headers) (lists .of-attributes) Kind.Forward ≡ forward request
   forward-shows f e =
-      let b : List ℕ = listsBytes request in
+      let b : List ℕ = behindCount request in
       let t8 : List ℕ = integerBytes (length (request .headers)) ++ b in
       let t7 : List ℕ = booleanBytes (request .ssl) ++ t8 in
       let t6 : List ℕ = integerBytes (request .port) ++ t7 in
@@ -135,37 +131,22 @@ module _ {s : List ℕ} (short : length s ≤ 8192) (request : Request) (own : F
       attributes-show short (request .attributes) attributes-fine fit (headers .1) (lists .of-attributes) (length s) (lists .attributes-there) in
       rw (headers .0, attributes, r2 .0, r3 .0, r4 .0, r5 .0, r6 .0, numbers .0, numbers .1, numbers .2)
 
--- a status without fault fits an integer
-status-fits : (n : ℕ) → rangeFault 100 599 n ≡ 0 → n < 65536
-unfolding rangeFault
-status-fits n h = go (leb 100 n) (leb n 599) refl h
-  where
-    go : (t u : Bool) → leb n 599 ≡ u → unless (both t u) 7 ≡ 0 → n < 65536
-    go t true e h = omega (arith, leb-true n 599 e)
-    go true false e h = absurd (omega arith)
-    go false false e h = absurd (omega arith)
-
 -- the numbers of a Send Headers, by its fixed fields
-head-numbers : (size : ℕ) (status message headers : FieldRead) (r : HeadersRead) (h : SendHeaders)
+send-headers-numbers : (size : ℕ) (status message headers : FieldRead) (r : HeadersRead) (h : SendHeaders)
     → sendHeadersOf size status message headers r ≡ PacketRead.Packet (Packet.SendHeaders h)
     → (h .status ≡ valueOf status) × (h .headers ≡ valueOf headers)
-head-numbers size status message headers (HeadersRead.Refused n) h e = absurd (let z : _≡_ {A = ℕ} 0 1 = cc in omega arith)
-head-numbers size status message headers (HeadersRead.Headers declared next) h e = go (eqb next size) e
-  where
-    found : SendHeaders
-    found = record {
+send-headers-numbers size status message headers (HeadersRead.Refused n) h e = absurd (let z : _≡_ {A = ℕ} 0 1 = cc in omega arith)
+send-headers-numbers size status message headers (HeadersRead.Headers declared next) h e =
+    let found : SendHeaders = record {
       status = valueOf status;
       message = placeOf message;
       headers = valueOf headers;
-    }
-
-    go : (t : Bool) → pick t (PacketRead.Packet (Packet.SendHeaders found)) (PacketRead.Refused 12) ≡ PacketRead.Packet (Packet.SendHeaders h)
-        → (h .status ≡ valueOf status) × (h .headers ≡ valueOf headers)
-    go true e =
-        let status-is : h .status ≡ found .status = cc in
-        let headers-are : h .headers ≡ found .headers = cc in
-        (status-is, headers-are)
-    go false e = absurd (let z : _≡_ {A = ℕ} 0 1 = cc in omega arith)
+    } in
+    let same : Packet.SendHeaders found ≡ Packet.SendHeaders h =
+    finished-is size next (Packet.SendHeaders found) (Packet.SendHeaders h) e .1 in
+    let status-is : h .status ≡ found .status = cc in
+    let headers-are : h .headers ≡ found .headers = cc in
+    (status-is, headers-are)
 
 -- a Send Headers without fault, behind five bytes
 module _ {s : List ℕ} (short : length s ≤ 8192) (response : Response) (own : FieldsFine (responseFields response))
@@ -174,27 +155,27 @@ module _ {s : List ℕ} (short : length s ≤ 8192) (response : Response) (own :
     (bytesOf (responseFields response)
     ++ (integerBytes (length (response .headers)) ++ (headersBytes Direction.ToServer (response .headers) ++ [])))) where
   -- where it is read, its numbers are those that were written
-  head-counts : (h : SendHeaders) → sendHeadersAt s .end ≡ PacketRead.Packet (Packet.SendHeaders h) → length (bytesIn (response .message)) ≤ 8192
+  send-headers-counts : (h : SendHeaders) → sendHeadersAt s .end ≡ PacketRead.Packet (Packet.SendHeaders h) → length (bytesIn (response .message)) ≤ 8192
       → (h .status ≡ response .status) × (h .headers ≡ length (response .headers))
-  head-counts h e size =
+  send-headers-counts h e size =
       let count : ℕ = length (response .headers) in
       let b : List ℕ = headersBytes Direction.ToServer (response .headers) ++ [] in
       let none = faultless (faultsOf (responseFields response)) own in
       let read =
       send-headers-read (stands .front) b (response .status) (isNull (response .message)) (bytesIn (response .message)) count (stands .place)
-      (status-fits (response .status) (none .0)) size few (rw own) in
+      (omega (arith, range-most 100 599 (response .status) (none .0))) size few (rw own) in
       let f1 : FieldRead = FieldRead.Field 5 (response .status) 7 in
       let f2 : FieldRead = reached 0 (length (textBytes (response .message))) f1 in
       let f3 : FieldRead = reached count 2 f2 in
       let l : List ℕ = among (stands .front) (responseFields response) (integerBytes count ++ b) in
       let there : sendHeadersAt l .end ≡ PacketRead.Packet (Packet.SendHeaders h) =
       subst (λ (l : List ℕ). sendHeadersAt l .end ≡ PacketRead.Packet (Packet.SendHeaders h)) (stands .is) e in
-      head-numbers (length l) f1 f2 f3 (headersAfter Direction.ToServer l f3 .end) h (sym (ap (λ (x : Entries PacketRead). x .end) read) ∙ there)
+      send-headers-numbers (length l) f1 f2 f3 (headersAfter Direction.ToServer l f3 .end) h (sym (ap (λ (x : Entries PacketRead). x .end) read) ∙ there)
 
   -- and its fields and the places of its headers show the message
-  pub head-shows : (h : SendHeaders) → sendHeadersAt s .end ≡ PacketRead.Packet (Packet.SendHeaders h)
+  send-headers-shows : (h : SendHeaders) → sendHeadersAt s .end ≡ PacketRead.Packet (Packet.SendHeaders h)
       → shownBy (told (Packet.SendHeaders h)) s (sendHeadersAt s .places) [] Kind.SendHeaders ≡ sendHeaders response
-  head-shows h e =
+  send-headers-shows h e =
       let t3 : List ℕ = headersBytes Direction.ToServer (response .headers) ++ [] in
       let t2 : List ℕ = integerBytes (length (response .headers)) ++ t3 in
       let t1 : List ℕ = textBytes (response .message) ++ t2 in
@@ -203,7 +184,7 @@ module _ {s : List ℕ} (short : length s ≤ 8192) (response : Response) (own :
       let fields : Ahead s 5 (integerBytes (response .status) ++ t1) = simp append-assoc at stands in
       let r1 : Ahead s (h .message .0) t1 = rw (handed .message-place) (ahead-next (integerBytes (response .status)) t1 fields) in
       let r2 = string-shows short t2 StringField.Message (response .message) r1 (none .1 .0) (handed .count) (handed .message-there) in
-      let numbers = head-counts h e (string-fits short t2 (response .message) r1) in
+      let numbers = send-headers-counts h e (string-fits short t2 (response .message) r1) in
       let behind = ahead-next (integerBytes (length (response .headers))) t3 (r2 .1) in
       let many : length (sendHeadersAt s .places) ≡ length (response .headers) + length (response .headers) =
       omega (arith, send-headers-places s h e .many, numbers .1) in
@@ -212,86 +193,58 @@ module _ {s : List ℕ} (short : length s ≤ 8192) (response : Response) (own :
       (handed .headers-there) in
       rw (headers .0, r2 .0, numbers .0)
 
--- a packet whose kind is built in pieces is a Forward or a Send Headers
-abbrev InPieces : Kind → Packet → Type 0
-InPieces Kind.CPing packet = Unit
-InPieces Kind.CPong packet = Unit
-InPieces Kind.Forward packet = (f : Forward) × (packet ≡ Packet.Forward f)
-InPieces Kind.Body packet = Unit
-InPieces Kind.GetBody packet = Unit
-InPieces Kind.SendHeaders packet = (h : SendHeaders) × (packet ≡ Packet.SendHeaders h)
-InPieces Kind.BodyChunk packet = Unit
-InPieces Kind.End packet = Unit
-
--- each packet is what its kind says
-in-pieces : (packet : Packet) → InPieces (told packet .kind) packet
-in-pieces Packet.CPing = tt
-in-pieces Packet.CPong = tt
-in-pieces (Packet.Forward f) = (f, refl)
-in-pieces (Packet.Body p) = tt
-in-pieces (Packet.GetBody asked) = tt
-in-pieces (Packet.SendHeaders h) = (h, refl)
-in-pieces (Packet.BodyChunk p) = tt
-in-pieces (Packet.End reuse) = tt
-
--- so is a packet that is accepted
-accepted-kind : (direction : Direction) (c : Connection) (s : List ℕ) (room : ℕ) (t : Told) (taken : ℕ) (next : Connection)
-    (e : reading direction c s room ≡ accepted t taken next) (kind : Kind) → t .kind ≡ kind
-    → InPieces kind (accepted-is direction c s room t taken next e .packet)
-accepted-kind direction c s room t taken next e kind k =
-    let a = accepted-is direction c s room t taken next e in
-    subst (λ (k : Kind). InPieces k (a .packet)) (ap (λ (u : Told). u .kind) (sym (a .tells)) ∙ k) (in-pieces (a .packet))
-
 -- the bytes of a Forward behind the first five
-pub forward-stands : (request : Request)
+forward-stands : (request : Request)
     → Ahead (messageBytes (forward request)) 5
-    (bytesOf (requestFields request) ++ (integerBytes (length (request .headers)) ++ listsBytes request))
+    (bytesOf (requestFields request) ++ (integerBytes (length (request .headers)) ++ behindCount request))
 unfolding messageBytes
 forward-stands request = record { front = opening Kind.Forward (length (payloadOf (forward request))); is = refl; place = refl }
 
 -- and those of a Send Headers
-pub head-stands : (response : Response)
+send-headers-stands : (response : Response)
     → Ahead (messageBytes (sendHeaders response)) 5
     (bytesOf (responseFields response)
     ++ (integerBytes (length (response .headers)) ++ (headersBytes Direction.ToServer (response .headers) ++ [])))
 unfolding messageBytes
-head-stands response = record { front = opening Kind.SendHeaders (length (payloadOf (sendHeaders response))); is = refl; place = refl }
+send-headers-stands response = record { front = opening Kind.SendHeaders (length (payloadOf (sendHeaders response))); is = refl; place = refl }
 
--- a Forward without fault that was written and is accepted shows the message that was written
-pub forward-shown : (c : Connection) (table : List ℕ) (request : Request) (rest : List ℕ) (t : Told) (n : ℕ) (next : Connection)
-    → FieldsFine (requestFields request) → HeadersFine Direction.ToContainer (request .headers) → AttributesFine (request .attributes)
-    → request .port < 65536 → AttributesFit (request .attributes) → length (request .headers) ≤ 100 → length (messageBytes (forward request)) ≤ 8192
-    → reading Direction.ToContainer c (messageBytes (forward request) ++ rest) (length table) ≡ accepted t n next
-    → n ≡ length (messageBytes (forward request)) → t .kind ≡ Kind.Forward
-    → messageShown t (part (messageBytes (forward request) ++ rest) 0 n)
-    (tableAfter Direction.ToContainer c (messageBytes (forward request) ++ rest) table)
-    ≡ forward request
-forward-shown c table request rest t n next own headers-fine attributes-fine port fit few short e size kind =
-    let whole : List ℕ = messageBytes (forward request) in
-    let found = accepted-kind Direction.ToContainer c (whole ++ rest) (length table) t n next e Kind.Forward kind in
-    let f : Forward = found .0 in
-    let read = packet-read Direction.ToContainer c whole rest table t n next e size (Packet.Forward f) (found .1) in
-    let lists = forward-handed whole f read .lists in
-    let joined = length-append (lists .of-headers) (lists .of-attributes) in
-    packet-shown Direction.ToContainer c whole rest table t n next e size (Packet.Forward f) (found .1) (lists .of-headers) (lists .of-attributes)
-    (lists .are) (omega (arith, lists .many)) (omega (arith, forward-places whole f read .many, ap length (lists .are), lists .many))
-    ∙ forward-shows short request own headers-fine attributes-fine port fit few (forward-stands request) f read
+-- so a Forward without fault, where it is read, shows the message that was written
+pub forward-shown : (request : Request) → FieldsFine (requestFields request) → HeadersFine Direction.ToContainer (request .headers)
+    → AttributesFine (request .attributes) → request .port < 65536 → AttributesFit (request .attributes) → length (request .headers) ≤ 100
+    → length (messageBytes (forward request)) ≤ 8192 → (f : Forward)
+    → forwardAt (messageBytes (forward request)) .end ≡ PacketRead.Packet (Packet.Forward f)
+    → Shows (Packet.Forward f) (messageBytes (forward request)) (forward request)
+unfolding messageShown
+forward-shown request own headers-fine attributes-fine port fit few short f e =
+    let s : List ℕ = messageBytes (forward request) in
+    let lists = forward-handed s f e .lists in
+    let many = forward-many s f e in
+    let shows = forward-shows short request own headers-fine attributes-fine port fit few (forward-stands request) f e in
+    let headers : headersShown s (lists .of-headers) ≡ request .headers = cc in
+    let attributes : attributesShown s (lists .of-attributes) ≡ request .attributes = cc in
+    record {
+      asks =
+          omega (
+            arith,
+            headers-many s (lists .of-headers) (f .headers) (many .0),
+            attributes-many s (lists .of-attributes) (f .attributes) (many .1),
+            ap length headers,
+            ap length attributes,
+          );
+      shown = λ table. let places = forward-table s table f e in rw (places .0, places .1) shows;
+    }
 
 -- and so does a Send Headers
-pub send-headers-shown : (c : Connection) (table : List ℕ) (response : Response) (rest : List ℕ) (t : Told) (n : ℕ) (next : Connection)
-    → FieldsFine (responseFields response) → HeadersFine Direction.ToServer (response .headers) → length (response .headers) ≤ 100
-    → length (messageBytes (sendHeaders response)) ≤ 8192
-    → reading Direction.ToServer c (messageBytes (sendHeaders response) ++ rest) (length table) ≡ accepted t n next
-    → n ≡ length (messageBytes (sendHeaders response)) → t .kind ≡ Kind.SendHeaders
-    → messageShown t (part (messageBytes (sendHeaders response) ++ rest) 0 n)
-    (tableAfter Direction.ToServer c (messageBytes (sendHeaders response) ++ rest) table)
-    ≡ sendHeaders response
-send-headers-shown c table response rest t n next own headers-fine few short e size kind =
-    let whole : List ℕ = messageBytes (sendHeaders response) in
-    let found = accepted-kind Direction.ToServer c (whole ++ rest) (length table) t n next e Kind.SendHeaders kind in
-    let h : SendHeaders = found .0 in
-    let read = packet-read Direction.ToServer c whole rest table t n next e size (Packet.SendHeaders h) (found .1) in
-    let places : List ℕ = sendHeadersAt whole .places in
-    packet-shown Direction.ToServer c whole rest table t n next e size (Packet.SendHeaders h) (found .1) places [] (sym (append-nil places))
-    (omega (arith, send-headers-places whole h read .many)) refl
-    ∙ head-shows short response own headers-fine few (head-stands response) h read
+pub send-headers-shown : (response : Response) → FieldsFine (responseFields response) → HeadersFine Direction.ToServer (response .headers)
+    → length (response .headers) ≤ 100 → length (messageBytes (sendHeaders response)) ≤ 8192 → (h : SendHeaders)
+    → sendHeadersAt (messageBytes (sendHeaders response)) .end ≡ PacketRead.Packet (Packet.SendHeaders h)
+    → Shows (Packet.SendHeaders h) (messageBytes (sendHeaders response)) (sendHeaders response)
+unfolding messageShown
+send-headers-shown response own headers-fine few short h e =
+    let s : List ℕ = messageBytes (sendHeaders response) in
+    let shows = send-headers-shows short response own headers-fine few (send-headers-stands response) h e in
+    let headers : headersShown s (sendHeadersAt s .places) ≡ response .headers = cc in
+    record {
+      asks = omega (arith, headers-many s (sendHeadersAt s .places) (h .headers) (send-headers-many s h e), ap length headers);
+      shown = λ table. rw (send-headers-table s table h e) shows;
+    }

@@ -7,24 +7,21 @@ use mathlib.Core.Path.{_≡_, refl, sym, ap, subst, _∙_}
 use mathlib.Core.Bool.{Bool, true, false}
 use mathlib.Core.List.{List, [], _∷_, _++_, append-assoc}
 use Prim.Native.Nat.{ℕ, _+_, _-_, _≤_}
-use lib.ListN.{length, drop, length-append}
-use lib.Seq.{take-at, drop-at, drop-append-add}
+use lib.ListN.{length, length-append}
 use Rattle.wire.specs.Bytes.{over, part, integerBytes}
 use Rattle.wire.specs.Packet.{leading, head, packet}
 use Rattle.wire.specs.declared.Direction.{Direction}
 use Rattle.wire.proofs.Bytes.{length-over, over-over, over-there}
-use Rattle.wire.proofs.Field.{head-four}
+use Rattle.wire.proofs.Field.{length-leading, head-four}
 use Rattle.connection.specs.Cycle.{directionOf, inState}
 use Rattle.connection.specs.declared.Connection.{Connection}
-use Rattle.connection.specs.declared.Kind.{Kind}
 use Rattle.payload.specs.Code.{codeOf}
-use Rattle.fields.specs.Call.{Outcome, refused, done}
 use Rattle.fields.specs.Field.{Field, opening, bytesOf}
 use Rattle.fields.proofs.Rows.{bytes-append}
-use Rattle.pieces.specs.declared.BuildingKind.{BuildingKind}
-use Rattle.pieces.specs.declared.Building.{Building}
 use Rattle.pieces.specs.Record.{kindIn, fields}
 use Rattle.pieces.specs.Fixed.{unset, fixed, fixedCall, forwardCall, sendHeadersCall}
+use Rattle.pieces.specs.declared.BuildingKind.{BuildingKind}
+use Rattle.pieces.specs.declared.Building.{Building}
 use Rattle.pieces.proofs.Possible.{possible-yes}
 use Rattle.writer.specs.Meaning.{Written}
 use Rattle.reader.specs.Meaning.{Told, accepted}
@@ -33,45 +30,17 @@ use Rattle.closing.specs.Closing.{lastBytes, closedLength, closed, closedPacket
 use Rattle.closing.proofs.Laws.{Ready, CloseDone, close-done, done-close}
 use Rattle.messages.specs.Message.{Header, Attribute, Request, Response, forward, sendHeaders}
 use Rattle.messages.specs.Bytes.{headersBytes, attributesBytes, requestFields, responseFields, piecesPayload, messageBytes}
-use Rattle.messages.specs.Writing.{Built, piece, addHeaders, addAttributes, unwritten, wrote, wroteBy, closeBuilt, inPieces, writing}
-use Rattle.messages.proofs.Fixed.{opening-five}
+use Rattle.messages.specs.Writing.{Built, piece, addHeaders, addAttributes, Wrote, wrote, wroteBy, closeBuilt, inPieces, writing}
+use Rattle.messages.proofs.Parts.{over-inside}
 use Rattle.messages.proofs.Fine.{FieldsFine, HeadersFine, AttributesFine}
-use Rattle.messages.proofs.BuiltLaws.{Unstopped, Reached, reached-same, fixed-faults, fixed-unstopped, fixed-fits, headers-before, headers-unstopped, headers-fit, attributes-before, cameAfter, Takes, attributes-unstopped, attributes-taken, attributes-fit}
-
--- bytes laid over as many bytes in the middle of a list
-over-middle : (a x y b : List ℕ) → length x ≡ length y → over (a ++ (x ++ b)) (length a) y ≡ a ++ (y ++ b)
-unfolding over
-over-middle a x y b e =
-    let back : drop (length a + length y) (a ++ (x ++ b)) ≡ b = drop-append-add a (x ++ b) (length y) ∙ drop-at x b (length y) e in
-    rw (take-at a (x ++ b) (length a) refl, back)
-
--- bytes in three parts from a buffer's first place on
-over-parts : (buffer a x b : List ℕ) (n : ℕ) → length x ≡ n
-    → over buffer 0 (a ++ (x ++ b)) ≡ a ++ (x ++ (b ++ drop (length a + (n + length b)) buffer))
-unfolding over
-over-parts buffer a x b n e =
-    let size : 0 + length (a ++ (x ++ b)) ≡ length a + (n + length b) = omega (arith, length-append a (x ++ b), length-append x b) in
-    rw (size, append-assoc a (x ++ b), append-assoc x b)
-
--- as many other bytes laid over the middle one
-over-inside : (buffer a x y b : List ℕ) (at : ℕ) → at ≡ length a → length x ≡ length y
-    → over (over buffer 0 (a ++ (x ++ b))) at y ≡ over buffer 0 (a ++ (y ++ b))
-over-inside buffer a x y b at e f =
-    let rest : List ℕ = drop (length a + (length y + length b)) buffer in
-    ap (λ (i : ℕ). over (over buffer 0 (a ++ (x ++ b))) i y) e
-    ∙ ap (λ (l : List ℕ). over l (length a) y) (over-parts buffer a x b (length y) f)
-    ∙ over-middle a x y (b ++ rest) f
-    ∙ sym (over-parts buffer a y b (length y) refl)
+use Rattle.messages.proofs.Fixed.{opening-five}
+use Rattle.messages.proofs.RoundTrip.{unwritten-never, wrote-done}
+use Rattle.messages.proofs.PieceByPiece.{Unstopped, Reached, reached-same, fixed-unstopped, fixed-fits, headers-before, headers-unstopped, headers-fit, attributes-before, cameAfter, Takes, attributes-unstopped, attributes-fit}
 
 -- a packet without its last bytes, by its length, its own fields' bytes, its count and what stands behind that
 abbrev unclosed : BuildingKind → List ℕ → ℕ → ℕ → List ℕ → List ℕ
 unclosed kind own size count rest =
     leading (directionOf (kindIn kind)) ++ (integerBytes size ++ (codeOf (kindIn kind) ∷ (own ++ (integerBytes count ++ rest))))
-
--- two bytes lead
-leading-length : (direction : Direction) → length (leading direction) ≡ 2
-leading-length Direction.ToContainer = refl
-leading-length Direction.ToServer = refl
 
 module _ (kind : BuildingKind) (own rest buffer : List ℕ) where
   -- how long it is goes neither by the length that it tells nor by its count
@@ -80,7 +49,7 @@ module _ (kind : BuildingKind) (own rest buffer : List ℕ) where
       let d : Direction = directionOf (kindIn kind) in
       omega (
         arith,
-        leading-length d,
+        length-leading d,
         length-append (leading d) (integerBytes size ++ (codeOf (kindIn kind) ∷ (own ++ (integerBytes count ++ rest)))),
         length-append own (integerBytes count ++ rest),
       )
@@ -92,7 +61,7 @@ module _ (kind : BuildingKind) (own rest buffer : List ℕ) where
       let d : Direction = directionOf (kindIn kind) in
       let front : List ℕ = leading d ++ (integerBytes 0 ++ (codeOf (kindIn kind) ∷ own)) in
       let place : 5 + length own ≡ length front =
-      omega (arith, leading-length d, length-append (leading d) (integerBytes 0 ++ (codeOf (kindIn kind) ∷ own))) in
+      omega (arith, length-leading d, length-append (leading d) (integerBytes 0 ++ (codeOf (kindIn kind) ∷ own))) in
       let parted : (n : ℕ) → front ++ (integerBytes n ++ rest) ≡ unclosed kind own 0 n rest =
       λ n. append-assoc (leading d) (integerBytes 0 ++ (codeOf (kindIn kind) ∷ own)) (integerBytes n ++ rest) in
       ap (λ (l : List ℕ). over (over buffer 0 l) (5 + length own) (integerBytes count)) (sym (parted 0))
@@ -104,7 +73,7 @@ module _ (kind : BuildingKind) (own rest buffer : List ℕ) where
       ≡ over buffer 0 (unclosed kind own size count rest)
   size-set size count =
       over-inside buffer (leading (directionOf (kindIn kind))) (integerBytes 0) (integerBytes size)
-      (codeOf (kindIn kind) ∷ (own ++ (integerBytes count ++ rest))) 2 (sym (leading-length (directionOf (kindIn kind)))) refl
+      (codeOf (kindIn kind) ∷ (own ++ (integerBytes count ++ rest))) 2 (sym (length-leading (directionOf (kindIn kind)))) refl
 
   -- and with both set the last bytes are written
   all-set : (next count headers : ℕ) (came : Bool) → next ≡ length (unclosed kind own 0 0 rest) → count ≡ 5 + length own
@@ -123,7 +92,7 @@ module _ (kind : BuildingKind) (own rest buffer : List ℕ) where
       ∙ over-over buffer 0 next (unclosed kind own size headers rest) last end (omega arith)
 
 -- the packet of a message in pieces
-abbrev pub wholePacket : BuildingKind → List Field → List Header → List Attribute → List ℕ
+abbrev wholePacket : BuildingKind → List Field → List Header → List Attribute → List ℕ
 wholePacket kind own headers attributes = packet (directionOf (kindIn kind)) (piecesPayload kind own headers attributes)
 
 -- the bytes behind its count, without the last ones
@@ -205,25 +174,13 @@ module _ (kind : BuildingKind) (own : List Field) (headers : List Header) (attri
       ∙ ap (part (over buffer 0 whole) 0) whole-length
       ∙ over-there buffer 0 whole (omega arith)
 
--- what was refused was not written
-unwritten-never : (n : ℕ) {w : Written} {after : List ℕ} → unwritten n ≡ wrote w after → ⊥
-unwritten-never n e = let z : _≡_ {A = ℕ} 0 1 = cc in omega arith
-
--- a call that wrote was done
-wrote-done : (buffer : List ℕ) (answer : Outcome Written) {w : Written} {after : List ℕ} → wroteBy buffer answer ≡ wrote w after
-    → (answer ≡ done w) × (buffer ≡ after)
-wrote-done buffer (refused n) e = absurd (unwritten-never n e)
-wrote-done buffer (done v) e = (cc, cc)
-
 -- what writing a packet in pieces says: no piece has a fault, the packet fits, it stands from the buffer's first place on and all else is as
 -- it was, and it is judged good
 pub record PiecesWritten (c : Connection) (kind : BuildingKind) (own : List Field) (headers : List Header) (attributes : List Attribute)
     (whole buffer : List ℕ) (w : Written) (after : List ℕ) : Type 0 where
   pub own-fine : FieldsFine own
-  pub fixed-fine : FieldsFine (fixed kind own)
   pub headers-fine : HeadersFine (directionOf (kindIn kind)) headers
   pub attributes-fine : AttributesFine attributes
-  pub takes : Takes kind attributes
   pub few : length headers ≤ 100
   pub within : length whole ≤ 8192
   pub fits : length whole ≤ length buffer
@@ -233,6 +190,14 @@ pub record PiecesWritten (c : Connection) (kind : BuildingKind) (own : List Fiel
   pub tells : Told
   pub judged : judging c (parse (directionOf (kindIn kind)) (readAsBody (directionOf (kindIn kind)) c) whole)
       ≡ accepted tells (length whole) (w .connection)
+
+-- and the other way: where no piece has a fault, all fit, and the packet is judged good, it is written
+abbrev pub Writes : Connection → BuildingKind → List Field → List Header → List Attribute → List ℕ → List ℕ → Wrote → Type 0
+Writes c kind own headers attributes whole buffer answer = (t : Told) (taken : ℕ) (next : Connection) → FieldsFine own
+    → HeadersFine (directionOf (kindIn kind)) headers → AttributesFine attributes → length headers ≤ 100 → length whole ≤ 8192
+    → length whole ≤ length buffer → inState c (kindIn kind) ≡ true
+    → judging c (parse (directionOf (kindIn kind)) (readAsBody (directionOf (kindIn kind)) c) whole) ≡ accepted t taken next
+    → answer ≡ wrote (record { length = length whole; connection = next }) (over buffer 0 whole)
 
 module _ (c : Connection) (kind : BuildingKind) (own : List Field) (headers : List Header) (attributes : List Attribute) (buffer : List ℕ) where
   -- all pieces, as the specification adds them
@@ -244,7 +209,6 @@ module _ (c : Connection) (kind : BuildingKind) (own : List Field) (headers : Li
       → FieldsFine own
       × HeadersFine (directionOf (kindIn kind)) headers
       × AttributesFine attributes
-      × Takes kind attributes
       × Reached allPieces kind (countPlace kind own) (length headers) (cameAfter false attributes) buffer (piecesBytes kind own headers attributes)
   all-unstopped h =
       let behind : Unstopped (addHeaders (piece (fixedCall kind own) buffer) headers) = attributes-before attributes h in
@@ -254,7 +218,6 @@ module _ (c : Connection) (kind : BuildingKind) (own : List Field) (headers : Li
         first .0,
         second .0,
         third .0,
-        attributes-taken kind attributes (second .1) h,
         reached-same (zero-add (length headers)) (pieces-parts kind own headers attributes) (third .1),
       )
 
@@ -275,7 +238,7 @@ module _ (c : Connection) (kind : BuildingKind) (own : List Field) (headers : Li
       reached-same (zero-add (length headers)) (pieces-parts kind own headers attributes) third
 
   -- a packet that was written in pieces is its message's packet
-  pub pieces-written : (w : Written) (after : List ℕ) → inPieces c (fixedCall kind own) headers attributes buffer ≡ wrote w after
+  pieces-written : (w : Written) (after : List ℕ) → inPieces c (fixedCall kind own) headers attributes buffer ≡ wrote w after
       → PiecesWritten c kind own headers attributes (wholePacket kind own headers attributes) buffer w after
   unfolding judgement
   pieces-written w after e =
@@ -285,7 +248,7 @@ module _ (c : Connection) (kind : BuildingKind) (own : List Field) (headers : Li
       let r : Building = behindAll kind own headers attributes came in
       let x : List ℕ = over buffer 0 (piecesBytes kind own headers attributes) in
       let found = all-unstopped (λ n q. unwritten-never n (sym (ap (closeBuilt c) q) ∙ e)) in
-      let here : Reached allPieces kind (countPlace kind own) (length headers) came buffer (piecesBytes kind own headers attributes) = found .4 in
+      let here : Reached allPieces kind (countPlace kind own) (length headers) came buffer (piecesBytes kind own headers attributes) = found .3 in
       let shut = wrote-done (closeBuffer c r x) (closeOutcome c r x) (sym (ap (closeBuilt c) (here .is)) ∙ e) in
       let closes : CloseDone c r x w = close-done c r x w (shut .0) in
       let size : closedLength r ≡ length whole = whole-length kind own headers attributes in
@@ -293,10 +256,8 @@ module _ (c : Connection) (kind : BuildingKind) (own : List Field) (headers : Li
       let fits : length whole ≤ length buffer = omega (arith, closes .ready .inside) in
       record {
         own-fine = found .0;
-        fixed-fine = fixed-faults kind own ∙ found .0;
         headers-fine = found .1;
         attributes-fine = found .2;
-        takes = found .3;
         few = possible-yes r x (here .possible) .few;
         within = omega (arith, closes .ready .within);
         fits = fits;
@@ -310,18 +271,11 @@ module _ (c : Connection) (kind : BuildingKind) (own : List Field) (headers : Li
             (closed-packet kind own headers attributes buffer came fits) (closes .judged-is));
       }
 
-  -- and the other way: where no piece has a fault, all fit, and the packet is judged good, it is written
-  pub pieces-write : (t : Told) (taken : ℕ) (next : Connection) → FieldsFine own → HeadersFine (directionOf (kindIn kind)) headers
-      → AttributesFine attributes → Takes kind attributes → length headers ≤ 100 → length (wholePacket kind own headers attributes) ≤ 8192
-      → length (wholePacket kind own headers attributes) ≤ length buffer → inState c (kindIn kind) ≡ true
-      → judging c
-      (parse (directionOf (kindIn kind)) (readAsBody (directionOf (kindIn kind)) c) (wholePacket kind own headers attributes))
-      ≡ accepted t taken next
-      → inPieces c (fixedCall kind own) headers attributes buffer
-      ≡ wrote (record { length = length (wholePacket kind own headers attributes); connection = next })
-      (over buffer 0 (wholePacket kind own headers attributes))
+  -- and the other way
+  pieces-write : Takes kind attributes
+      → Writes c kind own headers attributes (wholePacket kind own headers attributes) buffer (inPieces c (fixedCall kind own) headers attributes buffer)
   unfolding judgement
-  pieces-write t taken next own-fine headers-fine attributes-fine takes few within fits state judged =
+  pieces-write takes t taken next own-fine headers-fine attributes-fine few within fits state judged =
       let came : Bool = cameAfter false attributes in
       let d : Direction = directionOf (kindIn kind) in
       let whole : List ℕ = wholePacket kind own headers attributes in
@@ -355,16 +309,10 @@ module _ (c : Connection) (request : Request) (buffer : List ℕ) where
   forward-written = pieces-written c BuildingKind.Forward (requestFields request) (request .headers) (request .attributes) buffer
 
   -- and when it is written
-  pub forward-writes : (t : Told) (taken : ℕ) (next : Connection) → FieldsFine (requestFields request) → HeadersFine Direction.ToContainer (request .headers)
-      → AttributesFine (request .attributes) → length (request .headers) ≤ 100 → length (messageBytes (forward request)) ≤ 8192
-      → length (messageBytes (forward request)) ≤ length buffer → inState c Kind.Forward ≡ true
-      → judging c (parse Direction.ToContainer (readAsBody Direction.ToContainer c) (messageBytes (forward request))) ≡ accepted t taken next
-      → writing c (forward request) buffer
-      ≡ wrote (record { length = length (messageBytes (forward request)); connection = next }) (over buffer 0 (messageBytes (forward request)))
+  pub forward-writes : Writes c BuildingKind.Forward (requestFields request) (request .headers) (request .attributes) (messageBytes (forward request)) buffer
+      (writing c (forward request) buffer)
   unfolding writing messageBytes forwardCall
-  forward-writes t taken next own-fine headers-fine attributes-fine =
-      pieces-write c BuildingKind.Forward (requestFields request) (request .headers) (request .attributes) buffer t taken next own-fine headers-fine
-      attributes-fine tt
+  forward-writes = pieces-write c BuildingKind.Forward (requestFields request) (request .headers) (request .attributes) buffer tt
 
 -- a Send Headers
 module _ (c : Connection) (response : Response) (buffer : List ℕ) where
@@ -375,12 +323,7 @@ module _ (c : Connection) (response : Response) (buffer : List ℕ) where
   send-headers-written = pieces-written c BuildingKind.SendHeaders (responseFields response) (response .headers) [] buffer
 
   -- and when it is written
-  pub send-headers-writes : (t : Told) (taken : ℕ) (next : Connection) → FieldsFine (responseFields response) → HeadersFine Direction.ToServer (response .headers)
-      → length (response .headers) ≤ 100 → length (messageBytes (sendHeaders response)) ≤ 8192
-      → length (messageBytes (sendHeaders response)) ≤ length buffer → inState c Kind.SendHeaders ≡ true
-      → judging c (parse Direction.ToServer false (messageBytes (sendHeaders response))) ≡ accepted t taken next
-      → writing c (sendHeaders response) buffer
-      ≡ wrote (record { length = length (messageBytes (sendHeaders response)); connection = next }) (over buffer 0 (messageBytes (sendHeaders response)))
+  pub send-headers-writes : Writes c BuildingKind.SendHeaders (responseFields response) (response .headers) [] (messageBytes (sendHeaders response)) buffer
+      (writing c (sendHeaders response) buffer)
   unfolding writing messageBytes sendHeadersCall
-  send-headers-writes t taken next own-fine headers-fine =
-      pieces-write c BuildingKind.SendHeaders (responseFields response) (response .headers) [] buffer t taken next own-fine headers-fine tt refl
+  send-headers-writes = pieces-write c BuildingKind.SendHeaders (responseFields response) (response .headers) [] buffer refl

@@ -5,67 +5,47 @@ use native.Mathlib.Omega.{arith}
 use native.Mathlib.Nat.{zero-add, add-zero}
 use borrow.Author.Tests.{le-leb, lt-ltb, eqb-true, eqb-false}
 use mathlib.Core.Path.{_≡_, refl, sym, ap, subst, _∙_}
-use mathlib.Core.Bool.{Bool, true, false, false≢true}
+use mathlib.Core.Bool.{Bool, true, false}
 use mathlib.Core.List.{List, [], _∷_, _++_, append-assoc, append-nil}
 use Prim.Native.Nat.{ℕ, _+_, _-_, _≤_, _<_}
-use lib.Dec.{ltb, eqb}
+use lib.Dec.{eqb}
 use lib.ListN.{length, length-append}
-use Rattle.wire.specs.Pick.{both}
 use Rattle.wire.specs.Bytes.{over}
 use Rattle.wire.specs.declared.Direction.{Direction}
 use Rattle.wire.proofs.Bytes.{length-over, over-none, over-over}
-use Rattle.wire.proofs.Tests.{both-second}
 use Rattle.connection.specs.Cycle.{directionOf}
-use Rattle.fields.specs.Fault.{unless, orElse, faultAfter, firstFault, fitFault}
+use Rattle.fields.specs.Fault.{orElse, faultAfter, firstFault, fitFault}
 use Rattle.fields.specs.Field.{Field, faultsOf, bytesOf}
 use Rattle.fields.specs.Call.{Call, done, refusalOf, outcome, bufferAfter}
-use Rattle.fields.proofs.Sizes.{or-none, or-first, first-none, fit-by, unless-none}
+use Rattle.fields.proofs.Sizes.{or-none, or-first, first-none, fit-by}
 use Rattle.fields.proofs.Calls.{refused-answer, done-answer, done-own, done-fits, after-written}
-use Rattle.pieces.specs.declared.BuildingKind.{BuildingKind}
-use Rattle.pieces.specs.declared.Building.{Building}
 use Rattle.pieces.specs.Record.{kindIn, isForward, fields, directionIn, isPossible, headerNow, attributeNow, countFault}
 use Rattle.pieces.specs.Fixed.{unset, fixed, fixedCall}
 use Rattle.pieces.specs.Header.{headerCall, codedCall, spelledCall}
 use Rattle.pieces.specs.Attribute.{attributeCall, textCall, integerCall, pairCall}
+use Rattle.pieces.specs.declared.BuildingKind.{BuildingKind}
+use Rattle.pieces.specs.declared.Building.{Building}
 use Rattle.pieces.proofs.Possible.{header-possible, attribute-possible, begun-possible}
 use Rattle.messages.specs.Message.{Text, Name, coded, spelled, Header, Value, string, integer, pair, Attribute}
 use Rattle.messages.specs.Bytes.{fieldsBy, headerFields, headersBytes, fieldsOf, attributeFields, attributesBytes}
 use Rattle.messages.specs.Writing.{Built, stopped, built, builtBy, piece, headerCallBy, addHeader, addHeaders, attributeCallBy, addAttribute, addAttributes}
-use Rattle.messages.proofs.Fine.{FieldsFine, HeadersFine, AttributesFine}
-
--- the faults of two lists, one behind the other
-faults-append : (before : ℕ) (these those : List ℕ) → faultAfter before (these ++ those) ≡ faultAfter (faultAfter before these) those
-faults-append before [] those = refl
-faults-append before (fault ∷ later) those = faults-append (orElse before fault) later those
+use Rattle.messages.proofs.Fine.{FieldsFine, HeadersFine, AttributesFine, faults-append, faults-more}
 
 -- fields, with a fault that is looked for before them and one that is looked for behind them
 module _ (first last : ℕ) (own : List Field) where
-  -- where none is found, the first is none
-  around-first : firstFault (first ∷ (faultsOf own ++ (last ∷ []))) ≡ 0 → first ≡ 0
-  around-first h = first-none first (faultsOf own ++ (last ∷ [])) h
-
-  -- nor is there one of the fields or the last
+  -- where none is found, there is none of the fields or the last
   around-rest : firstFault (first ∷ (faultsOf own ++ (last ∷ []))) ≡ 0 → orElse (firstFault (faultsOf own)) last ≡ 0
   around-rest h =
       sym (faults-append 0 (faultsOf own) (last ∷ []))
-      ∙ ap (λ (f : ℕ). faultAfter f (faultsOf own ++ (last ∷ []))) (sym (around-first h))
+      ∙ ap (λ (f : ℕ). faultAfter f (faultsOf own ++ (last ∷ []))) (sym (first-none first (faultsOf own ++ (last ∷ [])) h))
       ∙ h
 
   -- and where each is none, none is found
   around-none : first ≡ 0 → FieldsFine own → last ≡ 0 → firstFault (first ∷ (faultsOf own ++ (last ∷ []))) ≡ 0
   around-none p q r = rw (p, faults-append 0 (faultsOf own) (last ∷ []), q, r)
 
--- a test that holds has no fault
-holds-none : (t : Bool) (fault : ℕ) → t ≡ true → unless t fault ≡ 0
-holds-none t fault e = rw e
-
--- the faults of fields and of others behind them
-faults-more : (these those : List Field) → faultsOf (these ++ those) ≡ faultsOf these ++ faultsOf those
-faults-more [] those = refl
-faults-more (field ∷ later) those = ap (λ (l : List ℕ). field .fault ∷ l) (faults-more later those)
-
 -- the fixed fields have the first fault of the packet's own
-pub fixed-faults : (kind : BuildingKind) (own : List Field) → firstFault (faultsOf (fixed kind own)) ≡ firstFault (faultsOf own)
+fixed-faults : (kind : BuildingKind) (own : List Field) → firstFault (faultsOf (fixed kind own)) ≡ firstFault (faultsOf own)
 fixed-faults kind own =
     ap firstFault (faults-more own (unset ∷ []))
     ∙ faults-append 0 (faultsOf own) (0 ∷ [])
@@ -138,13 +118,10 @@ module _ (call : Call Building) (buffer raw : List ℕ) (at : call .at ≡ lengt
       (ap (λ (f : ℕ). orElse f (fitFault end (length x))) own
       ∙ sym (fit-by end (length x) true true (le-leb end 8192 (omega arith)) (le-leb end (length x) (omega arith))))
 
--- the bytes of a packet so far stand in the buffer from its first place on, and the record is the one behind them
-abbrev pub standing : BuildingKind → ℕ → ℕ → Bool → List ℕ → List ℕ → Built
-standing kind count headers came buffer raw = built (fields kind (length raw) count headers came) (over buffer 0 raw)
-
--- pieces have come to that: they were written, the record can be, and the bytes are within the buffer
+-- what pieces have come to: the bytes of the packet so far stand in the buffer from its first place on and within it, and the record is the one
+-- behind them, which can be
 pub record Reached (x : Built) (kind : BuildingKind) (count headers : ℕ) (came : Bool) (buffer raw : List ℕ) : Type 0 where
-  pub is : x ≡ standing kind count headers came buffer raw
+  pub is : x ≡ built (fields kind (length raw) count headers came) (over buffer 0 raw)
   pub possible : isPossible (fields kind (length raw) count headers came) (over buffer 0 raw) ≡ true
   pub room : length raw ≤ length buffer
 
@@ -241,7 +218,7 @@ module _ {x : Built} {kind : BuildingKind} {count headers : ℕ} {buffer raw : L
       let r : Building = fields kind (length raw) count headers false in
       let can : isPossible r (over buffer 0 raw) ≡ true = here .possible in
       let now : headerNow r (over buffer 0 raw) ≡ 0 = rw can in
-      let one : countFault r ≡ 0 = holds-none (ltb headers 100) 11 (lt-ltb headers 100 few) in
+      let one : countFault r ≡ 0 = rw (lt-ltb headers 100 few) in
       headed
       (pieced-fits headerHere buffer raw refl (here .room) (around-none (headerNow r (over buffer 0 raw)) (countFault r) headerOwn now fine one) within fits)
 
@@ -314,19 +291,15 @@ module _ {x : Built} {kind : BuildingKind} {count headers : ℕ} {came : Bool} {
       piece-reached p attribute-is refl
       (attribute-possible (fields kind (length raw) count headers came) (over buffer 0 raw) (attributeFields attribute) (p .none))
 
-  -- where it is not refused, the packet is a Forward, and it has no fault
+  -- where it is not refused, it has no fault
   attribute-unstopped : Unstopped (addAttribute x attribute)
-      → (isForward kind ≡ true)
-      × FieldsFine (attributeFields attribute)
+      → FieldsFine (attributeFields attribute)
       × Reached (addAttribute x attribute) kind count headers true buffer (raw ++ bytesOf (attributeFields attribute))
-  unfolding attributeNow
   attribute-unstopped h =
       let now : ℕ = attributeNow (fields kind (length raw) count headers came) (over buffer 0 raw) in
-      let can : Bool = isPossible (fields kind (length raw) count headers came) (over buffer 0 raw) in
       let own : List ℕ = faultsOf (attributeFields attribute) in
       let p : Pieced attributeHere buffer raw = pieced-unstopped attributeHere buffer raw refl (here .room) (λ n e. h n (attribute-is ∙ e)) in
       let first : now ≡ 0 = first-none now own (p .own) in (
-        both-second can (isForward kind) (unless-none (both can (isForward kind)) 16 (omega arith) first),
         subst (λ (f : ℕ). faultAfter f own ≡ 0) first (p .own),
         attributed p,
       )
@@ -367,16 +340,8 @@ pub attributes-unstopped : {x : Built} {kind : BuildingKind} {count headers : �
 attributes-unstopped {raw = raw} [] here h = (tt, reached-same refl (sym (append-nil raw)) here)
 attributes-unstopped {raw = raw} (attribute ∷ later) here h =
     let first = attribute-unstopped attribute here (attributes-before later h) in
-    let rest = attributes-unstopped later (first .2) h in
-    ((first .1, rest .0), reached-same refl (append-assoc raw (bytesOf (attributeFields attribute)) (attributesBytes later)) (rest .1))
-
--- and the packet takes them
-pub attributes-taken : {x : Built} {count headers : ℕ} {came : Bool} {buffer raw : List ℕ} (kind : BuildingKind) (attributes : List Attribute)
-    → Reached x kind count headers came buffer raw → Unstopped (addAttributes x attributes) → Takes kind attributes
-attributes-taken BuildingKind.Forward attributes here h = tt
-attributes-taken BuildingKind.SendHeaders [] here h = refl
-attributes-taken BuildingKind.SendHeaders (attribute ∷ later) here h =
-    absurd (false≢true (attribute-unstopped attribute here (attributes-before later h) .0))
+    let rest = attributes-unstopped later (first .1) h in
+    ((first .0, rest .0), reached-same refl (append-assoc raw (bytesOf (attributeFields attribute)) (attributesBytes later)) (rest .1))
 
 -- where none has a fault, the packet takes them, and all fit, they are written
 pub attributes-fit : {x : Built} {kind : BuildingKind} {count headers : ℕ} {came : Bool} {buffer raw : List ℕ} (attributes : List Attribute)

@@ -5,7 +5,7 @@ use native.Mathlib.Omega.{arith}
 use mathlib.Core.Path.{_≡_, refl, sym, ap, subst, _∙_}
 use mathlib.Core.Bool.{Bool, true, false}
 use mathlib.Core.List.{List, [], _∷_, _++_, append-assoc, append-nil}
-use Prim.Native.Nat.{ℕ, _+_, _≤_}
+use Prim.Native.Nat.{ℕ, zero, suc, _+_, _*_, _≤_}
 use lib.ListN.{length, getD, length-append}
 use lib.Seq.{getD-append-seam}
 use Rattle.wire.specs.Pick.{pick}
@@ -23,23 +23,20 @@ use Rattle.names.specs.declared.AttributeKind.{AttributeKind}
 use Rattle.headers.specs.Headers.{declares, nameAt}
 use Rattle.headers.specs.declared.NameRead.{NameRead}
 use Rattle.attributes.specs.Attributes.{lastMark}
-use Rattle.reader.proofs.Handed.{StringThere, NameEnds, HeadersHanded, ValueThere, AttributesHanded}
-use Rattle.reader.proofs.Shown.{integer-shown, text-shown, null-shown, code-shown, spelled-shown}
-use Rattle.reader.specs.View.{nullView, textView}
 use Rattle.fields.specs.Fault.{unless, stringFault}
 use Rattle.fields.specs.Field.{faultsOf, bytesOf}
 use Rattle.pieces.specs.Header.{spelledName}
 use Rattle.pieces.specs.Attribute.{isText, isInteger, isPair}
+use Rattle.reader.specs.View.{nullView, textView}
+use Rattle.reader.proofs.Handed.{StringThere, NameEnds, HeadersHanded, ValueThere, AttributesHanded}
+use Rattle.reader.proofs.Shown.{integer-shown, text-shown, code-shown, spelled-shown}
 use Rattle.messages.specs.Message.{Text, null, text, Name, coded, spelled, Header, Value, string, integer, pair, Attribute, isNull, bytesIn, ValueFits, AttributesFit}
 use Rattle.messages.specs.Bytes.{fieldsBy, headerFields, headersBytes, fieldsOf, attributesBytes}
 use Rattle.messages.specs.Shown.{textShown, nameShown, headersShown, valueBy, attributesShown}
+use Rattle.messages.proofs.Fine.{FieldsFine, HeadersFine, AttributesFine, faultless}
 use Rattle.messages.proofs.Judged.{text-part, string-stood, coded-name, spelled-name, code-begins, header-faultless, text-kind, integer-kind, pair-kind}
-use Rattle.messages.proofs.Fixed.{Ahead, ahead-next, ahead-holds, faultless}
-use Rattle.messages.proofs.Fine.{FieldsFine, HeadersFine, AttributesFine}
-
--- a string's bytes
-abbrev pub textBytes : Text → List ℕ
-textBytes t = stringBytes (isNull t) (bytesIn t)
+use Rattle.messages.proofs.Fixed.{Ahead, ahead-next, ahead-holds}
+use Rattle.messages.proofs.Texts.{textBytes, null-told, text-told}
 
 -- bytes that stand in a list are no longer than it
 ahead-short : {s : List ℕ} {at : ℕ} (x rest : List ℕ) (most : ℕ) → Ahead s at (x ++ rest) → length s ≤ most → length x ≤ most
@@ -49,6 +46,20 @@ ahead-short x rest most r h = omega (arith, ap length (r .is), length-append (r 
 shown-bytes : (t : Bool) (view bytes : List ℕ) → pick t null (text view) ≡ text bytes → view ≡ bytes
 shown-bytes true view bytes e = absurd (let z : _≡_ {A = ℕ} 0 1 = cc in omega arith)
 shown-bytes false view bytes e = cc
+
+-- so many places, two for each, show so many headers
+pub headers-many : (s places : List ℕ) (count : ℕ) → length places ≡ 2 * count → length (headersShown s places) ≡ count
+headers-many s [] count e = omega arith
+headers-many s (name ∷ []) count e = absurd (omega arith)
+headers-many s (name ∷ value ∷ later) zero e = absurd (omega arith)
+headers-many s (name ∷ value ∷ later) (suc count) e = ap suc (headers-many s later count (omega arith))
+
+-- and so many attributes
+pub attributes-many : (s places : List ℕ) (count : ℕ) → length places ≡ 2 * count → length (attributesShown s places) ≡ count
+attributes-many s [] count e = omega arith
+attributes-many s (at ∷ []) count e = absurd (omega arith)
+attributes-many s (at ∷ value ∷ later) zero e = absurd (omega arith)
+attributes-many s (at ∷ value ∷ later) (suc count) e = ap suc (attributes-many s later count (omega arith))
 
 -- the kind of value that an attribute has
 abbrev kindFor : Value → AttributeKind
@@ -115,18 +126,19 @@ module _ {s : List ℕ} (short : length s ≤ 8192) where
   string-shows {at} rest field null r fine next there =
       let e = string-read rest field true [] r fine (omega arith) in
       let ends : at + length (stringBytes true []) ≡ next = rw e at there in (
-        rw (null-shown s at (isOptional field) (at + length (stringBytes true [])) e .0),
+        null-told s at (isOptional field) (at + length (stringBytes true [])) e,
         rw ends at (ahead-next (stringBytes true []) rest r),
       )
   string-shows {at} rest field (text bytes) r fine next there =
       let e = string-read rest field false bytes r fine (string-fits rest (text bytes) r) in
       let ends : at + length (stringBytes false bytes) ≡ next = rw e at there in
-      let shown = text-shown s at (isOptional field) (at + 2) (length bytes) (at + length (stringBytes false bytes)) e in (
-        rw (shown .0, shown .1, text-there rest bytes r),
+      let next-is : ℕ = at + length (stringBytes false bytes) in (
+        text-told s at (isOptional field) (at + 2) (length bytes) next-is e
+            ∙ ap text (text-shown s at (isOptional field) (at + 2) (length bytes) next-is e .1 ∙ text-there rest bytes r),
         rw ends at (ahead-next (stringBytes false bytes) rest r),
       )
 
-  -- what reading answers at a name without fault: by its code, and spelled out
+  -- what reading answers at a code without fault
   code-read : {at : ℕ} (rest : List ℕ) (d : Direction) (code : ℕ) → Ahead s at (integerBytes code ++ rest) → codeFault d code ≡ 0
       → nameAt d s at ≡ NameRead.Code code (at + 2)
   code-read rest d code r fine =
@@ -134,6 +146,7 @@ module _ {s : List ℕ} (short : length s ≤ 8192) where
       ahead-holds (λ (l : List ℕ) (i : ℕ). nameAt d l i ≡ NameRead.Code code (i + 2))
       (λ a. rw fine at (coded-name a rest d code (within .0) (within .1))) r
 
+  -- and at a name without fault that is spelled out
   spelling-read : {at : ℕ} (rest : List ℕ) (d : Direction) (name : List ℕ) → Ahead s at (stringBytes false name ++ rest)
       → spelledName d false name .fault ≡ 0 → length name ≤ 8192
       → nameAt d s at ≡ NameRead.Spelled (at + 2) (length name) (at + length (stringBytes false name))
