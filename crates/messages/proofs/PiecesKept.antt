@@ -46,7 +46,7 @@ use Rattle.fields.specs.Field.{Field, plain, byteWithin, integerWithin, bytesOf
 use Rattle.pieces.specs.Record.{kindIn}
 use Rattle.pieces.specs.declared.BuildingKind.{BuildingKind}
 use Rattle.reader.specs.Meaning.{told}
-use Rattle.reader.proofs.Handed.{StringEnds, attributes-handed}
+use Rattle.reader.proofs.Handed.{FieldEnds, forward-same, head-same, StringEnds, attributes-handed}
 use Rattle.closing.specs.Closing.{lastBytes}
 use Rattle.messages.specs.Message.{Header, Attribute, Request, Response, Message, forward, sendHeaders, wayOf, Fit}
 use Rattle.messages.specs.Bytes.{attributesBytes, requestFields, responseFields, piecesPayload, payloadOf, messageBytes}
@@ -58,11 +58,6 @@ use Rattle.messages.proofs.Parses.{Parses, coded-kept, finished-is}
 use Rattle.messages.proofs.Texts.{textField}
 use Rattle.messages.proofs.FieldsShown.{headers-many}
 use Rattle.messages.proofs.FieldsKept.{Held, held-none, held-byte, held-join, FieldKept, FieldsKept, fields-front, fields-last, string-kept, number-kept, NumberKept, HeadersKept, headers-kept, AttributesKept, attributes-kept}
-
--- a fixed field that is read, by where it ends
-abbrev FieldEnds : ℕ → FieldRead → Type 0
-FieldEnds end (FieldRead.Refused n) = ⊥
-FieldEnds end (FieldRead.Field at value next) = next ≡ end
 
 -- where a field is read behind another one, it is read where that one ends, and is kept
 abbrev KeptBehind : List ℕ → FieldRead → FieldRead → Field → Type 0
@@ -326,10 +321,6 @@ pieces-kept kind s {own} {at} {count} {next} {n} {places} {middle} attributes m 
       fit = fit;
     }
 
--- two Forwards that are found to be the same packet are the same
-forward-same : (g f : Forward) → PacketRead.Packet (Packet.Forward g) ≡ PacketRead.Packet (Packet.Forward f) → g ≡ f
-forward-same g f e = cc
-
 -- a Forward, by its fixed fields, each of which stands behind the one before it
 module _ (s : List ℕ) (packed : s ≡ packet Direction.ToContainer (codeOf Kind.Forward ∷ drop 5 s))
     (method protocol uri addr host name port ssl count : FieldRead)
@@ -403,10 +394,6 @@ forward-kept s f headers attributes bytes r are many =
     (subst (λ (p : List ℕ). RequestKept s (forwardShown s f (headersOf s count) p))
     (same-rest (headersOf s count) (attributesOf s count) headers attributes parted same) (found .1))
 
--- two Send Headers that are found to be the same packet are the same
-send-headers-same : (g h : SendHeaders) → PacketRead.Packet (Packet.SendHeaders g) ≡ PacketRead.Packet (Packet.SendHeaders h) → g ≡ h
-send-headers-same g h e = cc
-
 -- a Send Headers, by its fixed fields, each of which stands behind the one before it
 module _ (s : List ℕ) (packed : s ≡ packet Direction.ToServer (codeOf Kind.SendHeaders ∷ drop 5 s)) (status message count : FieldRead)
     (status-behind : KeptBehind s afterCode status (integerWithin leastStatus greatestStatus (valueOf status)))
@@ -430,7 +417,7 @@ module _ (s : List ℕ) (packed : s ≡ packet Direction.ToServer (codeOf Kind.S
       let k1 = status-behind (placeOf message .0) (k2 .0) in
       let all : HeadersKept Direction.ToServer s (b .0) (valueOf count) headers (length s) =
       subst (HeadersKept Direction.ToServer s (b .0) (valueOf count) headers) (f .0) (b .2 (k3 .1 .held .inside)) in
-      subst (λ (g : SendHeaders). ResponseKept s (sendHeadersShown s g headers)) (send-headers-same found h (ap PacketRead.Packet (f .1))) (
+      subst (λ (g : SendHeaders). ResponseKept s (sendHeadersShown s g headers)) (head-same found h (ap PacketRead.Packet (f .1))) (
         _,
         refl,
         pieces-kept BuildingKind.SendHeaders s [] _ packed refl refl (k1 .0) (fields-front (k1 .1) (fields-last (k2 .1))) (k3 .1) all

@@ -271,7 +271,7 @@ attributes-handed s at most codes count end e =
     subst (AttributesTo s at (attributesAt s at most codes .places)) e (attributes-to s at most codes)
 
 -- a fixed field that is read, by where it ends
-abbrev FieldEnds : ℕ → FieldRead → Type 0
+abbrev pub FieldEnds : ℕ → FieldRead → Type 0
 FieldEnds end (FieldRead.Refused n) = ⊥
 FieldEnds end (FieldRead.Field at value next) = next ≡ end
 
@@ -435,7 +435,7 @@ pub record ForwardHanded (s : List ℕ) (f : Forward) (places : List ℕ) : Type
   pub lists : ListsHanded s (port + 5) (f .headers) places
 
 -- two Forwards that are found to be the same packet are the same
-forward-same : (g f : Forward) → PacketRead.Packet (Packet.Forward g) ≡ PacketRead.Packet (Packet.Forward f) → g ≡ f
+pub forward-same : (g f : Forward) → PacketRead.Packet (Packet.Forward g) ≡ PacketRead.Packet (Packet.Forward f) → g ≡ f
 forward-same g f e = cc
 
 -- a Forward, by its fixed fields
@@ -518,7 +518,7 @@ pub record HeadHanded (s : List ℕ) (h : SendHeaders) (places : List ℕ) : Typ
   pub headers-there : HeadersHanded Direction.ToServer s (count + 2) places (length s)
 
 -- two Send Headers that are found to be the same packet are the same
-head-same : (g h : SendHeaders) → PacketRead.Packet (Packet.SendHeaders g) ≡ PacketRead.Packet (Packet.SendHeaders h) → g ≡ h
+pub head-same : (g h : SendHeaders) → PacketRead.Packet (Packet.SendHeaders g) ≡ PacketRead.Packet (Packet.SendHeaders h) → g ≡ h
 head-same g h e = cc
 
 -- a Send Headers, by its fixed fields
