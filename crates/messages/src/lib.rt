@@ -1,1 +1,1 @@
-// No calls: laws that join building and reading. What a piece writes, reading tells as the piece judged it. An inner crate.
+// No calls: what a message is, its bytes, and the two round trips between writing and reading. An inner crate.
