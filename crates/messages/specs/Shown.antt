@@ -1,5 +1,6 @@
 -- The message that an accepted packet shows: what acceptance tells, and what the views show at the places that it hands out and that stand
--- in the table.
+-- in the table. Each part is what a call of `reader::view` promises: `place_at`, `is_null_at`, `text_at`, `name_at`, `integer_at`,
+-- `attribute_code_at`, `attribute_kind_at`, `attribute_name_at`, `bytes_of`.
 -- Document 01, 'Refusal numbers': what acceptance tells, and the table of places.
 -- Assumes nothing.
 use mathlib.Core.List.{List, [], _∷_}
