@@ -34,45 +34,14 @@ use Rattle.writer.specs.Meaning.{Written, meaning, isWritten}
 use Rattle.reader.specs.declared.frame.FrameRead.{FrameRead}
 use Rattle.reader.specs.Frame.{leadingDiffers, lengthAt, frameOf, frameAt}
 use Rattle.reader.specs.Meaning as read
-use Rattle.reader.specs.Reading.{parsedOf, parseWhole, parseFrame, parse, readAsBody, accepting, judging, withRoom, reading}
+use Rattle.reader.specs.Reading.{parsedOf, parseWhole, parseFrame, parse, readAsBody, accepting, judging, reading}
 use Rattle.reader.proofs.Framing.{length-is}
 use Rattle.reader.proofs.Later.{Answered}
-use Rattle.reader.proofs.Acceptance.{Acceptance, accepted-is, accepting-answers}
-use Rattle.reader.proofs.Inside.{told-inside}
+use Rattle.reader.proofs.Acceptance.{accepted-is, accepting-answers}
+use Rattle.reader.proofs.Aside.{aside}
 use Rattle.closing.specs.Closing.{closedLength, closingFault, closed, closedPacket, judgement, verdict, closeOutcome, whereDone, closeBuffer}
 use Rattle.closing.specs.Private.{Closable}
 use Rattle.closing.proofs.Setting.{set-length, packet-length, packet-payload, set-behind}
-
--- a table that has room for the places that are asked for
-room-enough : (t : read.Told) (taken : ℕ) (next : Connection) (room : ℕ) → read.placesNeeded t ≤ room
-    → withRoom room (read.accepted t taken next) ≡ read.accepted t taken next
-room-enough t taken next room h =
-    ap (λ (enough : Bool). pick enough (read.accepted t taken next) (read.refused 15)) (le-leb (read.placesNeeded t) room h)
-
-module _ (d : Direction) (c : Connection) (s : List ℕ) where
-  -- what bytes are judged to be
-  abbrev judged : read.Meaning
-  judged = judging c (parse d (readAsBody d c) s)
-
-  -- a packet that passes asks for no more than 328 places
-  few-places : (t : read.Told) (taken : ℕ) (next : Connection) → judged ≡ read.accepted t taken next → read.placesNeeded t ≤ 328
-  unfolding reading
-  few-places t taken next e =
-      let room : ℕ = read.placesNeeded t in
-      let a : Acceptance d c s room t taken next =
-      accepted-is d c s room t taken next (ap (withRoom room) e ∙ room-enough t taken next room (omega arith)) in
-      let most = told-inside (a .kind) (part s 0 taken) (a .packet) (a .fields-are) .places-most in
-      omega (arith, most, ap read.placesNeeded (a .tells))
-
-  -- reading with 328 places or more is judging with the table aside
-  pub aside : (room : ℕ) → 328 ≤ room → reading d c s room ≡ judging c (parse d (readAsBody d c) s)
-  unfolding reading
-  aside room h = go judged refl
-    where
-      go : (m : read.Meaning) → judged ≡ m → withRoom room m ≡ m
-      go (read.needs n) e = refl
-      go (read.refused n) e = refl
-      go (read.accepted t taken next) e = room-enough t taken next room (omega (arith, few-places t taken next e))
 
 -- where nothing is found before the packet is judged: the record can be, the state allows the packet, and all of it fits
 pub record Ready (c : Connection) (r : Building) (buffer : List ℕ) : Type 0 where

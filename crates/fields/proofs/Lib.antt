@@ -2,3 +2,4 @@ pub mod Sizes
 pub mod Rows
 pub mod Calls
 pub mod Judged
+pub mod Faults

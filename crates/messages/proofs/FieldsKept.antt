@@ -20,6 +20,7 @@ use Rattle.wire.specs.declared.read.StringRead.{StringRead}
 use Rattle.wire.proofs.Bytes.{part-none, part-one}
 use Rattle.wire.proofs.Field.{TextRead, text-read, NullRead, null-read}
 use Rattle.wire.proofs.RoundTrip.{Bytes, integer-kept, text-kept, null-kept}
+use Rattle.wire.proofs.Parts.{part-join}
 use Rattle.names.specs.Header.{beginsCode, codeFault, spelledFault}
 use Rattle.names.specs.Attribute.{attributeKind}
 use Rattle.names.specs.declared.AttributeKind.{AttributeKind}
@@ -40,7 +41,6 @@ use Rattle.reader.proofs.Shown.{integer-shown, text-shown, code-shown, spelled-
 use Rattle.messages.specs.Message.{Text, null, text, Name, coded, spelled, isNull, bytesIn, NameFits, HeadersFit, ValueFits, AttributesFit}
 use Rattle.messages.specs.Bytes.{fieldsBy, headersBytes, fieldsOf, attributesBytes}
 use Rattle.messages.specs.Shown.{textShown, nameBy, nameShown, headersShown, valueBy, attributesShown}
-use Rattle.messages.proofs.Parts.{part-join}
 use Rattle.messages.proofs.Fine.{FieldsFine, HeadersFine, AttributesFine}
 use Rattle.messages.proofs.Texts.{textField, null-told, text-told}
 

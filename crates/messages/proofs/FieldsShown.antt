@@ -25,6 +25,7 @@ use Rattle.headers.specs.declared.NameRead.{NameRead}
 use Rattle.attributes.specs.Attributes.{lastMark}
 use Rattle.fields.specs.Fault.{unless, stringFault}
 use Rattle.fields.specs.Field.{faultsOf, bytesOf}
+use Rattle.fields.proofs.Faults.{faultless}
 use Rattle.pieces.specs.Header.{spelledName}
 use Rattle.pieces.specs.Attribute.{isText, isInteger, isPair}
 use Rattle.reader.specs.View.{nullView, textView}
@@ -33,7 +34,7 @@ use Rattle.reader.proofs.Shown.{integer-shown, text-shown, code-shown, spelled-
 use Rattle.messages.specs.Message.{Text, null, text, Name, coded, spelled, Header, Value, string, integer, pair, Attribute, isNull, bytesIn, ValueFits, AttributesFit}
 use Rattle.messages.specs.Bytes.{fieldsBy, headerFields, headersBytes, fieldsOf, attributesBytes}
 use Rattle.messages.specs.Shown.{textShown, nameShown, headersShown, valueBy, attributesShown}
-use Rattle.messages.proofs.Fine.{FieldsFine, HeadersFine, AttributesFine, faultless}
+use Rattle.messages.proofs.Fine.{FieldsFine, HeadersFine, AttributesFine}
 use Rattle.messages.proofs.Judged.{text-part, string-stood, coded-name, spelled-name, code-begins, header-faultless, text-kind, integer-kind, pair-kind}
 use Rattle.messages.proofs.Fixed.{Ahead, ahead-next, ahead-holds}
 use Rattle.messages.proofs.Texts.{textBytes, null-told, text-told}

@@ -27,12 +27,12 @@ use Rattle.payload.specs.declared.packet.PacketRead.{PacketRead}
 use Rattle.fields.specs.Fault.{unless, orElse, firstFault, stringFault, rangeFault}
 use Rattle.fields.specs.Field.{opening, faultsOf}
 use Rattle.fields.proofs.Sizes.{boolean-one}
+use Rattle.fields.proofs.Faults.{faultless}
 use Rattle.pieces.specs.Record.{kindIn}
 use Rattle.pieces.specs.Fixed.{fixed, sendHeadersFields, forwardFields}
 use Rattle.pieces.specs.declared.BuildingKind.{BuildingKind}
 use Rattle.pieces.specs.declared.forward.Numbers.{Numbers}
 use Rattle.pieces.specs.declared.forward.Nulls.{Nulls}
-use Rattle.messages.proofs.Fine.{faultless}
 use Rattle.messages.proofs.Judged.{stood, string-stood, among}
 
 -- from a place on, a list has these bytes

@@ -12,6 +12,7 @@ use Rattle.wire.specs.Bytes.{part}
 use Rattle.wire.specs.Packet.{packet}
 use Rattle.wire.specs.declared.Direction.{Direction}
 use Rattle.wire.proofs.Tests.{both-first}
+use Rattle.wire.proofs.Parts.{stands-there}
 use Rattle.connection.specs.Cycle.{directionOf, inState, allowed, after}
 use Rattle.connection.specs.declared.Kind.{Kind}
 use Rattle.connection.specs.declared.Connection.{Connection}
@@ -29,12 +30,11 @@ use Rattle.writer.specs.Meaning.{Written}
 use Rattle.reader.specs.Meaning.{accepted, told}
 use Rattle.reader.specs.Reading.{parse, readAsBody, judging, reading}
 use Rattle.reader.proofs.Handed.{forward-handed}
-use Rattle.closing.proofs.Laws.{aside}
+use Rattle.reader.proofs.Aside.{aside}
 use Rattle.messages.specs.Message.{Request, Response, Message, forward, sendHeaders, Header, Attribute, wayOf}
 use Rattle.messages.specs.Bytes.{payloadOf, messageBytes}
 use Rattle.messages.specs.Writing.{writing}
 use Rattle.messages.specs.Shown.{headerPlaces, attributePlaces, messageShown}
-use Rattle.messages.proofs.Parts.{stands-there}
 use Rattle.messages.proofs.Parses.{isBody, Parses, packet-as-body, none-due, parses-alone, parses-most, parses-places, accepted-parses, all-parses, kind-written}
 use Rattle.messages.proofs.Tables.{tableOf, forward-table, send-headers-table}
 use Rattle.messages.proofs.RoundTrip.{Forth, WrittenBack, Back, own-way, Shows, Stands, stands-back}

@@ -1,4 +1,3 @@
-pub mod Parts
 pub mod Fine
 pub mod Judged
 pub mod Fixed

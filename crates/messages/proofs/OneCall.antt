@@ -22,6 +22,7 @@ use Rattle.wire.proofs.Tests.{both-first, both-second}
 use Rattle.wire.proofs.Bytes.{length-part, part-middle, part-add, part-one}
 use Rattle.wire.proofs.Field.{boolean-inside}
 use Rattle.wire.proofs.RoundTrip.{Bytes, integer-written, integer-kept, boolean-kept}
+use Rattle.wire.proofs.Parts.{part-zero, rest-part, stands-there}
 use Rattle.connection.specs.Cycle.{kindOf, directionOf, inState, inSize, allowed, after}
 use Rattle.connection.specs.declared.Connection.{Connection}
 use Rattle.connection.specs.declared.Kind.{Kind}
@@ -42,6 +43,7 @@ use Rattle.fields.specs.Field.{opening}
 use Rattle.fields.specs.Call.{Call, refused, done, refusalOf, answered, outcome, bufferAfter}
 use Rattle.fields.proofs.Sizes.{unless-none}
 use Rattle.fields.proofs.Calls.{done-own, done-fits, after-written, fits-done}
+use Rattle.fields.proofs.Faults.{faultless}
 use Rattle.writer.specs.Meaning.{Written}
 use Rattle.writer.specs.Sending.{packetOf, sendingFaults, sending, bodyPayload, chunkPayload, bareCall, bodyCall, chunkCall, getCall, endCall}
 use Rattle.reader.specs.Meaning.{told}
@@ -50,8 +52,6 @@ use Rattle.messages.specs.Message.{Message, cping, cpong, forward, body,
 use Rattle.messages.specs.Bytes.{payloadOf, messageBytes}
 use Rattle.messages.specs.Writing.{wrote, wroteBy, oneCall, writing}
 use Rattle.messages.specs.Shown.{messageShown}
-use Rattle.messages.proofs.Parts.{part-zero, rest-part, stands-there}
-use Rattle.messages.proofs.Fine.{faultless}
 use Rattle.messages.proofs.Fixed.{boolean-back}
 use Rattle.messages.proofs.Frames.{frame-written, head-kept}
 use Rattle.messages.proofs.Parses.{isBody, Parses, parses-most, coded-parses, coded-kept, finished-is}

@@ -19,6 +19,7 @@ use Rattle.fields.specs.Field.{Field, faultsOf, bytesOf}
 use Rattle.fields.specs.Call.{Call, done, refusalOf, outcome, bufferAfter}
 use Rattle.fields.proofs.Sizes.{or-none, or-first, first-none, fit-by}
 use Rattle.fields.proofs.Calls.{refused-answer, done-answer, done-own, done-fits, after-written}
+use Rattle.fields.proofs.Faults.{faults-append, faults-more}
 use Rattle.pieces.specs.Record.{kindIn, isForward, fields, directionIn, isPossible, headerNow, attributeNow, countFault}
 use Rattle.pieces.specs.Fixed.{unset, fixed, fixedCall}
 use Rattle.pieces.specs.Header.{headerCall, codedCall, spelledCall}
@@ -29,7 +30,7 @@ use Rattle.pieces.proofs.Possible.{header-possible, attribute-possible, begun-p
 use Rattle.messages.specs.Message.{Text, Name, coded, spelled, Header, Value, string, integer, pair, Attribute}
 use Rattle.messages.specs.Bytes.{fieldsBy, headerFields, headersBytes, fieldsOf, attributeFields, attributesBytes}
 use Rattle.messages.specs.Writing.{Built, stopped, built, builtBy, piece, headerCallBy, addHeader, addHeaders, attributeCallBy, addAttribute, addAttributes}
-use Rattle.messages.proofs.Fine.{FieldsFine, HeadersFine, AttributesFine, faults-append, faults-more}
+use Rattle.messages.proofs.Fine.{FieldsFine, HeadersFine, AttributesFine}
 
 -- fields, with a fault that is looked for before them and one that is looked for behind them
 module _ (first last : ℕ) (own : List Field) where

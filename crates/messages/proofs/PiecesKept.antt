@@ -21,6 +21,7 @@ use Rattle.wire.specs.declared.read.BooleanRead.{BooleanRead}
 use Rattle.wire.specs.declared.read.StringRead.{StringRead}
 use Rattle.wire.proofs.Field.{BooleanInside, boolean-inside}
 use Rattle.wire.proofs.RoundTrip.{Bytes, boolean-kept}
+use Rattle.wire.proofs.Parts.{rest-part, same-front, same-rest}
 use Rattle.names.specs.Length.{declaredLength}
 use Rattle.names.specs.declared.length.Declared.{Declared}
 use Rattle.connection.specs.Cycle.{directionOf}
@@ -43,6 +44,7 @@ use Rattle.payload.specs.declared.packet.Packet.{Packet}
 use Rattle.payload.specs.declared.packet.PacketRead.{PacketRead}
 use Rattle.fields.specs.Fault.{rangeFault}
 use Rattle.fields.specs.Field.{Field, plain, byteWithin, integerWithin, bytesOf}
+use Rattle.fields.proofs.Faults.{range-most}
 use Rattle.pieces.specs.Record.{kindIn}
 use Rattle.pieces.specs.declared.BuildingKind.{BuildingKind}
 use Rattle.reader.specs.Meaning.{told}
@@ -51,8 +53,7 @@ use Rattle.closing.specs.Closing.{lastBytes}
 use Rattle.messages.specs.Message.{Header, Attribute, Request, Response, Message, forward, sendHeaders, wayOf, Fit}
 use Rattle.messages.specs.Bytes.{attributesBytes, requestFields, responseFields, piecesPayload, payloadOf, messageBytes}
 use Rattle.messages.specs.Shown.{textShown, headersShown, attributesShown, shownBy}
-use Rattle.messages.proofs.Parts.{rest-part, same-front, same-rest}
-use Rattle.messages.proofs.Fine.{FieldsFine, HeadersFine, AttributesFine, range-most}
+use Rattle.messages.proofs.Fine.{FieldsFine, HeadersFine, AttributesFine}
 use Rattle.messages.proofs.Fixed.{boolean-back}
 use Rattle.messages.proofs.Parses.{Parses, coded-kept, finished-is}
 use Rattle.messages.proofs.Texts.{textField}

@@ -29,12 +29,13 @@ use Rattle.payload.specs.declared.packet.PacketRead.{PacketRead}
 use Rattle.payload.proofs.Parsed.{send-headers-places}
 use Rattle.fields.specs.Field.{opening, faultsOf, bytesOf}
 use Rattle.fields.proofs.Sizes.{boolean-one}
+use Rattle.fields.proofs.Faults.{faultless, range-most}
 use Rattle.reader.specs.Meaning.{told}
 use Rattle.reader.proofs.Handed.{forward-handed, head-handed}
 use Rattle.messages.specs.Message.{Request, Response, forward, sendHeaders, isNull, bytesIn, AttributesFit}
 use Rattle.messages.specs.Bytes.{headersBytes, attributesBytes, numbersOf, nullsOf, requestFields, responseFields, payloadOf, messageBytes}
 use Rattle.messages.specs.Shown.{headersShown, attributesShown, shownBy, messageShown}
-use Rattle.messages.proofs.Fine.{FieldsFine, HeadersFine, AttributesFine, faultless, range-most}
+use Rattle.messages.proofs.Fine.{FieldsFine, HeadersFine, AttributesFine}
 use Rattle.messages.proofs.Judged.{among}
 use Rattle.messages.proofs.Fixed.{Ahead, ahead-next, forward-read, send-headers-read, reached, boolean-back}
 use Rattle.messages.proofs.Parses.{finished-is}

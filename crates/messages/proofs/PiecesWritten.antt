@@ -13,6 +13,7 @@ use Rattle.wire.specs.Packet.{leading, head, packet}
 use Rattle.wire.specs.declared.Direction.{Direction}
 use Rattle.wire.proofs.Bytes.{length-over, over-over, over-there}
 use Rattle.wire.proofs.Field.{length-leading, head-four}
+use Rattle.wire.proofs.Parts.{over-inside}
 use Rattle.connection.specs.Cycle.{directionOf, inState}
 use Rattle.connection.specs.declared.Connection.{Connection}
 use Rattle.payload.specs.Code.{codeOf}
@@ -31,7 +32,6 @@ use Rattle.closing.proofs.Laws.{Ready, CloseDone, close-done, done-close}
 use Rattle.messages.specs.Message.{Header, Attribute, Request, Response, forward, sendHeaders}
 use Rattle.messages.specs.Bytes.{headersBytes, attributesBytes, requestFields, responseFields, piecesPayload, messageBytes}
 use Rattle.messages.specs.Writing.{Built, piece, addHeaders, addAttributes, Wrote, wrote, wroteBy, closeBuilt, inPieces, writing}
-use Rattle.messages.proofs.Parts.{over-inside}
 use Rattle.messages.proofs.Fine.{FieldsFine, HeadersFine, AttributesFine}
 use Rattle.messages.proofs.Fixed.{opening-five}
 use Rattle.messages.proofs.RoundTrip.{unwritten-never, wrote-done}

@@ -11,6 +11,7 @@ use lib.Seq.{take-append-seam}
 use Rattle.wire.specs.Bytes.{part, over}
 use Rattle.wire.specs.declared.Direction.{Direction}
 use Rattle.wire.proofs.RoundTrip.{Bytes}
+use Rattle.wire.proofs.Parts.{bytes-part}
 use Rattle.connection.specs.Cycle.{directionOf, allowed, after}
 use Rattle.connection.specs.declared.Connection.{Connection}
 use Rattle.payload.specs.Kinds.{kindIn, moveIn}
@@ -23,7 +24,6 @@ use Rattle.reader.proofs.Acceptance.{accepted-is}
 use Rattle.messages.specs.Message.{Message, wayOf, placesFor, Fit}
 use Rattle.messages.specs.Writing.{unwritten, wrote, wroteBy, writing}
 use Rattle.messages.specs.Shown.{messageShown}
-use Rattle.messages.proofs.Parts.{bytes-part}
 use Rattle.messages.proofs.Parses.{Parses, parses-accepted, accepted-parses}
 use Rattle.messages.proofs.Tables.{tableOf, table-filled}
 

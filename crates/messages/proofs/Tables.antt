@@ -8,6 +8,7 @@ use Prim.Native.Nat.{ℕ, _*_}
 use lib.ListN.{length, length-append}
 use Rattle.wire.specs.Bytes.{part, over}
 use Rattle.wire.specs.declared.Direction.{Direction}
+use Rattle.wire.proofs.Parts.{over-first, over-second}
 use Rattle.connection.specs.declared.Connection.{Connection}
 use Rattle.connection.specs.declared.Kind.{Kind}
 use Rattle.payload.specs.Forward.{forwardAt}
@@ -23,7 +24,6 @@ use Rattle.reader.specs.Reading.{reading, tableAfter}
 use Rattle.reader.proofs.Acceptance.{accepted-is, accepted-fills}
 use Rattle.reader.proofs.Handed.{forward-handed}
 use Rattle.messages.specs.Shown.{headerPlaces, attributePlaces}
-use Rattle.messages.proofs.Parts.{over-first, over-second}
 
 -- the table with a packet's places
 abbrev pub tableOf : Packet → List ℕ → List ℕ → List ℕ

@@ -11,6 +11,7 @@ use Rattle.wire.specs.Pick.{pick}
 use Rattle.wire.specs.Bytes.{part}
 use Rattle.wire.specs.declared.Direction.{Direction}
 use Rattle.wire.proofs.Bytes.{part-middle}
+use Rattle.wire.proofs.Parts.{rest-part}
 use Rattle.connection.specs.Cycle.{directionOf}
 use Rattle.places.specs.Entries.{maxPlaces}
 use Rattle.payload.specs.Body.{bodyStart, bodyAt}
@@ -22,7 +23,6 @@ use Rattle.payload.proofs.Laws.{body-inside}
 use Rattle.payload.proofs.Parsed.{move-kind}
 use Rattle.reader.specs.Meaning.{told}
 use Rattle.reader.proofs.Shown.{bytes-lent}
-use Rattle.messages.proofs.Parts.{rest-part}
 use Rattle.messages.proofs.Parses.{isBody, Parses, parses-accepted, parses-places}
 use Rattle.messages.proofs.OneCall.{BodyRead, empty, sized, body-read}
 use Rattle.pipes.specs.Past.{bodyPart, Request, gets, countKind}

@@ -8,3 +8,4 @@ pub mod Inside
 pub mod Shown
 pub mod Handed
 pub mod StarredSet
+pub mod Aside

@@ -3,3 +3,4 @@ pub mod Scan
 pub mod Bytes
 pub mod Field
 pub mod RoundTrip
+pub mod Parts
