@@ -1,5 +1,4 @@
--- Fields without fault, header by header and attribute by attribute: what every piece asks of its own. Where no fault is found in a list, none
--- of the list is one, since the first would have been found.
+-- Fields without fault, header by header and attribute by attribute: what every piece asks of its own.
 -- Assumes nothing.
 use mathlib.Core.Path.{_≡_}
 use mathlib.Core.List.{List, [], _∷_}
