@@ -10,7 +10,7 @@ use native.Mathlib.Numerals.{add-one}
 use borrow.Author.Tests.{le-leb, lt-leb, leb-true, leb-false, not-true, not-false}
 use lib.Dec.{leb}
 use lib.ListN.{length, take, drop, set, getD, length-set, length-append, length-drop, take-append-drop, drop-of-length-le}
-use lib.Seq.{set-split, take-at, take-all, drop-at, drop-cons, drop-drop, drop-append-add, length-take-le, take-suc, take-add, take-nil}
+use lib.Seq.{set-split, take-at, take-all, drop-at, drop-cons, drop-drop, drop-append-add, length-take-le, take-suc, take-suc-set, take-add, take-nil, getD-take}
 use Rattle.wire.specs.Pick.{pick}
 use Rattle.wire.specs.Bytes.{part, over, put}
 
@@ -121,6 +121,14 @@ over-more l at s j h k =
     over-set (over l at (take j s)) (at + j) (getD s j 0) m
     ∙ over-over l at (at + j) (take j s) (getD s j 0 ∷ []) (omega arith) f
     ∙ ap (over l at) (rw (add-one, take-suc s j 0 h))
+
+-- a list whose first j elements are another's, and the store that makes it one more
+pub front-more : (l s : List ℕ) (j : ℕ) → j < length l → j < length s → take j l ≡ take j s → take (j + 1) (set l j (getD s j 0)) ≡ take (j + 1) s
+front-more l s j h k e = rw (add-one, take-suc-set l j (getD s j 0) h, take-suc s j 0 k, e)
+
+-- an element of a list that stands at another's front
+pub front-element : (l s : List ℕ) (j : ℕ) → j < length s → take (length s) l ≡ s → getD l j 0 ≡ getD s j 0
+front-element l s j h e = sym (getD-take (length s) l j 0 h) ∙ ap (λ (t : List ℕ). getD t j 0) e
 
 -- two stores side by side
 pub over-two : (l : List ℕ) (i a b : ℕ) → i + 2 ≤ length l → set (set l i a) (i + 1) b ≡ over l i (a ∷ b ∷ [])

@@ -4,3 +4,4 @@ pub mod Bytes
 pub mod Field
 pub mod RoundTrip
 pub mod Parts
+pub mod Blocks

@@ -1,8 +1,9 @@
 // The fields of a packet, over lent bytes: `read` and `write`. An inner crate: the layers above call it, a user of the library does not.
 // A packet is a slice of its own bytes and no others; a place is an index into it. Every call answers for any place.
 ghost use mathlib.Core.Path.{_≡_};
-ghost use Prim.Native.Nat.{_+_};
+ghost use Prim.Native.Nat.{_+_, _≤_, _<_};
 ghost use lib.Dec.{leb};
+ghost use lib.ListN.{length};
 ghost use Rattle.wire.specs.Bytes.{part};
 ghost use Rattle.wire.specs.Field.{isOptional, lacks, barred, holdsBarred, stringAllowed};
 ghost use Rattle.wire.specs.Packet.{leading};
@@ -33,6 +34,13 @@ pub enum StringField {
 
 // The length that says null.
 pub const NULL_LENGTH: u16 = 65535;
+
+// How many bytes of a text are judged at once: those of a vector register, a half of them and a quarter.
+const BLOCK: usize = 16;
+
+const HALF_BLOCK: usize = 8;
+
+const QUARTER_BLOCK: usize = 4;
 
 // The leading bytes of a packet of a direction.
 pub fn leading_bytes(direction: Direction) -> [u8; 2]
@@ -101,17 +109,63 @@ fn is_barred(b: u8) -> bool
     b == 0
 }
 
-// Whether a text holds a byte that no string may hold. The loop has no early way out, so that it becomes vector instructions.
-pub fn holds_barred(text: &[u8]) -> bool
-    ensures { λ r. ⌜ r ≡ holdsBarred (now (text .entry)) ⌝ }
+// Whether `count` bytes from a place on hold a barred one. There is no early way out: for a constant count the loop becomes one comparison.
+fn part_holds_barred(text: &[u8], at: usize, count: usize) -> bool
+    requires { ⌜ at + count ≤ length (now text) ⌝ }
+    ensures { λ r. ⌜ r ≡ holdsBarred (part (now (text .entry)) at count) ⌝ }
 {
     let mut found = false;
     let mut i = 0;
-    while i < text.len() {
-        found = found | is_barred(text[i]);
+    while i < count {
+        found = found | is_barred(text[at + i]);
         i += 1;
     }
     found
+}
+
+// `holds_barred` for a text of one to two blocks of `count` bytes: the first and the last block, which may overlap.
+fn ends_hold_barred(text: &[u8], count: usize) -> bool
+    requires { ⌜ count ≤ length (now text) ⌝ }
+    requires { ⌜ length (now text) ≤ count + count ⌝ }
+    ensures { λ r. ⌜ r ≡ holdsBarred (now (text .entry)) ⌝ }
+{
+    let last = text.len() - count;
+    part_holds_barred(text, 0, count) | part_holds_barred(text, last, count)
+}
+
+// `holds_barred` for a text of one block of `count` bytes or more: block after block, then the last one, which may overlap the one before it.
+// The early way out is behind a whole block, so that the bytes of a block are judged together.
+fn blocks_hold_barred(text: &[u8], count: usize) -> bool
+    requires { ⌜ 0 < count ⌝ }
+    requires { ⌜ count ≤ length (now text) ⌝ }
+    ensures { λ r. ⌜ r ≡ holdsBarred (now (text .entry)) ⌝ }
+{
+    let last = text.len() - count;
+    let mut i = 0;
+    while i < last {
+        if part_holds_barred(text, i, count) {
+            return true;
+        }
+        i += count;
+    }
+    part_holds_barred(text, last, count)
+}
+
+// Whether a text holds a byte that no string may hold. Only a text that is shorter than the least block is judged byte by byte.
+pub fn holds_barred(text: &[u8]) -> bool
+    ensures { λ r. ⌜ r ≡ holdsBarred (now (text .entry)) ⌝ }
+{
+    let n = text.len();
+    if BLOCK <= n {
+        return blocks_hold_barred(text, BLOCK);
+    }
+    if HALF_BLOCK <= n {
+        return ends_hold_barred(text, HALF_BLOCK);
+    }
+    if QUARTER_BLOCK <= n {
+        return ends_hold_barred(text, QUARTER_BLOCK);
+    }
+    part_holds_barred(text, 0, n)
 }
 
 // Whether a string may stand in a field, judged for building as reading judges it.

@@ -10,8 +10,11 @@ use crate::NULL_LENGTH;
 use crate::has_room;
 use crate::leading_bytes;
 
-// Copies bytes into the buffer from a place on.
-pub fn bytes(buffer: &mut [u8], at: usize, from: &[u8])
+// The most bytes that are copied at once: no packet has more.
+const MAX_AT_ONCE: usize = 8192;
+
+// `bytes` for any number of them, one after the other.
+fn bytes_one_by_one(buffer: &mut [u8], at: usize, from: &[u8])
     ensures { λ _. ⌜ now (buffer .exit) ≡ put (now (buffer .entry)) at (now (from .entry)) ⌝ }
 {
     if has_room(buffer.len(), at, from.len()) {
@@ -19,6 +22,31 @@ pub fn bytes(buffer: &mut [u8], at: usize, from: &[u8])
         while i < from.len() {
             buffer[at + i] = from[i];
             i += 1;
+        }
+    }
+}
+
+// Copies bytes into the buffer from a place on. They go through a local array, since the compiler does not know that the two slices never overlap
+// and copies straight from one to the other byte by byte. The two loops here, in one function, become one memmove, and the array takes no room.
+pub fn bytes(buffer: &mut [u8], at: usize, from: &[u8])
+    ensures { λ _. ⌜ now (buffer .exit) ≡ put (now (buffer .entry)) at (now (from .entry)) ⌝ }
+{
+    let n = from.len();
+    if MAX_AT_ONCE < n {
+        bytes_one_by_one(buffer, at, from);
+        return;
+    }
+    if has_room(buffer.len(), at, n) {
+        let mut copy = [0u8; MAX_AT_ONCE];
+        let mut i = 0;
+        while i < n {
+            copy[i] = from[i];
+            i += 1;
+        }
+        let mut j = 0;
+        while j < n {
+            buffer[at + j] = copy[j];
+            j += 1;
         }
     }
 }

@@ -1,58 +1,48 @@
--- `wire::holds_barred` meets its contract. The invariant: what was found, or what is left, decides as the whole text does.
+-- `wire::holds_barred` meets its contract: each of the three sorts of texts is judged whole.
 -- Assumes nothing.
-use mathlib.Core.Path.{_≡_, refl}
+use mathlib.Core.Path.{_∙_}
 use borrow.Author.Needs.{needs}
-use Prim.Native.Nat.{_-_, _≤_}
-use lib.ListN.{length, drop}
-use Rattle.wire.specs.Pick.{either}
-use Rattle.wire.specs.Field.{barred, holdsBarred}
-use Rattle.wire.proofs.Scan.{any-step, any-end}
+use lib.ListN.{length}
+use Rattle.wire.specs.Field.{barred}
+use Rattle.wire.proofs.Blocks.{any-whole}
 use Rattle.wire.proofs.holds_barred.Statement.{statement}
 use Rattle.wire.proofs.holds_barred.Tie as tie
 
-abbrev Inv-loop : tie.InvT-loop
-Inv-loop text found₀ i₀ found i = (i ≤ length text) × (either found (holdsBarred (drop i text)) ≡ holdsBarred text)
+blocks-hold-barred-requires : tie.Need-blocks-hold-barred-requires
+blocks-hold-barred-requires c κs = search needs
 
-abbrev μ-loop : tie.MeasureT-loop
-μ-loop text found₀ i₀ found i = length text - i
+returns : tie.Need-returns
+returns c = search needs
 
-loop-holds : tie.Need-loop-holds Inv-loop μ-loop
-loop-holds c = (search needs, refl)
+ends-hold-barred-requires : tie.Need-ends-hold-barred-requires
+ends-hold-barred-requires c κs = search needs
 
-shared-slice-read-is-barred : tie.Need-shared-slice-read-is-barred Inv-loop μ-loop
-shared-slice-read-is-barred c = search needs
+returns-2 : tie.Need-returns-2
+returns-2 c = search needs
 
-is-barred-requires : tie.Need-is-barred-requires Inv-loop μ-loop
-is-barred-requires c κs = search needs
+ends-hold-barred-requires-2 : tie.Need-ends-hold-barred-requires-2
+ends-hold-barred-requires-2 c κs = search needs
 
-add-i : tie.Need-add-i Inv-loop μ-loop
-add-i c = search needs
+returns-3 : tie.Need-returns-3
+returns-3 c = search needs
 
-loop-less : tie.Need-loop-less Inv-loop μ-loop
-loop-less c = search needs
+part-holds-barred-requires : tie.Need-part-holds-barred-requires
+part-holds-barred-requires c κs = search needs
 
-loop-again : tie.Need-loop-again Inv-loop μ-loop
-loop-again c =
-    let at-loop = c .before .before .before in
-    let text = at-loop .before .before .args .text .now in
-    (search needs, any-step barred text (at-loop .loop .found) (at-loop .loop .i) _ (search needs) (c .is-barred .ensures) (at-loop .loop .inv .1))
-
-returns : tie.Need-returns Inv-loop μ-loop
-returns c =
-    let at-loop = c .before in
-    let text = at-loop .before .before .args .text .now in
-    any-end barred text (at-loop .loop .found) (at-loop .loop .i) (search needs) (search needs) (at-loop .loop .inv .1)
+returns-4 : tie.Need-returns-4
+returns-4 c =
+    let text = c .before .before .before .before .before .args .text .now in
+    c .part-holds-barred .ensures ∙ any-whole barred text (length text) (search needs)
 
 pub holds-barred-spec : {M : Type 1} → statement M
 holds-barred-spec =
     tie.close
     (tie.spec
-    Inv-loop
-    μ-loop
-    loop-holds
-    shared-slice-read-is-barred
-    is-barred-requires
-    add-i
-    loop-less
-    loop-again
-    returns)
+    blocks-hold-barred-requires
+    returns
+    ends-hold-barred-requires
+    returns-2
+    ends-hold-barred-requires-2
+    returns-3
+    part-holds-barred-requires
+    returns-4)

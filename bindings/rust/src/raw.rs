@@ -1,0 +1,227 @@
+//! The C calls, one safe function each, over arrays and slices of any length and any contents.
+//!
+//! The types of this crate are made of these. Use this module where a record comes from elsewhere, or where a call is
+//! to be given what those types rule out: an array of the wrong length, a word that cannot be, a null name. The C
+//! header `ajp13.h` says what each call does, writes and answers; the constants here have its names without `AJP13_`.
+//!
+//! Every function answers a number: [`DONE`], the number of a [`Refusal`](crate::Refusal), [`NEEDS`], or an error;
+//! [`integer_at`] and those below it answer the number that was asked for, or an error. With a refusal or an error
+//! nothing is written.
+//!
+//! ```
+//! use ajp13::raw;
+//!
+//! let mut connection = [7; raw::CONNECTION_WORDS];
+//! assert_eq!(raw::fresh(&mut connection), raw::DONE);
+//! assert_eq!(connection, [0; raw::CONNECTION_WORDS]);
+//!
+//! // Four words are no connection.
+//! assert_eq!(raw::fresh(&mut connection[..4]), raw::CONNECTION_LENGTH);
+//!
+//! // The table and the answer are lent.
+//! let mut table = [0; raw::MAX_PLACES];
+//! let mut answer = [0; raw::ANSWER_WORDS];
+//! let status = raw::read_at_container(&mut connection, b"\x12\x34\x00", &mut table, &mut answer);
+//! assert_eq!(status, raw::NEEDS);
+//! assert_eq!(answer[raw::BYTES], 4);
+//! ```
+
+pub use crate::ffi::{
+    attribute_code_at, attribute_integer, attribute_kind_at, attribute_name_at, attribute_pair,
+    attribute_text, begin_forward, begin_send_headers, body, body_chunk, close, code, cping, cpong,
+    end, fresh, get_body, header_code_at, header_coded, header_named, header_spelled, integer_at,
+    name, read_at_container, read_at_server, text_at,
+};
+
+// Statuses.
+
+/// Accepted, written or added.
+pub const DONE: u32 = 0;
+/// Reading: the packet is not whole yet; `answer[BYTES]` bytes are needed in all.
+pub const NEEDS: u32 = 0x10000;
+/// Error: the connection has not [`CONNECTION_WORDS`] words.
+pub const CONNECTION_LENGTH: u32 = 0x10001;
+/// Error: a word of the connection cannot be.
+pub const CONNECTION_WORD: u32 = 0x10002;
+/// Error: the building record has not [`BUILDING_WORDS`] words.
+pub const BUILDING_LENGTH: u32 = 0x10003;
+/// Error: a word of the building record cannot be.
+pub const BUILDING_WORD: u32 = 0x10004;
+/// Error: the fixed numbers of a Forward are not [`FIXED_WORDS`] words.
+pub const FIXED_LENGTH: u32 = 0x10005;
+/// Error: a word of the fixed numbers cannot be.
+pub const FIXED_WORD: u32 = 0x10006;
+/// Error: an array lent for the answer has not its length.
+pub const ANSWER_LENGTH: u32 = 0x10007;
+/// Error: a number argument above 65535, a flag above 1 or a list above 3.
+pub const ARGUMENT: u32 = 0x10008;
+
+// Sizes.
+
+/// Words of a connection.
+pub const CONNECTION_WORDS: usize = 5;
+/// Words of a building record.
+pub const BUILDING_WORDS: usize = 5;
+/// Words of an answer.
+pub const ANSWER_WORDS: usize = 13;
+/// Words of a text.
+pub const TEXT_WORDS: usize = 3;
+/// Words of a Forward's fixed numbers.
+pub const FIXED_WORDS: usize = 8;
+/// Bytes lent for a name.
+pub const NAME_BYTES: usize = 17;
+/// Bytes of the longest packet: a buffer of this length is never too short.
+pub const MAX_PACKET: usize = 8192;
+/// Places of a table: a table of this length is never too short.
+pub const MAX_PLACES: usize = 328;
+/// Most bytes of a body in one body packet.
+pub const MAX_BODY: usize = 8186;
+/// Most bytes of one body chunk.
+pub const MAX_CHUNK: usize = 8184;
+
+// Positions in a connection.
+
+/// The state: [`IDLE`] to [`CLOSED`].
+pub const STATE: usize = 0;
+/// Bytes of the request's body still to come.
+pub const LEFT: usize = 1;
+/// 1 where a body packet is due.
+pub const DUE: usize = 2;
+/// How many bytes were asked for, where a body packet is due.
+pub const ASKED: usize = 3;
+/// 1 once Send Headers went.
+pub const HEADERS_SENT: usize = 4;
+
+// States.
+
+/// No request is under way.
+pub const IDLE: u32 = 0;
+/// CPing went; CPong is awaited.
+pub const PINGED: u32 = 1;
+/// A request is under way.
+pub const BUSY: u32 = 2;
+/// The connection is not used again.
+pub const CLOSED: u32 = 3;
+
+// Positions in a building record.
+
+/// [`FORWARD`] or [`SEND_HEADERS`].
+pub const BUILDING_KIND: usize = 0;
+/// The place of the next piece.
+pub const NEXT: usize = 1;
+/// The place of the number of headers.
+pub const COUNT_PLACE: usize = 2;
+/// How many headers there are so far.
+pub const HEADERS_SO_FAR: usize = 3;
+/// 1 once there was an attribute.
+pub const ATTRIBUTES_BEGAN: usize = 4;
+
+// Positions in an answer.
+
+/// The kind of packet: [`CPING`] to [`END`]; 0 with [`NEEDS`].
+pub const KIND: usize = 0;
+/// The bytes taken, the bytes needed, or the length of the packet that was written.
+pub const BYTES: usize = 1;
+/// Forward: the method's code.
+pub const METHOD: usize = 2;
+/// Forward: the protocol's place.
+pub const PROTOCOL: usize = 3;
+/// Forward: the req_uri's place.
+pub const REQ_URI: usize = 4;
+/// Forward: the remote_addr's place.
+pub const REMOTE_ADDR: usize = 5;
+/// Forward: the remote_host's place.
+pub const REMOTE_HOST: usize = 6;
+/// Forward: the server_name's place.
+pub const SERVER_NAME: usize = 7;
+/// Forward: the server_port.
+pub const SERVER_PORT: usize = 8;
+/// Forward: is_ssl, 0 or 1.
+pub const IS_SSL: usize = 9;
+/// Forward and Send Headers: how many headers.
+pub const HEADERS: usize = 10;
+/// Forward: how many attributes.
+pub const ATTRIBUTES: usize = 11;
+/// Forward: the declared length of the body.
+pub const DECLARED: usize = 12;
+/// Send Headers: the status.
+pub const STATUS: usize = 2;
+/// Send Headers: the message's place.
+pub const MESSAGE: usize = 3;
+/// Body packet and chunk: where the bytes start in the packet.
+pub const START: usize = 2;
+/// Body packet and chunk: how many bytes there are.
+pub const LEN: usize = 3;
+/// Get Body Chunk: how many bytes are asked for.
+pub const ASKED_FOR: usize = 2;
+/// End Response: reuse, 0 or 1.
+pub const REUSE: usize = 2;
+
+// Kinds of packets.
+
+/// CPing.
+pub const CPING: u32 = 1;
+/// CPong.
+pub const CPONG: u32 = 2;
+/// Forward Request.
+pub const FORWARD: u32 = 3;
+/// Body packet.
+pub const BODY: u32 = 4;
+/// Get Body Chunk.
+pub const GET_BODY: u32 = 5;
+/// Send Headers.
+pub const SEND_HEADERS: u32 = 6;
+/// Send Body Chunk.
+pub const BODY_CHUNK: u32 = 7;
+/// End Response.
+pub const END: u32 = 8;
+
+// Positions in a text.
+
+/// Where the string's bytes start in the packet.
+pub const TEXT_START: usize = 0;
+/// How many bytes it has.
+pub const TEXT_LENGTH: usize = 1;
+/// 1 where the string is null.
+pub const TEXT_NULL: usize = 2;
+
+// Positions in the fixed numbers of a Forward.
+
+/// The method's code.
+pub const FIXED_METHOD: usize = 0;
+/// The server_port.
+pub const FIXED_PORT: usize = 1;
+/// is_ssl, 0 or 1.
+pub const FIXED_IS_SSL: usize = 2;
+/// 1 where the protocol is null.
+pub const FIXED_NO_PROTOCOL: usize = 3;
+/// 1 where the req_uri is null.
+pub const FIXED_NO_REQ_URI: usize = 4;
+/// 1 where the remote_addr is null.
+pub const FIXED_NO_REMOTE_ADDR: usize = 5;
+/// 1 where the remote_host is null.
+pub const FIXED_NO_REMOTE_HOST: usize = 6;
+/// 1 where the server_name is null.
+pub const FIXED_NO_SERVER_NAME: usize = 7;
+
+// Kinds of an attribute's value.
+
+/// No attribute that is served.
+pub const VALUE_NOT_SERVED: u32 = 0;
+/// A string.
+pub const VALUE_TEXT: u32 = 1;
+/// An integer.
+pub const VALUE_INTEGER: u32 = 2;
+/// A name and a string.
+pub const VALUE_PAIR: u32 = 3;
+
+// Lists of names.
+
+/// The methods.
+pub const LIST_METHODS: u32 = 0;
+/// The headers of requests.
+pub const LIST_REQUEST_HEADERS: u32 = 1;
+/// The headers of responses.
+pub const LIST_RESPONSE_HEADERS: u32 = 2;
+/// The attributes.
+pub const LIST_ATTRIBUTES: u32 = 3;

@@ -1,0 +1,348 @@
+//! The library and the plain implementation, compared on generated cases: every case is a call made
+//! at both, and the status and every element of every lent array afterwards have to be the same.
+//!
+//! The cases follow from a seed. The environment sets the seed (`AJP13_SEED`), how many cases there
+//! are (`AJP13_CASES`) and after how many seconds to stop (`AJP13_SECONDS`). Each test below has a
+//! share of them. `cargo test --release --test compare -- --nocapture` prints how often each status
+//! was seen.
+
+mod common {
+    pub mod by_plain;
+    pub mod calls;
+    pub mod damage;
+    pub mod packets;
+    pub mod pieces;
+    pub mod reading;
+    pub mod rng;
+    pub mod run;
+    pub mod sending;
+    pub mod settings;
+    pub mod strings;
+    pub mod views;
+    pub mod words;
+    pub mod wrong;
+}
+mod plain;
+
+use ajp13::raw::{
+    ANSWER_LENGTH, ARGUMENT, BUILDING_LENGTH, BUILDING_WORD, BUILDING_WORDS, BYTES,
+    CONNECTION_LENGTH, CONNECTION_WORD, DONE, FIXED_LENGTH, FIXED_WORD, MAX_PACKET, MAX_PLACES,
+    NEEDS, NEXT,
+};
+use common::calls::{Array, Call, Lent};
+use common::packets::{self, Kind};
+use common::pieces;
+use common::reading::{self, TO_CONTAINER, TO_SERVER};
+use common::rng::Rng;
+use common::run::{Run, NUMBER, ZERO};
+use common::sending;
+use common::strings;
+use common::views;
+use common::words;
+use common::wrong;
+
+/// The container's end reads Forward, CPing and body packets.
+#[test]
+fn reading_at_the_container() {
+    let mut run = Run::new("reading at the container", 24);
+    while let Some(mut rng) = run.next_round() {
+        let kind = rng.of(&TO_CONTAINER);
+        let (bytes, lent) = reading::reading(&mut rng, kind);
+        run.compare(&Call::ReadAtContainer(bytes), &lent);
+    }
+    run.finish(&[(
+        "read_at_container",
+        &[
+            DONE, NEEDS, 1, 2, 3, 4, 5, 6, 7, 8, 9, 10, 11, 12, 13, 14, 15,
+        ],
+    )]);
+}
+
+/// The server's end reads Send Headers, chunks, Get, End and CPong.
+#[test]
+fn reading_at_the_server() {
+    let mut run = Run::new("reading at the server", 16);
+    while let Some(mut rng) = run.next_round() {
+        let kind = rng.of(&TO_SERVER);
+        let (bytes, lent) = reading::reading(&mut rng, kind);
+        run.compare(&Call::ReadAtServer(bytes), &lent);
+    }
+    run.finish(&[(
+        "read_at_server",
+        &[DONE, NEEDS, 1, 2, 3, 4, 6, 7, 8, 11, 12, 13, 15],
+    )]);
+}
+
+/// A packet that is cut off at any place, first as it stands and then with a length that says so:
+/// the first needs more, the second ends inside a field.
+#[test]
+fn every_prefix() {
+    let mut run = Run::new("every prefix", 10);
+    while let Some(mut rng) = run.next_round() {
+        let at_container = rng.one_in(2);
+        let kind = if at_container {
+            rng.of(&TO_CONTAINER)
+        } else {
+            rng.of(&TO_SERVER)
+        };
+        let (packet, lent) = reading::packet_and_connection(&mut rng, kind);
+        if packet.bytes.len() > 300 {
+            continue;
+        }
+        for length in 0..=packet.bytes.len() {
+            let prefix = packet.bytes[..length].to_vec();
+            let mut whole = prefix.clone();
+            packets::set_length(&mut whole);
+            for bytes in [prefix, whole] {
+                let call = if at_container {
+                    Call::ReadAtContainer(bytes)
+                } else {
+                    Call::ReadAtServer(bytes)
+                };
+                run.compare(&call, &lent);
+            }
+        }
+    }
+    run.finish(&[
+        (
+            "read_at_container",
+            &[DONE, NEEDS, 3, 4, 5, 6, 7, 8, 9, 10, 11, 12, 13, 14, 15],
+        ),
+        (
+            "read_at_server",
+            &[DONE, NEEDS, 3, 4, 6, 7, 8, 11, 12, 13, 15],
+        ),
+    ]);
+}
+
+/// The six packets that one call writes.
+#[test]
+fn sending_in_one_call() {
+    let mut run = Run::new("sending in one call", 12);
+    while let Some(mut rng) = run.next_round() {
+        let (call, lent) = sending::one_call(&mut rng);
+        run.compare(&call, &lent);
+    }
+    run.finish(&[
+        ("cping", &[DONE, 13, 15]),
+        ("cpong", &[DONE, 13, 15]),
+        ("body", &[DONE, 13, 14, 15]),
+        ("body_chunk", &[DONE, 2, 13, 15]),
+        ("get_body", &[DONE, 13, 15]),
+        ("end", &[DONE, 13, 15]),
+    ]);
+}
+
+/// A piece of any kind with any building record over any buffer.
+#[test]
+fn single_pieces() {
+    let mut run = Run::new("single pieces", 14);
+    while let Some(mut rng) = run.next_round() {
+        let (call, lent) = pieces::single_piece(&mut rng);
+        run.compare(&call, &lent);
+    }
+    run.finish(&[
+        ("begin_forward", &[DONE, 2, 6, 7, 15]),
+        ("begin_send_headers", &[DONE, 2, 6, 7, 15]),
+        ("header_coded", &[DONE, 2, 6, 8, 10, 11, 15, 16]),
+        ("header_spelled", &[DONE, 2, 6, 8, 10, 11, 15, 16]),
+        ("header_named", &[DONE, 2, 6, 8, 10, 11, 15, 16]),
+        ("attribute_text", &[DONE, 2, 6, 9, 15, 16]),
+        ("attribute_integer", &[DONE, 2, 9, 15, 16]),
+        ("attribute_pair", &[DONE, 2, 6, 9, 15, 16]),
+    ]);
+}
+
+/// A packet piece by piece and its closing, each call with what the one before it left; then the
+/// other end reads what was closed.
+#[test]
+fn whole_packets_in_pieces() {
+    let mut run = Run::new("whole packets in pieces", 10);
+    while let Some(mut rng) = run.next_round() {
+        in_pieces(&mut run, &mut rng);
+    }
+    run.finish(&[
+        ("begin_forward", &[DONE, 2, 6, 7, 15]),
+        ("begin_send_headers", &[DONE, 2, 6, 7, 15]),
+        ("header_coded", &[DONE, 2, 6, 8, 10, 11, 15, 16]),
+        ("header_spelled", &[DONE, 2, 6, 8, 10, 11, 15, 16]),
+        ("header_named", &[DONE, 2, 6, 8, 10, 11, 15, 16]),
+        ("attribute_text", &[DONE, 2, 6, 9, 15, 16]),
+        ("attribute_integer", &[DONE, 2, 9, 15, 16]),
+        ("attribute_pair", &[DONE, 2, 6, 9, 15, 16]),
+        ("close", &[DONE, 2, 9, 10, 11, 13, 15]),
+        ("read_at_container", &[DONE]),
+        ("read_at_server", &[DONE]),
+    ]);
+}
+
+/// Builds a packet in pieces, closes it, and lets the other end read it.
+fn in_pieces(run: &mut Run, rng: &mut Rng) {
+    let kind = rng.of(&[Kind::Forward, Kind::SendHeaders]);
+    let connection = words::connection_mostly_for(rng, kind);
+    // A few pieces mostly; at times more headers or attributes than are allowed, short ones.
+    let many = rng.one_in(50);
+    let (headers, attributes) = match kind {
+        Kind::Forward if many && rng.one_in(2) => (0, rng.between(60, 80)),
+        _ if many => (rng.between(95, 125), 0),
+        _ => (rng.below(6), rng.below(5)),
+    };
+    let length = match rng.below(6) {
+        _ if many => MAX_PACKET,
+        0 => rng.length(),
+        1 => rng.below(200),
+        2 => MAX_PACKET + 8,
+        3 => MAX_PACKET,
+        _ => 600,
+    };
+    let mut lent = Lent {
+        connection: Array::holding(&connection),
+        building: words::words(rng, BUILDING_WORDS),
+        buffer: words::buffer(rng, length),
+        answer: words::answer(rng),
+        ..Lent::default()
+    };
+    let begin = match kind {
+        Kind::Forward => pieces::begin_forward(rng),
+        _ => pieces::begin_send_headers(rng),
+    };
+    let (status, after) = run.compare(&begin, &lent);
+    if status != DONE {
+        return;
+    }
+    lent = after;
+
+    for index in 0..headers + attributes {
+        let is_header = index < headers;
+        let mut piece = match kind {
+            _ if many && !rng.one_in(8) => pieces::short_piece(is_header),
+            // At times a header after an attribute, and an attribute on Send Headers.
+            _ if is_header || rng.one_in(40) => pieces::header(rng, kind),
+            Kind::SendHeaders if !rng.one_in(12) => continue,
+            _ => pieces::attribute(rng),
+        };
+        // At times a value that fills the packet to the brim, or just not.
+        if rng.one_in(40) && length >= MAX_PACKET && !many {
+            let room = MAX_PACKET - lent.building.get()[NEXT] as usize;
+            let room = (room + rng.below(3)).saturating_sub(1 + 2 + 3);
+            piece = pieces::long_piece(kind, strings::text_of(rng, room));
+        }
+        lent = run.compare(&piece, &lent).1;
+    }
+
+    let (status, after) = run.compare(&Call::Close, &lent);
+    if status != DONE {
+        return;
+    }
+    // The other end's connection is the one that the sender's was, and accepts it.
+    let length = after.answer.get()[BYTES] as usize;
+    let mut bytes = after.buffer.get()[..length].to_vec();
+    if rng.one_in(2) {
+        bytes.extend(rng.bytes(9));
+    }
+    let read = match kind {
+        Kind::Forward => Call::ReadAtContainer(bytes),
+        _ => Call::ReadAtServer(bytes),
+    };
+    lent.table = words::table(rng, MAX_PLACES);
+    let (status, read) = run.compare(&read, &lent);
+    assert_eq!(status, DONE);
+    assert_eq!(read.answer.get()[BYTES] as usize, length);
+    assert!(read.connection == after.connection);
+}
+
+/// Closing what is in a buffer: right, with a fault, damaged, or with another building record.
+#[test]
+fn closing() {
+    let mut run = Run::new("closing", 7);
+    while let Some(mut rng) = run.next_round() {
+        let lent = pieces::to_close(&mut rng);
+        run.compare(&Call::Close, &lent);
+    }
+    run.finish(&[(
+        "close",
+        &[DONE, 1, 2, 3, 4, 6, 7, 8, 9, 10, 11, 12, 13, 15, 16],
+    )]);
+}
+
+/// Arrays of a wrong length and words that cannot be: the error that is looked for first is told,
+/// and nothing is written.
+#[test]
+fn wrong_arrays_and_words() {
+    let mut run = Run::new("wrong arrays and words", 4);
+    while let Some(mut rng) = run.next_round() {
+        let (mut call, mut lent) = wrong::any_call(&mut rng);
+        wrong::spoil(&mut rng, &mut call, &mut lent);
+        run.compare(&call, &lent);
+    }
+    let of_connection: &[u32] = &[CONNECTION_LENGTH, CONNECTION_WORD, ANSWER_LENGTH];
+    let with_argument: &[u32] = &[CONNECTION_LENGTH, CONNECTION_WORD, ANSWER_LENGTH, ARGUMENT];
+    let of_building: &[u32] = &[BUILDING_LENGTH, BUILDING_WORD, ARGUMENT];
+    let of_both: &[u32] = &[
+        CONNECTION_LENGTH,
+        CONNECTION_WORD,
+        BUILDING_LENGTH,
+        BUILDING_WORD,
+        ANSWER_LENGTH,
+    ];
+    run.finish_errors(&[
+        ("fresh", &[CONNECTION_LENGTH]),
+        ("read_at_container", of_connection),
+        ("read_at_server", of_connection),
+        ("cping", of_connection),
+        ("cpong", of_connection),
+        ("body", of_connection),
+        ("body_chunk", of_connection),
+        ("get_body", with_argument),
+        ("end", with_argument),
+        (
+            "begin_forward",
+            &[BUILDING_LENGTH, FIXED_LENGTH, FIXED_WORD],
+        ),
+        ("begin_send_headers", &[BUILDING_LENGTH, ARGUMENT]),
+        ("header_coded", of_building),
+        ("header_spelled", of_building),
+        ("header_named", of_building),
+        ("attribute_text", of_building),
+        ("attribute_integer", of_building),
+        ("attribute_pair", of_building),
+        ("close", of_both),
+        ("text_at", &[ANSWER_LENGTH, ARGUMENT]),
+        ("attribute_name_at", &[ANSWER_LENGTH, ARGUMENT]),
+        ("integer_at", &[ARGUMENT]),
+        ("header_code_at", &[ARGUMENT]),
+        ("attribute_code_at", &[ARGUMENT]),
+        ("attribute_kind_at", &[ARGUMENT]),
+        ("name", &[ANSWER_LENGTH, ARGUMENT]),
+        ("code", &[ARGUMENT]),
+    ]);
+}
+
+/// Views at any place of any bytes.
+#[test]
+fn views() {
+    let mut run = Run::new("views", 2);
+    while let Some(mut rng) = run.next_round() {
+        let (call, lent) = views::view(&mut rng);
+        run.compare(&call, &lent);
+    }
+    run.finish(&[
+        ("text_at", &[DONE]),
+        ("attribute_name_at", &[DONE]),
+        ("integer_at", &[ZERO, NUMBER]),
+        ("header_code_at", &[ZERO, NUMBER]),
+        ("attribute_code_at", &[ZERO, NUMBER]),
+        ("attribute_kind_at", &[ZERO, NUMBER]),
+    ]);
+}
+
+/// Names by codes and codes by names.
+#[test]
+fn names() {
+    let mut run = Run::new("names", 1);
+    while let Some(mut rng) = run.next_round() {
+        let (call, lent) = views::name_or_code(&mut rng);
+        run.compare(&call, &lent);
+    }
+    run.finish(&[("name", &[ZERO, NUMBER]), ("code", &[ZERO, NUMBER])]);
+}

@@ -1,0 +1,594 @@
+//! Two ends of a connection and the two pipes between them, over the library alone: millions of
+//! random events, and after each of them what has to hold of the ends and the pipes.
+//!
+//! An event is one of the eight sends, with arguments that are often right and often not, or a
+//! delivery of the first packet of a pipe, alone or with those behind it. The environment sets the
+//! seed (`AJP13_SEED`), how many events there are (`AJP13_EVENTS`) and after how many seconds to
+//! stop (`AJP13_SECONDS`).
+
+mod common {
+    pub mod rng;
+    pub mod settings;
+}
+
+use ajp13::raw;
+use common::rng::Rng;
+use common::settings;
+use std::collections::VecDeque;
+use std::time::Instant;
+
+/// How many events there are where `AJP13_EVENTS` sets no other number.
+const EVENTS: u64 = 5_000_000;
+
+/// The words of a connection.
+type Connection = [u32; raw::CONNECTION_WORDS];
+
+/// The words of a building record.
+type Building = [u32; raw::BUILDING_WORDS];
+
+/// The eight sends, by the kind of their packet; the server's first.
+#[derive(Clone, Copy, Debug, PartialEq, Eq)]
+enum Kind {
+    CPing,
+    Body,
+    Forward,
+    CPong,
+    BodyChunk,
+    GetBody,
+    End,
+    SendHeaders,
+}
+
+const KINDS: [Kind; 8] = [
+    Kind::CPing,
+    Kind::Body,
+    Kind::Forward,
+    Kind::CPong,
+    Kind::BodyChunk,
+    Kind::GetBody,
+    Kind::End,
+    Kind::SendHeaders,
+];
+
+impl Kind {
+    /// Whether it is the server's end that sends.
+    fn is_from_server(self) -> bool {
+        matches!(self, Kind::CPing | Kind::Body | Kind::Forward)
+    }
+
+    /// The kind's number.
+    fn number(self) -> u32 {
+        match self {
+            Kind::CPing => raw::CPING,
+            Kind::Body => raw::BODY,
+            Kind::Forward => raw::FORWARD,
+            Kind::CPong => raw::CPONG,
+            Kind::BodyChunk => raw::BODY_CHUNK,
+            Kind::GetBody => raw::GET_BODY,
+            Kind::End => raw::END,
+            Kind::SendHeaders => raw::SEND_HEADERS,
+        }
+    }
+
+    /// Whether the cycle allows it at an end with this connection.
+    fn is_allowed(self, connection: &Connection) -> bool {
+        let busy = connection[raw::STATE] == raw::BUSY;
+        let due = connection[raw::DUE] == 1;
+        let headers_sent = connection[raw::HEADERS_SENT] == 1;
+        match self {
+            Kind::CPing | Kind::Forward => connection[raw::STATE] == raw::IDLE,
+            Kind::CPong => connection[raw::STATE] == raw::PINGED,
+            Kind::Body => busy && due,
+            Kind::GetBody => busy && !due,
+            Kind::SendHeaders => busy && !headers_sent,
+            Kind::BodyChunk => busy && headers_sent,
+            Kind::End => busy && headers_sent && !due,
+        }
+    }
+}
+
+/// A packet on its way.
+struct Packet {
+    kind: u32,
+    bytes: Vec<u8>,
+}
+
+impl Packet {
+    /// The bytes of the body that a body packet holds; none in the others.
+    fn body(&self) -> &[u8] {
+        match self.kind {
+            raw::BODY => self.bytes.get(6..).unwrap_or_default(),
+            _ => &[],
+        }
+    }
+}
+
+/// What happened in a run.
+#[derive(Default)]
+struct Counts {
+    events: u64,
+    /// Sends that were written and sends that were refused, in the order of `KINDS`.
+    written: [u64; 8],
+    refused: [u64; 8],
+    /// Sends refused by each number.
+    refusals: [u64; 17],
+    delivered_to_container: u64,
+    delivered_to_server: u64,
+    delivered_with_others: u64,
+    nothing_to_deliver: u64,
+    requests: u64,
+    body_bytes: u64,
+    whole_bodies: u64,
+    closed: u64,
+    both_pipes_empty: u64,
+    server_idle: u64,
+}
+
+/// Both ends, the pipes between them, and what was sent and received.
+struct TwoEnds {
+    rng: Rng,
+    server: Connection,
+    container: Connection,
+    to_container: VecDeque<Packet>,
+    to_server: VecDeque<Packet>,
+    /// Body bytes that were given to body calls and are not received yet.
+    unread: VecDeque<u8>,
+    /// What the request that was last received declared, and how much of it came.
+    declared: u64,
+    got: u64,
+    /// What each Forward in the pipe declares.
+    forwarded: VecDeque<u32>,
+    buffer: Vec<u8>,
+    before: Vec<u8>,
+    counts: Counts,
+}
+
+#[test]
+fn two_ends_and_their_pipes() {
+    let seed = settings::seed();
+    let limit = settings::events(EVENTS);
+    let deadline = settings::deadline(100);
+    println!("two ends: AJP13_SEED={seed}");
+    let begun = Instant::now();
+    let mut ends = TwoEnds::new(Rng::new(seed));
+    while ends.counts.events < limit && deadline.is_none_or(|end| Instant::now() < end) {
+        ends.event();
+        ends.check();
+    }
+    ends.counts.print(begun.elapsed().as_secs_f64());
+    ends.counts.check();
+}
+
+/// A building record of a packet of which nothing is built: closing refuses it.
+fn not_begun(kind: u32) -> Building {
+    let mut building = [0; raw::BUILDING_WORDS];
+    building[raw::BUILDING_KIND] = kind;
+    building
+}
+
+/// Fresh words of a connection.
+fn fresh() -> Connection {
+    let mut connection = [0; raw::CONNECTION_WORDS];
+    assert_eq!(raw::fresh(&mut connection), raw::DONE);
+    connection
+}
+
+impl TwoEnds {
+    /// Two fresh ends and empty pipes.
+    fn new(rng: Rng) -> TwoEnds {
+        TwoEnds {
+            rng,
+            server: fresh(),
+            container: fresh(),
+            to_container: VecDeque::new(),
+            to_server: VecDeque::new(),
+            unread: VecDeque::new(),
+            declared: 0,
+            got: 0,
+            forwarded: VecDeque::new(),
+            buffer: Vec::new(),
+            before: Vec::new(),
+            counts: Counts::default(),
+        }
+    }
+
+    /// Lets one event happen.
+    fn event(&mut self) {
+        self.counts.events += 1;
+        match self.rng.below(100) {
+            // A delivery, mostly where there is something.
+            0..=44 => {
+                let at_container = match (self.to_container.is_empty(), self.to_server.is_empty()) {
+                    (false, true) => !self.rng.one_in(10),
+                    (true, false) => self.rng.one_in(10),
+                    _ => self.rng.one_in(2),
+                };
+                if at_container {
+                    self.deliver_to_container();
+                } else {
+                    self.deliver_to_server();
+                }
+            }
+            // A send that the cycle allows, where there is one; at times any send.
+            _ => {
+                let mut allowed = KINDS.to_vec();
+                allowed.retain(|kind| kind.is_allowed(self.sender(*kind)));
+                let kind = if allowed.is_empty() || self.rng.one_in(5) {
+                    self.rng.of(&KINDS)
+                } else {
+                    self.rng.of(&allowed)
+                };
+                self.send(kind);
+            }
+        }
+        // An End without reuse has closed both ends: after some events more, a fresh pair begins.
+        let closed = |connection: &Connection| connection[raw::STATE] == raw::CLOSED;
+        if closed(&self.server) && closed(&self.container) && self.rng.one_in(6) {
+            assert!(self.to_container.is_empty() && self.to_server.is_empty());
+            self.counts.closed += 1;
+            self.server = fresh();
+            self.container = fresh();
+        }
+    }
+
+    /// The connection of the end that a send is made at.
+    fn sender(&self, kind: Kind) -> &Connection {
+        if kind.is_from_server() {
+            &self.server
+        } else {
+            &self.container
+        }
+    }
+
+    /// Makes a send. Where it is written, the packet goes last into the pipe; where it is refused,
+    /// nothing has changed.
+    fn send(&mut self, kind: Kind) {
+        let mut connection = *self.sender(kind);
+        let allowed = kind.is_allowed(&connection);
+        let mut answer = [0; raw::ANSWER_WORDS];
+        // A send that is right in all but perhaps the state, or one with something wrong about it.
+        let right = self.rng.percent(85);
+        self.lend_buffer(right);
+
+        let mut body = Vec::new();
+        let status = match kind {
+            Kind::CPing => raw::cping(&mut connection, &mut self.buffer, &mut answer),
+            Kind::CPong => raw::cpong(&mut connection, &mut self.buffer, &mut answer),
+            Kind::GetBody => {
+                let asked = match self.rng.below(8) {
+                    0 => 0,
+                    1 => 65535,
+                    2 => self.rng.short().into(),
+                    3 => 8186,
+                    _ => self.rng.below(50) as u32,
+                };
+                raw::get_body(&mut connection, &mut self.buffer, asked, &mut answer)
+            }
+            Kind::End => {
+                let reuse = u32::from(!self.rng.one_in(8));
+                raw::end(&mut connection, &mut self.buffer, reuse, &mut answer)
+            }
+            Kind::Body => {
+                let size = self.body_size(&connection, right);
+                body = self.rng.bytes(size);
+                raw::body(&mut connection, &mut self.buffer, &body, &mut answer)
+            }
+            Kind::BodyChunk => {
+                let mut size = self.rng.length().min(raw::MAX_CHUNK);
+                if !right {
+                    size += self.rng.of(&[0, raw::MAX_CHUNK]);
+                }
+                let chunk = self.rng.bytes(size);
+                raw::body_chunk(&mut connection, &mut self.buffer, &chunk, &mut answer)
+            }
+            Kind::Forward | Kind::SendHeaders => {
+                let mut building = match kind {
+                    Kind::Forward => self.build_forward(),
+                    _ => self.build_send_headers(),
+                };
+                if !right {
+                    self.spoil(&mut building);
+                }
+                self.before.clone_from(&self.buffer);
+                raw::close(&mut connection, &building, &mut self.buffer, &mut answer)
+            }
+        };
+
+        let index = KINDS.iter().position(|other| *other == kind).unwrap_or(0);
+        if status != raw::DONE {
+            // Neither end, neither pipe nor the buffer has changed.
+            assert!((1..=16).contains(&status), "{kind:?} returned {status}");
+            assert_eq!(connection, *self.sender(kind));
+            assert!(self.buffer == self.before, "{kind:?} wrote and was refused");
+            assert_eq!(answer, [0; raw::ANSWER_WORDS]);
+            assert!(!(allowed && right), "{kind:?} was refused: {status}");
+            self.counts.refused[index] += 1;
+            self.counts.refusals[status as usize] += 1;
+            return;
+        }
+        assert!(allowed, "{kind:?} was written in another state");
+        assert_eq!(answer[raw::KIND], kind.number());
+        let length = answer[raw::BYTES] as usize;
+        assert!(self.buffer[length..] == self.before[length..]);
+        let packet = Packet {
+            kind: kind.number(),
+            bytes: self.buffer[..length].to_vec(),
+        };
+        self.unread.extend(&body);
+        self.counts.body_bytes += body.len() as u64;
+        self.counts.written[index] += 1;
+        if kind.is_from_server() {
+            self.server = connection;
+            if kind == Kind::Forward {
+                // The sender's end knows what its request declared.
+                self.forwarded.push_back(connection[raw::LEFT]);
+            }
+            self.to_container.push_back(packet);
+        } else {
+            self.container = connection;
+            self.to_server.push_back(packet);
+        }
+    }
+
+    /// Lends a buffer that is long enough for any packet, or one of any length.
+    fn lend_buffer(&mut self, long_enough: bool) {
+        let length = if !long_enough && self.rng.one_in(2) {
+            self.rng.below(12)
+        } else {
+            raw::MAX_PACKET + self.rng.below(3)
+        };
+        // The old contents are those of the last packet, which any bytes may follow.
+        self.buffer.resize(length, 0xAA);
+        self.before.clone_from(&self.buffer);
+    }
+
+    /// How many bytes to send in a body packet: so many as are allowed, or others.
+    fn body_size(&mut self, connection: &Connection, right: bool) -> usize {
+        let most = connection[raw::LEFT].min(connection[raw::ASKED]);
+        let most = (most as usize).min(raw::MAX_BODY);
+        if !right {
+            return self.rng.of(&[0, 1, most + 1, raw::MAX_BODY + 1]);
+        }
+        if most == 0 {
+            return 0;
+        }
+        match self.rng.below(8) {
+            0 | 1 => most,
+            2 => self.rng.between(1, most),
+            _ => self.rng.between(1, most.min(40)),
+        }
+    }
+
+    /// Builds a Forward in pieces, up to closing. In a buffer that is too short a piece is refused,
+    /// and the building record stays as it was.
+    fn build_forward(&mut self) -> Building {
+        let mut building = not_begun(raw::FORWARD);
+        let mut fixed = [0; raw::FIXED_WORDS];
+        fixed[raw::FIXED_METHOD] = self.rng.between(1, 27) as u32;
+        fixed[raw::FIXED_PORT] = self.rng.short().into();
+        fixed[raw::FIXED_IS_SSL] = self.rng.below(2) as u32;
+        fixed[raw::FIXED_NO_REMOTE_HOST] = self.rng.below(2) as u32;
+        raw::begin_forward(
+            &mut building,
+            &mut self.buffer,
+            &fixed,
+            b"HTTP/1.1",
+            b"/",
+            b"127.0.0.1",
+            b"",
+            b"localhost",
+        );
+        if self.rng.percent(70) {
+            let declared = match self.rng.below(8) {
+                0 => u32::MAX,
+                1 => self.rng.below(40_000) as u32,
+                _ => self.rng.below(60) as u32,
+            };
+            let value = declared.to_string();
+            raw::header_named(
+                &mut building,
+                &mut self.buffer,
+                b"Content-Length",
+                value.as_bytes(),
+                0,
+            );
+        }
+        for _ in 0..self.rng.below(3) {
+            let length = self.rng.length().min(3000);
+            let value = vec![b'v'; length];
+            raw::header_spelled(&mut building, &mut self.buffer, b"x-a", 0, &value, 0);
+        }
+        for _ in 0..self.rng.below(3) {
+            raw::attribute_pair(&mut building, &mut self.buffer, 0x0A, b"a", 0, b"b", 0);
+        }
+        building
+    }
+
+    /// Builds a Send Headers in pieces, up to closing, in the same way.
+    fn build_send_headers(&mut self) -> Building {
+        let mut building = not_begun(raw::SEND_HEADERS);
+        let status = self.rng.between(100, 599) as u32;
+        raw::begin_send_headers(&mut building, &mut self.buffer, status, b"OK", 0);
+        for _ in 0..self.rng.below(4) {
+            let code = 0xA000 + self.rng.between(1, 11) as u32;
+            let length = self.rng.length().min(3000);
+            let value = vec![b'v'; length];
+            raw::header_coded(&mut building, &mut self.buffer, code, &value, 0);
+        }
+        building
+    }
+
+    /// Changes the building record or the buffer, so that closing is refused mostly.
+    fn spoil(&mut self, building: &mut Building) {
+        match self.rng.below(5) {
+            0 => {
+                let word = self.rng.between(1, 3);
+                building[word] = self.rng.short().into();
+            }
+            1 => building[raw::HEADERS_SO_FAR] += 1,
+            2 => building[raw::NEXT] = building[raw::NEXT].saturating_sub(1),
+            3 => building[raw::ATTRIBUTES_BEGAN] ^= 1,
+            _ => {
+                let built = (building[raw::NEXT] as usize).min(self.buffer.len());
+                if built > 0 {
+                    let at = self.rng.below(built);
+                    self.buffer[at] = self.rng.byte();
+                }
+            }
+        }
+    }
+
+    /// Reads the first packet for the container's end.
+    fn deliver_to_container(&mut self) {
+        let alone = self.rng.one_in(2);
+        let Some(first) = self.to_container.front() else {
+            self.counts.nothing_to_deliver += 1;
+            return;
+        };
+        let (bytes, kind, length) = lent(&self.to_container, first, alone);
+        let mut table = [0; raw::MAX_PLACES];
+        let mut answer = [0; raw::ANSWER_WORDS];
+        let status = raw::read_at_container(&mut self.container, &bytes, &mut table, &mut answer);
+        assert_eq!(status, raw::DONE, "a packet was not accepted: {bytes:02x?}");
+        assert_eq!(answer[raw::BYTES] as usize, length);
+        assert_eq!(answer[raw::KIND], kind);
+        match kind {
+            raw::FORWARD => {
+                self.counts.requests += 1;
+                self.declared = answer[raw::DECLARED].into();
+                self.got = 0;
+                assert_eq!(self.forwarded.pop_front(), Some(answer[raw::DECLARED]));
+            }
+            raw::BODY => {
+                let start = answer[raw::START] as usize;
+                let body = &bytes[start..start + answer[raw::LEN] as usize];
+                // What is received is what was sent, in its order.
+                assert!(body.iter().copied().eq(self.unread.drain(..body.len())));
+                self.got += body.len() as u64;
+                if self.got == self.declared && !body.is_empty() {
+                    self.counts.whole_bodies += 1;
+                }
+            }
+            _ => {}
+        }
+        self.counts.delivered_to_container += 1;
+        self.counts.delivered_with_others += u64::from(bytes.len() > length);
+        self.to_container.pop_front();
+    }
+
+    /// Reads the first packet for the server's end.
+    fn deliver_to_server(&mut self) {
+        let alone = self.rng.one_in(2);
+        let Some(first) = self.to_server.front() else {
+            self.counts.nothing_to_deliver += 1;
+            return;
+        };
+        let (bytes, kind, length) = lent(&self.to_server, first, alone);
+        let mut table = [0; raw::MAX_PLACES];
+        let mut answer = [0; raw::ANSWER_WORDS];
+        let status = raw::read_at_server(&mut self.server, &bytes, &mut table, &mut answer);
+        assert_eq!(status, raw::DONE, "a packet was not accepted: {bytes:02x?}");
+        assert_eq!(answer[raw::BYTES] as usize, length);
+        assert_eq!(answer[raw::KIND], kind);
+        self.counts.delivered_to_server += 1;
+        self.counts.delivered_with_others += u64::from(bytes.len() > length);
+        self.to_server.pop_front();
+    }
+
+    /// What has to hold after every event.
+    fn check(&mut self) {
+        let empty = self.to_container.is_empty() && self.to_server.is_empty();
+        if empty {
+            self.counts.both_pipes_empty += 1;
+            assert_eq!(self.server, self.container);
+        }
+        if self.server[raw::STATE] == raw::IDLE {
+            self.counts.server_idle += 1;
+            assert!(empty);
+            assert_eq!(self.container[raw::STATE], raw::IDLE);
+        }
+        // The body bytes that are sent and not received are those in the pipe, in order.
+        let in_pipe = self.to_container.iter().flat_map(|packet| packet.body());
+        assert!(in_pipe.eq(&self.unread));
+        assert!(self.got <= self.declared);
+    }
+}
+
+/// The bytes of a pipe's first packet, alone or with those behind it; its kind and its length.
+fn lent(pipe: &VecDeque<Packet>, first: &Packet, alone: bool) -> (Vec<u8>, u32, usize) {
+    let mut bytes = first.bytes.clone();
+    if !alone {
+        // A few packets are enough: what is read does not depend on those behind it.
+        for packet in pipe.iter().skip(1).take(4) {
+            bytes.extend(&packet.bytes);
+        }
+    }
+    (bytes, first.kind, first.bytes.len())
+}
+
+impl Counts {
+    /// Prints what happened.
+    fn print(&self, seconds: f64) {
+        println!("two ends: {} events in {seconds:.1} s", self.events);
+        for (index, kind) in KINDS.iter().enumerate() {
+            println!(
+                "  {kind:?}: {} written, {} refused",
+                self.written[index], self.refused[index]
+            );
+        }
+        let refusals: Vec<String> = (1..)
+            .zip(&self.refusals[1..])
+            .filter(|(_, times)| **times > 0)
+            .map(|(number, times)| format!("({number}) {times}"))
+            .collect();
+        println!("  refused: {}", refusals.join(", "));
+        println!(
+            "  delivered: {} to the container, {} to the server, {} of them with others behind; \
+             {} times nothing",
+            self.delivered_to_container,
+            self.delivered_to_server,
+            self.delivered_with_others,
+            self.nothing_to_deliver
+        );
+        println!(
+            "  {} requests, {} body bytes, {} bodies whole, {} times closed",
+            self.requests, self.body_bytes, self.whole_bodies, self.closed
+        );
+        println!(
+            "  both pipes empty {} times, server's end Idle {} times",
+            self.both_pipes_empty, self.server_idle
+        );
+    }
+
+    /// Every kind of event has to happen often; in a short run it may not.
+    fn check(&self) {
+        if self.events < 100_000 {
+            return;
+        }
+        let often = self.events / 1000;
+        for (index, kind) in KINDS.iter().enumerate() {
+            assert!(self.written[index] > often, "{kind:?} seldom written");
+            assert!(self.refused[index] > often, "{kind:?} seldom refused");
+        }
+        for number in [2, 13, 14, 15, 16] {
+            assert!(
+                self.refusals[number] > often / 10,
+                "seldom refused by {number}"
+            );
+        }
+        for times in [
+            self.delivered_to_container,
+            self.delivered_to_server,
+            self.delivered_with_others,
+            self.nothing_to_deliver,
+            self.requests,
+            self.body_bytes,
+            self.whole_bodies,
+            self.closed,
+            self.both_pipes_empty,
+            self.server_idle,
+        ] {
+            assert!(times > often, "some kind of event seldom happened");
+        }
+    }
+}

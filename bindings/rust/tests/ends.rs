@@ -1,0 +1,548 @@
+//! The safe types: packets read and built at both ends, refusals, views.
+
+use ajp13::{
+    attribute, Attribute, Building, BuildingKind, Connection, ForwardHead, HeaderName, Method,
+    Packet, Places, Received, Refusal, SendHeadersHead, State,
+};
+
+/// GET /, port 80, all else null, no headers, no attributes.
+const GET: &[u8] = b"\x12\x34\x00\x1D\x02\x02\x00\x08HTTP/1.1\0\x00\x01/\0\
+    \xFF\xFF\xFF\xFF\xFF\xFF\x00\x50\x00\x00\x00\xFF";
+
+fn head() -> ForwardHead<'static> {
+    ForwardHead {
+        method: Method::GET,
+        protocol: b"HTTP/1.1",
+        req_uri: b"/",
+        remote_addr: None,
+        remote_host: None,
+        server_name: None,
+        server_port: 80,
+        is_ssl: false,
+    }
+}
+
+fn busy(left: u32, asked: Option<u16>, headers_sent: bool) -> Connection {
+    Connection::from_fields(
+        State::Busy,
+        left,
+        asked.is_some(),
+        asked.unwrap_or(0),
+        headers_sent,
+    )
+}
+
+/// What reading at the container's end accepts, all of it.
+fn at_container<'a>(
+    connection: &mut Connection,
+    bytes: &'a [u8],
+    places: &'a mut Places,
+) -> Packet<'a> {
+    match connection.read_at_container(bytes, places) {
+        Received::Accepted { packet, taken } if taken == bytes.len() => packet,
+        other => panic!("{other:?}"),
+    }
+}
+
+#[test]
+fn packets_to_the_container() {
+    let mut places = Places::new();
+
+    let mut connection = Connection::fresh();
+    let packet = at_container(&mut connection, b"\x12\x34\x00\x01\x0A", &mut places);
+    assert_eq!(packet, Packet::CPing);
+    assert_eq!(connection.state(), State::Pinged);
+
+    let mut connection = busy(2, Some(8186), false);
+    let bytes = b"\x12\x34\x00\x04\x00\x02hi";
+    let packet = at_container(&mut connection, bytes, &mut places);
+    assert_eq!(packet, Packet::Body(b"hi"));
+    assert_eq!(connection, busy(0, None, false));
+
+    let mut connection = busy(0, Some(8186), false);
+    let packet = at_container(&mut connection, b"\x12\x34\x00\x00", &mut places);
+    assert_eq!(packet, Packet::Body(b""));
+
+    let mut connection = Connection::fresh();
+    let Packet::Forward(forward) = at_container(&mut connection, GET, &mut places) else {
+        panic!("no Forward");
+    };
+    assert_eq!(forward.method().name().unwrap().as_str(), "GET");
+    assert_eq!(forward.protocol(), b"HTTP/1.1");
+    assert_eq!(forward.req_uri(), b"/");
+    assert_eq!(forward.remote_addr(), None);
+    assert_eq!(forward.remote_host(), None);
+    assert_eq!(forward.server_name(), None);
+    assert_eq!(forward.server_port(), 80);
+    assert!(!forward.is_ssl());
+    assert_eq!(forward.declared_length(), 0);
+    assert_eq!(forward.headers().len(), 0);
+    assert_eq!(forward.attributes().len(), 0);
+    assert_eq!(forward.bytes(), GET);
+    assert_eq!(forward.places(), []);
+    assert_eq!(connection, busy(0, None, false));
+}
+
+#[test]
+fn packets_to_the_server() {
+    let read = |before: Connection, bytes: &[u8], expected: Packet, after: Connection| {
+        let mut connection = before;
+        let mut places = Places::new();
+        let taken = bytes.len();
+        let received = connection.read_at_server(bytes, &mut places);
+        let packet = expected;
+        assert_eq!(received, Received::Accepted { packet, taken });
+        assert_eq!(connection, after);
+    };
+    let fresh = Connection::fresh;
+    let pinged = Connection::from_fields(State::Pinged, 0, false, 0, false);
+    read(
+        pinged,
+        b"\x41\x42\x00\x01\x09",
+        Packet::CPong,
+        Connection::fresh(),
+    );
+    read(
+        busy(9, None, false),
+        b"\x41\x42\x00\x03\x06\x1F\xFA",
+        Packet::GetBody(8186),
+        busy(9, Some(8186), false),
+    );
+    read(
+        busy(0, None, true),
+        b"\x41\x42\x00\x06\x03\x00\x02ok\x00",
+        Packet::BodyChunk(b"ok"),
+        busy(0, None, true),
+    );
+    read(
+        busy(0, None, true),
+        b"\x41\x42\x00\x02\x05\x01",
+        Packet::End { reuse: true },
+        fresh(),
+    );
+    read(
+        busy(0, None, true),
+        b"\x41\x42\x00\x02\x05\x00",
+        Packet::End { reuse: false },
+        Connection::from_fields(State::Closed, 0, false, 0, false),
+    );
+
+    let bytes = b"\x41\x42\x00\x0A\x04\x00\xC8\x00\x02OK\0\x00\x00";
+    let mut connection = busy(0, None, false);
+    let mut places = Places::new();
+    let received = connection.read_at_server(bytes, &mut places);
+    let Received::Accepted {
+        packet: Packet::SendHeaders(headers),
+        taken: 14,
+    } = received
+    else {
+        panic!("{received:?}");
+    };
+    assert_eq!(headers.status(), 200);
+    assert_eq!(headers.message(), Some(&b"OK"[..]));
+    assert_eq!(headers.headers().len(), 0);
+    assert_eq!(headers.places(), []);
+    assert_eq!(headers.bytes(), bytes);
+}
+
+#[test]
+fn refusals_and_needs_change_nothing() {
+    let mut places = Places::new();
+    let mut at_container = |before: Connection, bytes: &[u8]| {
+        let mut connection = before.clone();
+        let answer = match connection.read_at_container(bytes, &mut places) {
+            Received::Needs(n) => Err(n),
+            Received::Refused(refusal) => Ok(refusal),
+            Received::Accepted { packet, .. } => panic!("{packet:?}"),
+        };
+        assert_eq!(connection, before);
+        answer
+    };
+    let fresh = Connection::fresh;
+    assert_eq!(at_container(fresh(), b""), Err(4));
+    assert_eq!(at_container(fresh(), b"\x12\x34\x1F\xFC"), Err(8192));
+    assert_eq!(
+        at_container(fresh(), b"\x12\x34\x1F\xFD"),
+        Ok(Refusal::TooLong)
+    );
+    assert_eq!(at_container(fresh(), b"A"), Ok(Refusal::LeadingWrong));
+    assert_eq!(
+        at_container(fresh(), b"\x12\x34\x00\x00"),
+        Ok(Refusal::CutShort)
+    );
+    assert_eq!(
+        at_container(fresh(), b"\x12\x34\x00\x01\x03"),
+        Ok(Refusal::CodeWrong)
+    );
+    assert_eq!(
+        at_container(fresh(), b"\x12\x34\x00\x01\x07"),
+        Ok(Refusal::CodeNotServed)
+    );
+    assert_eq!(
+        at_container(fresh(), b"\x12\x34\x00\x02\x0A\x0A"),
+        Ok(Refusal::LeftOver)
+    );
+    assert_eq!(at_container(busy(0, None, true), GET), Ok(Refusal::NotNow));
+    assert_eq!(
+        at_container(busy(1, Some(8186), true), b"\x12\x34\x00\x04\x00\x02hi"),
+        Ok(Refusal::SizeWrong)
+    );
+    assert_eq!(places, Places::new());
+}
+
+#[test]
+fn a_table_too_short() {
+    let mut server = Connection::fresh();
+    let mut buffer = [0; ajp13::MAX_PACKET];
+    let mut headers = head().begin(&mut buffer).unwrap();
+    headers.header(b"accept", Some(b"*/*")).unwrap();
+    headers.header(b"x-a", Some(b"")).unwrap();
+    let packet = headers.close(&mut server).unwrap();
+
+    let mut table = [9; 5];
+    let mut container = Connection::fresh();
+    let received = container.read_at_container(packet, &mut table[..3]);
+    assert_eq!(received, Received::Refused(Refusal::LentTooShort));
+    assert_eq!(container, Connection::fresh());
+    assert_eq!(table, [9; 5]);
+
+    let received = container.read_at_container(packet, &mut table);
+    let Received::Accepted {
+        packet: Packet::Forward(forward),
+        ..
+    } = received
+    else {
+        panic!("{received:?}");
+    };
+    assert_eq!(forward.headers().len(), 2);
+    assert_eq!(forward.places().len(), 4);
+    assert_eq!(table[4], 9);
+}
+
+#[test]
+fn every_field_comes_back() {
+    let mut server = Connection::fresh();
+    let mut buffer = [0; ajp13::MAX_PACKET];
+    let head = ForwardHead {
+        method: Method::BASELINE_CONTROL,
+        protocol: b"HTTP/1.0",
+        req_uri: b"/a",
+        remote_addr: Some(b"192.0.2.1"),
+        remote_host: Some(b""),
+        server_name: Some(b"s.example"),
+        server_port: 65535,
+        is_ssl: true,
+    };
+    let mut headers = head.begin(&mut buffer).unwrap();
+    headers
+        .header(b"HOST", Some(b"s.example"))
+        .unwrap()
+        .coded(0xA008, Some(b"4294967295"))
+        .unwrap()
+        .spelled(b"X-Null", None)
+        .unwrap()
+        .header(b"x-empty", Some(b""))
+        .unwrap();
+    let mut attributes = headers.attributes();
+    attributes
+        .text(attribute::ROUTE, None)
+        .unwrap()
+        .integer(attribute::SSL_KEY_SIZE, 65535)
+        .unwrap()
+        .pair(b"a b", Some(b"c"))
+        .unwrap()
+        .pair(b"a b", None)
+        .unwrap();
+    assert_eq!(attributes.building().headers(), 4);
+    assert!(attributes.building().attributes_began());
+    let packet = attributes.close(&mut server).unwrap();
+    assert_eq!(server, busy(u32::MAX, Some(8186), false));
+
+    let mut container = Connection::fresh();
+    let mut places = Places::new();
+    let Packet::Forward(forward) = at_container(&mut container, packet, &mut places) else {
+        panic!("no Forward");
+    };
+    assert_eq!(container, server);
+    assert_eq!(forward.method(), head.method);
+    assert_eq!(forward.protocol(), head.protocol);
+    assert_eq!(forward.req_uri(), head.req_uri);
+    assert_eq!(forward.remote_addr(), head.remote_addr);
+    assert_eq!(forward.remote_host(), head.remote_host);
+    assert_eq!(forward.server_name(), head.server_name);
+    assert_eq!(forward.server_port(), head.server_port);
+    assert_eq!(forward.is_ssl(), head.is_ssl);
+    assert_eq!(forward.declared_length(), u32::MAX);
+
+    let headers: Vec<_> = forward.headers().collect();
+    let fields: Vec<_> = headers.iter().map(|h| (h.name, h.value)).collect();
+    assert_eq!(
+        fields,
+        [
+            (HeaderName::Code(0xA00B), Some(&b"s.example"[..])),
+            (HeaderName::Code(0xA008), Some(b"4294967295")),
+            (HeaderName::Spelled(b"X-Null"), None),
+            (HeaderName::Spelled(b"x-empty"), Some(b"")),
+        ]
+    );
+    let names: Vec<_> = headers.iter().map(|h| h.name_text().to_vec()).collect();
+    let expected: [&[u8]; 4] = [b"host", b"content-length", b"X-Null", b"x-empty"];
+    assert_eq!(names, expected);
+
+    // Looked for by name, listed or not, case ignored.
+    assert_eq!(forward.header(b"Host"), Some(headers[0]));
+    assert_eq!(forward.header(b"X-NULL"), Some(headers[2]));
+    assert_eq!(forward.header(b"accept"), None);
+    assert_eq!(forward.header(b"x-none"), None);
+
+    let attributes: Vec<_> = forward.attributes().collect();
+    assert_eq!(
+        attributes,
+        [
+            Attribute::Text {
+                code: attribute::ROUTE,
+                value: None
+            },
+            Attribute::Integer {
+                code: attribute::SSL_KEY_SIZE,
+                value: 65535
+            },
+            Attribute::Pair {
+                name: b"a b",
+                value: Some(b"c")
+            },
+            Attribute::Pair {
+                name: b"a b",
+                value: None
+            },
+        ]
+    );
+    let names: Vec<_> = attributes.iter().map(|a| a.name_text().to_vec()).collect();
+    let expected: [&[u8]; 4] = [b"route", b"ssl_key_size", b"a b", b"a b"];
+    assert_eq!(names, expected);
+    assert_eq!(
+        forward.attribute(attribute::REQ_ATTRIBUTE),
+        Some(attributes[2])
+    );
+    assert_eq!(forward.attribute(attribute::SECRET), None);
+
+    // From the back, and past some.
+    let back: Vec<_> = forward.headers().rev().collect();
+    assert!(back.iter().rev().eq(headers.iter()));
+    let back: Vec<_> = forward.attributes().rev().collect();
+    assert!(back.iter().rev().eq(attributes.iter()));
+    assert_eq!(forward.headers().nth(2), Some(headers[2]));
+    assert_eq!(forward.attributes().nth(3), Some(attributes[3]));
+    assert_eq!(forward.attributes().nth(4), None);
+
+    // What people see.
+    let shown = format!("{forward:?}");
+    assert!(shown.contains(r#"remote_host: Some(b"")"#), "{shown}");
+    assert!(
+        shown.contains(r#"Header { name: b"X-Null", value: None }"#),
+        "{shown}"
+    );
+    assert!(
+        shown.contains(r#"Pair { name: b"a b", value: Some(b"c") }"#),
+        "{shown}"
+    );
+}
+
+#[test]
+fn a_response_comes_back() {
+    let mut container = busy(0, None, false);
+    let mut server = container.clone();
+    let mut buffer = [0; ajp13::MAX_PACKET];
+    let head = SendHeadersHead {
+        status: 404,
+        message: None,
+    };
+    let mut headers = head.begin(&mut buffer).unwrap();
+    headers
+        .header(b"content-type", Some(b"text/html"))
+        .unwrap()
+        .coded(0xA007, Some(b"a=b"))
+        .unwrap()
+        .spelled(b"Transfer-Encoding", Some(b"x"))
+        .unwrap();
+    assert_eq!(headers.building().kind(), BuildingKind::SendHeaders);
+    let packet = headers.close(&mut container).unwrap();
+
+    let mut places = Places::new();
+    let received = server.read_at_server(packet, &mut places);
+    let Received::Accepted {
+        packet: Packet::SendHeaders(headers),
+        ..
+    } = received
+    else {
+        panic!("{received:?}");
+    };
+    assert_eq!(server, container);
+    assert_eq!(headers.status(), 404);
+    assert_eq!(headers.message(), None);
+    let names: Vec<_> = headers.headers().map(|h| h.name_text().to_vec()).collect();
+    let expected: [&[u8]; 3] = [b"Content-Type", b"Set-Cookie", b"Transfer-Encoding"];
+    assert_eq!(names, expected);
+    assert_eq!(
+        headers.header(b"Set-cookie").unwrap().value,
+        Some(&b"a=b"[..])
+    );
+    assert_eq!(
+        headers.header(b"transfer-encoding").unwrap().value,
+        Some(&b"x"[..])
+    );
+}
+
+#[test]
+fn a_refused_piece_adds_nothing() {
+    let mut server = Connection::fresh();
+    let mut buffer = [0; ajp13::MAX_PACKET];
+
+    let bad = ForwardHead {
+        method: Method::from_code(28),
+        ..head()
+    };
+    assert_eq!(bad.begin(&mut buffer).unwrap_err(), Refusal::OutOfRange);
+    let bad = ForwardHead {
+        req_uri: b"",
+        ..head()
+    };
+    assert_eq!(bad.begin(&mut buffer).unwrap_err(), Refusal::StringWrong);
+    assert_eq!(buffer, [0; ajp13::MAX_PACKET]);
+    assert_eq!(
+        head().begin(&mut [0; 30]).unwrap_err(),
+        Refusal::LentTooShort
+    );
+
+    let mut headers = head().begin(&mut buffer).unwrap();
+    let before = headers.building().clone();
+    let refused = [
+        headers.spelled(b"Host", None).unwrap_err(),
+        headers.coded(0xA00F, None).unwrap_err(),
+        headers.header(b"", None).unwrap_err(),
+        headers
+            .header(b"transfer-encoding", Some(b"chunked"))
+            .unwrap_err(),
+        headers
+            .header(b"content-length", Some(b"4294967296"))
+            .unwrap_err(),
+        headers.header(b"x", Some(&[b'x'; 8192])).unwrap_err(),
+    ];
+    assert_eq!(refused.map(Refusal::number), [8, 8, 6, 10, 10, 2]);
+    assert_eq!(headers.building(), &before);
+
+    let mut attributes = headers.attributes();
+    let refused = [
+        attributes.text(0xFF, None).unwrap_err(),
+        attributes.text(attribute::SSL_KEY_SIZE, None).unwrap_err(),
+        attributes.integer(attribute::SECRET, 1).unwrap_err(),
+        attributes.pair(b"", None).unwrap_err(),
+        attributes
+            .text(attribute::ROUTE, Some(b"a\0b"))
+            .unwrap_err(),
+    ];
+    assert_eq!(refused.map(Refusal::number), [9, 9, 9, 6, 6]);
+    assert_eq!(attributes.building(), &before);
+    assert_eq!(attributes.close(&mut server).unwrap(), GET);
+    assert_eq!(server, busy(0, None, false));
+}
+
+#[test]
+fn closing_judges_the_packet() {
+    let mut buffer = [0; ajp13::MAX_PACKET];
+
+    // A second content-length.
+    let mut server = Connection::fresh();
+    let mut headers = head().begin(&mut buffer).unwrap();
+    headers
+        .header(b"content-length", Some(b"1"))
+        .unwrap()
+        .header(b"content-length", Some(b"1"))
+        .unwrap();
+    assert_eq!(headers.close(&mut server), Err(Refusal::LengthWrong));
+    assert_eq!(server, Connection::fresh());
+
+    // An attribute twice.
+    let mut attributes = head().begin(&mut buffer).unwrap().attributes();
+    attributes
+        .text(attribute::SECRET, Some(b"x"))
+        .unwrap()
+        .text(attribute::SECRET, Some(b"x"))
+        .unwrap();
+    assert_eq!(attributes.close(&mut server), Err(Refusal::AttributeWrong));
+
+    // Not now.
+    let mut server = busy(0, None, false);
+    let headers = head().begin(&mut buffer).unwrap();
+    assert_eq!(headers.close(&mut server), Err(Refusal::NotNow));
+    assert_eq!(server, busy(0, None, false));
+}
+
+#[test]
+fn sends() {
+    let mut buffer = [0x55; 16];
+
+    let mut server = Connection::fresh();
+    assert_eq!(server.cping(&mut buffer[..4]), Err(Refusal::LentTooShort));
+    assert_eq!(server, Connection::fresh());
+    assert_eq!(server.cping(&mut buffer).unwrap(), b"\x12\x34\x00\x01\x0A");
+    assert_eq!(buffer[5..], [0x55; 11]);
+    assert_eq!(server.cpong(&mut buffer).unwrap(), b"\x41\x42\x00\x01\x09");
+    assert_eq!(server.cpong(&mut buffer), Err(Refusal::NotNow));
+
+    let mut server = busy(3, Some(2), false);
+    assert_eq!(server.body(&mut buffer, b"abc"), Err(Refusal::SizeWrong));
+    let packet = server.body(&mut buffer, b"ab").unwrap();
+    assert_eq!(packet, b"\x12\x34\x00\x04\x00\x02ab");
+    assert_eq!(server, busy(1, None, false));
+
+    let mut container = server;
+    let packet = container.get_body(&mut buffer, 65535).unwrap();
+    assert_eq!(packet, b"\x41\x42\x00\x03\x06\xFF\xFF");
+    assert_eq!(container, busy(1, Some(65535), false));
+
+    let mut container = busy(0, None, true);
+    let packet = container.body_chunk(&mut buffer, b"ok").unwrap();
+    assert_eq!(packet, b"\x41\x42\x00\x06\x03\x00\x02ok\x00");
+    let long = [0; ajp13::MAX_CHUNK + 1];
+    assert_eq!(
+        container.body_chunk(&mut buffer, &long),
+        Err(Refusal::TooLong)
+    );
+    let packet = container.end(&mut buffer, false).unwrap();
+    assert_eq!(packet, b"\x41\x42\x00\x02\x05\x00");
+    assert_eq!(container.state(), State::Closed);
+}
+
+#[test]
+fn records_keep_their_fields() {
+    for state in [State::Idle, State::Pinged, State::Busy, State::Closed] {
+        let connection = Connection::from_fields(state, 7, true, 8, true);
+        assert_eq!(connection.state(), state);
+        assert_eq!(connection.left(), 7);
+        assert!(connection.is_due());
+        assert_eq!(connection.asked(), 8);
+        assert!(connection.headers_sent());
+        assert_eq!(connection.words(), &[state as u32, 7, 1, 8, 1]);
+    }
+    for kind in [BuildingKind::Forward, BuildingKind::SendHeaders] {
+        let building = Building::from_fields(kind, 1, 2, 3, true);
+        assert_eq!(building.kind(), kind);
+        assert_eq!(building.next(), 1);
+        assert_eq!(building.count_place(), 2);
+        assert_eq!(building.headers(), 3);
+        assert!(building.attributes_began());
+        assert_eq!(building.words(), &[kind as u32, 1, 2, 3, 1]);
+    }
+}
+
+#[test]
+fn refusals_have_their_numbers() {
+    for (index, refusal) in Refusal::ALL.into_iter().enumerate() {
+        assert_eq!(usize::from(refusal.number()), index + 1);
+        assert_eq!(Refusal::from_number(index as u32 + 1), Some(refusal));
+    }
+    for number in [0, 17, 0x10000, u32::MAX] {
+        assert_eq!(Refusal::from_number(number), None);
+    }
+}

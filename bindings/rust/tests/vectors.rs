@@ -1,0 +1,345 @@
+//! The text vectors, a case a line, over the library and the plain implementation.
+//!
+//! `AJP13_VECTORS` names a folder whose files `*.tsv` hold them: a case, a tab, its answer, and at
+//! times a tab and a note. Where the variable is not set there is nothing to run. The repository
+//! holds the same cases as the crate `vectors`.
+//!
+//! Bytes are hexadecimal digits, `-` for none; a string may be `null`. A connection is
+//! `S,left,due,asked,headers` with `S` one of I, P, B, C; a building record is
+//! `K,next,count,headers,attributes` with `K` one of F, H.
+
+mod common {
+    pub mod by_plain;
+    pub mod calls;
+}
+mod plain;
+
+use ajp13::raw;
+use common::calls::{Array, Call, Lent, Text};
+use std::env;
+use std::fs;
+use std::path::{Path, PathBuf};
+
+#[test]
+fn vectors() {
+    let Some(folder) = env::var_os("AJP13_VECTORS") else {
+        println!("skipped: AJP13_VECTORS names no folder of vectors");
+        return;
+    };
+    let files = tsv_files(Path::new(&folder));
+    assert!(!files.is_empty(), "there is no file *.tsv in {folder:?}");
+    for file in files {
+        let text = fs::read_to_string(&file).expect("a file of vectors can be read");
+        let mut cases = 0;
+        for (number, line) in (1..).zip(text.lines()) {
+            let mut columns = line.split('\t');
+            let (Some(case), Some(expected)) = (columns.next(), columns.next()) else {
+                panic!("{}:{number} has no answer", file.display());
+            };
+            let (call, before) = parse(case);
+            for at_library in [true, false] {
+                let mut lent = before.clone();
+                let status = if at_library {
+                    call.at_library(&mut lent)
+                } else {
+                    call.at_plain(&mut lent)
+                };
+                let who = if at_library { "library" } else { "plain" };
+                let answer = answer(&call, status, &lent);
+                let place = format!("{}:{number}, {who}", file.display());
+                assert!(answer == expected, "{place}\n{case}\n{answer}\n{expected}");
+                // A refusal and a "needs" leave everything but the answer as it was.
+                if status != raw::DONE {
+                    lent.answer = before.answer.clone();
+                    assert!(lent == before, "{place}\n{case}\n{lent}");
+                }
+            }
+            cases += 1;
+        }
+        println!("{}: {cases} cases", file.display());
+    }
+}
+
+/// The files `*.tsv` of a folder, in the order of their names.
+fn tsv_files(folder: &Path) -> Vec<PathBuf> {
+    let mut files: Vec<PathBuf> = fs::read_dir(folder)
+        .expect("the folder that AJP13_VECTORS names can be read")
+        .map(|entry| entry.expect("an entry of the folder can be read").path())
+        .filter(|path| path.extension().is_some_and(|end| end == "tsv"))
+        .collect();
+    files.sort();
+    files
+}
+
+/// The call that a case is, and what is lent to it.
+fn parse(case: &str) -> (Call, Lent) {
+    let words: Vec<&str> = case.split(' ').collect();
+    let mut lent = Lent {
+        answer: Array::holding(&[7; raw::ANSWER_WORDS]),
+        building: Array::holding(&[7; raw::BUILDING_WORDS]),
+        ..Lent::default()
+    };
+    let call = match words[..] {
+        ["read", end, connection_text, table, bytes_text] => {
+            lent.connection = connection(connection_text);
+            lent.table = places(table);
+            match end {
+                "container" => Call::ReadAtContainer(bytes(bytes_text)),
+                "server" => Call::ReadAtServer(bytes(bytes_text)),
+                _ => panic!("no end: {case}"),
+            }
+        }
+        ["cping", connection_text, buffer] => {
+            lent.connection = connection(connection_text);
+            lent.buffer = Array::holding(&bytes(buffer));
+            Call::CPing
+        }
+        ["cpong", connection_text, buffer] => {
+            lent.connection = connection(connection_text);
+            lent.buffer = Array::holding(&bytes(buffer));
+            Call::CPong
+        }
+        [name @ ("body" | "chunk" | "get" | "end"), connection_text, buffer, argument] => {
+            lent.connection = connection(connection_text);
+            lent.buffer = Array::holding(&bytes(buffer));
+            match name {
+                "body" => Call::Body(bytes(argument)),
+                "chunk" => Call::BodyChunk(bytes(argument)),
+                "get" => Call::GetBody(number(argument)),
+                _ => Call::End(number(argument)),
+            }
+        }
+        ["forward", buffer, method, protocol, req_uri, addr, host, name, port, ssl] => {
+            lent.buffer = Array::holding(&bytes(buffer));
+            let strings = [protocol, req_uri, addr, host, name].map(string);
+            let mut fixed = vec![number(method), number(port), number(ssl)];
+            fixed.extend(strings.iter().map(|string| string.null));
+            let strings = strings.map(|string| string.bytes);
+            Call::BeginForward { fixed, strings }
+        }
+        ["sendheaders", buffer, status, message] => {
+            lent.buffer = Array::holding(&bytes(buffer));
+            Call::BeginSendHeaders {
+                status: number(status),
+                message: string(message),
+            }
+        }
+        ["header", record, buffer, name, value] => {
+            lent.building = building(record);
+            lent.buffer = Array::holding(&bytes(buffer));
+            let value = string(value);
+            match name.split_once(':') {
+                Some(("code", code)) => Call::HeaderCoded {
+                    code: number(code),
+                    value,
+                },
+                Some(("str", name)) => Call::HeaderSpelled {
+                    name: string(name),
+                    value,
+                },
+                _ => panic!("no header name: {case}"),
+            }
+        }
+        ["attribute", record, buffer, code, value] => {
+            lent.building = building(record);
+            lent.buffer = Array::holding(&bytes(buffer));
+            let code = number(code);
+            match *value.split(':').collect::<Vec<_>>() {
+                ["str", value] => Call::AttributeText {
+                    code,
+                    value: string(value),
+                },
+                ["int", value] => Call::AttributeInteger {
+                    code,
+                    value: number(value),
+                },
+                ["pair", name, value] => Call::AttributePair {
+                    code,
+                    name: string(name),
+                    value: string(value),
+                },
+                _ => panic!("no attribute value: {case}"),
+            }
+        }
+        ["close", connection_text, record, buffer] => {
+            lent.connection = connection(connection_text);
+            lent.building = building(record);
+            lent.buffer = Array::holding(&bytes(buffer));
+            Call::Close
+        }
+        _ => panic!("no case: {case}"),
+    };
+    (call, lent)
+}
+
+/// The answer as the vectors tell it.
+fn answer(call: &Call, status: u32, lent: &Lent) -> String {
+    let told = lent.answer.get();
+    match status {
+        raw::DONE => {}
+        raw::NEEDS => return format!("needs {}", told[raw::BYTES]),
+        number => return format!("refused {number}"),
+    }
+    match call {
+        Call::ReadAtContainer(_) | Call::ReadAtServer(_) => {
+            let (kind, fields) = packet_text(told);
+            format!(
+                "ok {kind} taken={} conn={}{fields} table={}",
+                told[raw::BYTES],
+                connection_text(lent),
+                places_text(lent.table.get()),
+            )
+        }
+        Call::CPing
+        | Call::CPong
+        | Call::Body(_)
+        | Call::BodyChunk(_)
+        | Call::GetBody(_)
+        | Call::End(_)
+        | Call::Close => format!(
+            "ok len={} conn={} buf={}",
+            told[raw::BYTES],
+            connection_text(lent),
+            bytes_text(lent.buffer.get()),
+        ),
+        _ => format!(
+            "ok rec={} buf={}",
+            building_text(lent),
+            bytes_text(lent.buffer.get())
+        ),
+    }
+}
+
+/// The kind of a packet that was read, and its fields.
+fn packet_text(told: &[u32]) -> (&'static str, String) {
+    match told[raw::KIND] {
+        raw::CPING => ("cping", String::new()),
+        raw::CPONG => ("cpong", String::new()),
+        raw::FORWARD => (
+            "forward",
+            format!(
+                " method={} protocol={} req_uri={} remote_addr={} remote_host={} server_name={} \
+                 port={} ssl={} headers={} attributes={}",
+                told[raw::METHOD],
+                told[raw::PROTOCOL],
+                told[raw::REQ_URI],
+                told[raw::REMOTE_ADDR],
+                told[raw::REMOTE_HOST],
+                told[raw::SERVER_NAME],
+                told[raw::SERVER_PORT],
+                told[raw::IS_SSL],
+                told[raw::HEADERS],
+                told[raw::ATTRIBUTES],
+            ),
+        ),
+        raw::BODY => (
+            "body",
+            format!(" start={} len={}", told[raw::START], told[raw::LEN]),
+        ),
+        raw::GET_BODY => ("get", format!(" asked={}", told[raw::ASKED_FOR])),
+        raw::SEND_HEADERS => (
+            "sendheaders",
+            format!(
+                " status={} message={} headers={}",
+                told[raw::STATUS],
+                told[raw::MESSAGE],
+                told[raw::HEADERS]
+            ),
+        ),
+        raw::BODY_CHUNK => (
+            "chunk",
+            format!(" start={} len={}", told[raw::START], told[raw::LEN]),
+        ),
+        raw::END => ("end", format!(" reuse={}", told[raw::REUSE])),
+        kind => panic!("no kind: {kind}"),
+    }
+}
+
+/// Bytes from hexadecimal digits.
+fn bytes(text: &str) -> Vec<u8> {
+    if text == "-" {
+        return Vec::new();
+    }
+    let byte = |at| u8::from_str_radix(&text[at..at + 2], 16).expect("hexadecimal digits");
+    (0..text.len()).step_by(2).map(byte).collect()
+}
+
+/// A string from hexadecimal digits, or null.
+fn string(text: &str) -> Text {
+    match text {
+        "null" => Text::null(),
+        _ => Text::of(&bytes(text)),
+    }
+}
+
+/// A number from decimal digits.
+fn number(text: &str) -> u32 {
+    text.parse().expect("decimal digits")
+}
+
+/// A table of places from four hexadecimal digits each.
+fn places(text: &str) -> Array<u16> {
+    let bytes = bytes(text);
+    let places: Vec<u16> = bytes
+        .chunks(2)
+        .map(|pair| u16::from_be_bytes([pair[0], pair[1]]))
+        .collect();
+    Array::holding(&places)
+}
+
+/// A connection from its text.
+fn connection(text: &str) -> Array<u32> {
+    words(
+        text,
+        "IPBC",
+        [raw::IDLE, raw::PINGED, raw::BUSY, raw::CLOSED],
+    )
+}
+
+/// A building record from its text.
+fn building(text: &str) -> Array<u32> {
+    words(text, "FH", [raw::FORWARD, raw::SEND_HEADERS])
+}
+
+/// Words from their text, whose first one is a letter.
+fn words<const N: usize>(text: &str, letters: &str, meanings: [u32; N]) -> Array<u32> {
+    let (letter, numbers) = text.split_at(1);
+    let first = letters.find(letter).expect("a letter that is listed");
+    let mut words = vec![meanings[first]];
+    words.extend(numbers.split(',').skip(1).map(number));
+    Array::holding(&words)
+}
+
+/// The text of bytes.
+fn bytes_text(bytes: &[u8]) -> String {
+    match bytes {
+        [] => "-".to_string(),
+        _ => bytes.iter().map(|byte| format!("{byte:02x}")).collect(),
+    }
+}
+
+/// The text of a table.
+fn places_text(places: &[u16]) -> String {
+    match places {
+        [] => "-".to_string(),
+        _ => places.iter().map(|place| format!("{place:04x}")).collect(),
+    }
+}
+
+/// The text of a connection.
+fn connection_text(lent: &Lent) -> String {
+    let &[state, left, due, asked, headers] = lent.connection.get() else {
+        panic!("a connection has five words");
+    };
+    let letter = ["I", "P", "B", "C"][state as usize];
+    format!("{letter},{left},{due},{asked},{headers}")
+}
+
+/// The text of a building record.
+fn building_text(lent: &Lent) -> String {
+    let &[kind, next, count, headers, attributes] = lent.building.get() else {
+        panic!("a building record has five words");
+    };
+    let letter = if kind == raw::FORWARD { "F" } else { "H" };
+    format!("{letter},{next},{count},{headers},{attributes}")
+}
