@@ -1,0 +1,10 @@
+pub mod Lists
+pub mod Records
+pub mod Within
+pub mod Effects
+pub mod Found
+pub mod Views
+pub mod Names
+pub mod FixedWords
+pub mod Pieces
+pub mod Unchanged

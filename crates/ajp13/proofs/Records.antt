@@ -1,0 +1,223 @@
+-- Words and what they say. Words without fault are all there and fit their types; a connection's words have no fault and say the
+-- connection; words without fault are those of the connection that they say. So it is with a building record.
+-- Assumes nothing.
+use native.Mathlib.Omega.{arith}
+use borrow.Author.Tests.{eq-eqb, ne-eqb, eqb-true, eqb-false, le-leb, leb-true}
+use mathlib.Core.Path.{_≡_, refl, sym}
+use mathlib.Core.Bool.{Bool, true, false}
+use mathlib.Core.List.{List, [], _∷_}
+use Prim.Native.Nat.{ℕ, _≤_}
+use lib.Dec.{leb, eqb}
+use lib.ListN.{length, getD}
+use Rattle.wire.specs.Pick.{pick, both, either}
+use Rattle.connection.specs.declared.State.{State}
+use Rattle.connection.specs.declared.Connection.{Connection}
+use Rattle.payload.specs.Sequence.{booleanNumber}
+use Rattle.fields.specs.Fault.{unless}
+use Rattle.fields.proofs.Sizes.{unless-none}
+use Rattle.pieces.specs.Record as building
+use Rattle.pieces.specs.declared.BuildingKind.{BuildingKind}
+use Rattle.pieces.specs.declared.Building.{Building}
+use Rattle.ajp13.specs.Status as status
+use Rattle.ajp13.specs.Words.{areConnection, stateWord, stateIn, flagIn, connectionFault, connectionIn, connectionWords, areBuilding, kindWord, isForward, isSendHeaders, buildingKindIn, buildingFault, buildingIn, buildingWords}
+use Rattle.ajp13.specs.Private.{ConnectionFits, BuildingFits}
+
+-- where both tests hold, each does
+both-true : (a b : Bool) → both a b ≡ true → (a ≡ true) × (b ≡ true)
+both-true true true e = (refl, refl)
+both-true true false e = absurd (let z : _≡_ {A = ℕ} 0 1 = cc in omega arith)
+both-true false b e = absurd (let z : _≡_ {A = ℕ} 0 1 = cc in omega arith)
+
+all-four : (a b c d : Bool) → both (both (both a b) c) d ≡ true → (a ≡ true) × ((b ≡ true) × ((c ≡ true) × (d ≡ true)))
+all-four a b c d e =
+    let last = both-true (both (both a b) c) d e in
+    let third = both-true (both a b) c (last .0) in
+    let first = both-true a b (third .0) in
+    (first .0, (first .1, (third .1, last .1)))
+
+all-five : (a b c d e : Bool) → both (both (both (both a b) c) d) e ≡ true
+    → (a ≡ true) × ((b ≡ true) × ((c ≡ true) × ((d ≡ true) × (e ≡ true))))
+all-five a b c d e h =
+    let last = both-true (both (both (both a b) c) d) e h in
+    let four = all-four a b c d (last .0) in
+    (four .0, (four .1 .0, (four .1 .1 .0, (four .1 .1 .1, last .1))))
+
+module _ (words : List ℕ) where
+  -- the fault of a connection's words by their number
+  pub connection-short : (length words ≡ 5 → ⊥) → status.connectionLength ≡ connectionFault words
+  unfolding connectionFault
+  connection-short h = rw (ne-eqb (length words) 5 h)
+
+  pub connection-judged : length words ≡ 5 → unless (areConnection words) status.connectionWord ≡ connectionFault words
+  unfolding connectionFault
+  connection-judged h = rw (eq-eqb (length words) 5 h)
+
+  -- of a building record's
+  pub building-short : (length words ≡ 5 → ⊥) → status.buildingLength ≡ buildingFault words
+  unfolding buildingFault
+  building-short h = rw (ne-eqb (length words) 5 h)
+
+  pub building-judged : length words ≡ 5 → unless (areBuilding words) status.buildingWord ≡ buildingFault words
+  unfolding buildingFault
+  building-judged h = rw (eq-eqb (length words) 5 h)
+
+-- words without fault are all there, and each of them can be
+connection-none : (words : List ℕ) → connectionFault words ≡ 0 → (length words ≡ 5) × (areConnection words ≡ true)
+unfolding connectionFault
+connection-none words h = go (eqb (length words) 5) refl h
+  where
+    go : (all : Bool) → eqb (length words) 5 ≡ all → pick all (unless (areConnection words) status.connectionWord) status.connectionLength ≡ 0
+        → (length words ≡ 5) × (areConnection words ≡ true)
+    go true e q = (eqb-true (length words) 5 e, unless-none (areConnection words) status.connectionWord (omega arith) q)
+    go false e q = absurd (omega (arith, q))
+
+building-none : (words : List ℕ) → buildingFault words ≡ 0 → (length words ≡ 5) × (areBuilding words ≡ true)
+unfolding buildingFault
+building-none words h = go (eqb (length words) 5) refl h
+  where
+    go : (all : Bool) → eqb (length words) 5 ≡ all → pick all (unless (areBuilding words) status.buildingWord) status.buildingLength ≡ 0
+        → (length words ≡ 5) × (areBuilding words ≡ true)
+    go true e q = (eqb-true (length words) 5 e, unless-none (areBuilding words) status.buildingWord (omega arith) q)
+    go false e q = absurd (omega (arith, q))
+
+-- a connection's words, test by test
+abbrev connectionTests : (words : List ℕ) → areConnection words ≡ true
+    → (leb (getD words 0 0) 3 ≡ true) × ((leb (getD words 2 0) 1 ≡ true) × ((leb (getD words 3 0) 65535 ≡ true) × (leb (getD words 4 0) 1 ≡ true)))
+connectionTests words = all-four (leb (getD words 0 0) 3) (leb (getD words 2 0) 1) (leb (getD words 3 0) 65535) (leb (getD words 4 0) 1)
+
+-- a building record's
+abbrev buildingTests : (words : List ℕ) → areBuilding words ≡ true
+    → (either (isForward (getD words 0 0)) (isSendHeaders (getD words 0 0)) ≡ true)
+    × ((leb (getD words 1 0) 65535 ≡ true) × ((leb (getD words 2 0) 65535 ≡ true) × ((leb (getD words 3 0) 65535 ≡ true) × (leb (getD words 4 0) 1 ≡ true))))
+buildingTests words =
+    all-five (either (isForward (getD words 0 0)) (isSendHeaders (getD words 0 0)))
+    (leb (getD words 1 0) 65535) (leb (getD words 2 0) 65535) (leb (getD words 3 0) 65535) (leb (getD words 4 0) 1)
+
+-- so their numbers fit
+pub connection-fits : (words : List ℕ) → connectionFault words ≡ 0 → ConnectionFits words
+connection-fits words h =
+    let none = connection-none words h in
+    record { all = none .0; asked = leb-true (getD words 3 0) 65535 (connectionTests words (none .1) .1 .1 .0) }
+
+pub building-fits : (words : List ℕ) → buildingFault words ≡ 0 → BuildingFits words
+building-fits words h =
+    let none = building-none words h in
+    let tests = buildingTests words (none .1) in
+    record {
+      all = none .0;
+      next = leb-true (getD words 1 0) 65535 (tests .1 .0);
+      count = leb-true (getD words 2 0) 65535 (tests .1 .1 .0);
+      soFar = leb-true (getD words 3 0) 65535 (tests .1 .1 .1 .0);
+    }
+
+-- a state, a flag and a packet in pieces, there and back
+state-back : (state : State) → stateIn (stateWord state) ≡ state
+unfolding stateIn
+state-back State.Idle = refl
+state-back State.Pinged = refl
+state-back State.Busy = refl
+state-back State.Closed = refl
+
+flag-back : (flag : Bool) → flagIn (booleanNumber flag) ≡ flag
+flag-back true = refl
+flag-back false = refl
+
+kind-back : (kind : BuildingKind) → buildingKindIn (kindWord (building.kindIn kind)) ≡ kind
+unfolding buildingKindIn
+kind-back BuildingKind.Forward = refl
+kind-back BuildingKind.SendHeaders = refl
+
+-- a connection's words say the connection
+pub connection-back : (c : Connection) → connectionIn (connectionWords c) ≡ c
+unfolding connectionIn connectionWords
+connection-back c = rw (state-back (c .state), flag-back (c .due), flag-back (c .headers))
+
+-- and a building record's the record
+pub building-back : (r : Building) → buildingIn (buildingWords r) ≡ r
+unfolding buildingIn buildingWords
+building-back r = rw (kind-back (r .kind), flag-back (r .attributes))
+
+-- a flag's word is a flag, and a state's a state
+flag-right : (flag : Bool) → leb (booleanNumber flag) 1 ≡ true
+flag-right true = refl
+flag-right false = refl
+
+state-right : (state : State) → leb (stateWord state) 3 ≡ true
+state-right State.Idle = refl
+state-right State.Pinged = refl
+state-right State.Busy = refl
+state-right State.Closed = refl
+
+kind-right : (kind : BuildingKind) → either (isForward (kindWord (building.kindIn kind))) (isSendHeaders (kindWord (building.kindIn kind))) ≡ true
+kind-right BuildingKind.Forward = refl
+kind-right BuildingKind.SendHeaders = refl
+
+-- the words of a connection whose number fits have no fault
+pub connection-right : (c : Connection) → c .asked ≤ 65535 → connectionFault (connectionWords c) ≡ 0
+unfolding connectionFault connectionWords
+connection-right c h =
+    rw (state-right (c .state), flag-right (c .due), le-leb (c .asked) 65535 h, flag-right (c .headers))
+
+-- and so have those of a building record
+pub building-right : (r : Building) → r .next .0 ≤ 65535 → r .count .0 ≤ 65535 → r .headers ≤ 65535 → buildingFault (buildingWords r) ≡ 0
+unfolding buildingFault buildingWords
+building-right r h k l =
+    rw (kind-right (r .kind), le-leb (r .next .0) 65535 h, le-leb (r .count .0) 65535 k, le-leb (r .headers) 65535 l, flag-right (r .attributes))
+
+-- words that can be are those of what they say: a state's, a flag's, a packet's in pieces
+state-forth : (n : ℕ) → n ≤ 3 → stateWord (stateIn n) ≡ n
+unfolding stateIn
+state-forth n h = go (eqb n 0) (eqb n 1) (eqb n 2) refl refl refl
+  where
+    go : (a b c : Bool) → eqb n 0 ≡ a → eqb n 1 ≡ b → eqb n 2 ≡ c
+        → stateWord (pick a State.Idle (pick b State.Pinged (pick c State.Busy State.Closed))) ≡ n
+    go true b c p q r = sym (eqb-true n 0 p)
+    go false true c p q r = sym (eqb-true n 1 q)
+    go false false true p q r = sym (eqb-true n 2 r)
+    go false false false p q r = omega (arith, eqb-false n 0 p, eqb-false n 1 q, eqb-false n 2 r)
+
+flag-forth : (n : ℕ) → n ≤ 1 → booleanNumber (flagIn n) ≡ n
+flag-forth n h = go (eqb n 1) refl
+  where
+    go : (t : Bool) → eqb n 1 ≡ t → booleanNumber t ≡ n
+    go true e = sym (eqb-true n 1 e)
+    go false e = omega (arith, eqb-false n 1 e)
+
+kind-forth : (n : ℕ) → either (isForward n) (isSendHeaders n) ≡ true → kindWord (building.kindIn (buildingKindIn n)) ≡ n
+unfolding buildingKindIn
+kind-forth n h = go (eqb n 3) (eqb n 6) refl refl h
+  where
+    go : (a b : Bool) → eqb n 3 ≡ a → eqb n 6 ≡ b → either a b ≡ true
+        → kindWord (building.kindIn (pick a BuildingKind.Forward BuildingKind.SendHeaders)) ≡ n
+    go true b p q e = sym (eqb-true n 3 p)
+    go false true p q e = sym (eqb-true n 6 q)
+    go false false p q e = absurd (let z : _≡_ {A = ℕ} 0 1 = cc in omega arith)
+
+-- five words, one by one
+five : (words : List ℕ) → length words ≡ 5
+    → words ≡ getD words 0 0 ∷ getD words 1 0 ∷ getD words 2 0 ∷ getD words 3 0 ∷ getD words 4 0 ∷ []
+five [] e = absurd (omega (arith, e))
+five (a ∷ []) e = absurd (omega (arith, e))
+five (a ∷ b ∷ []) e = absurd (omega (arith, e))
+five (a ∷ b ∷ c ∷ []) e = absurd (omega (arith, e))
+five (a ∷ b ∷ c ∷ d ∷ []) e = absurd (omega (arith, e))
+five (a ∷ b ∷ c ∷ d ∷ f ∷ []) e = refl
+five (a ∷ b ∷ c ∷ d ∷ f ∷ g ∷ l) e = absurd (omega (arith, e))
+
+-- words without fault are those of the connection that they say
+pub connection-forth : (words : List ℕ) → connectionFault words ≡ 0 → connectionWords (connectionIn words) ≡ words
+unfolding connectionIn connectionWords
+connection-forth words h =
+    let none = connection-none words h in
+    let tests = connectionTests words (none .1) in
+    rw (state-forth (getD words 0 0) (leb-true _ 3 (tests .0)), flag-forth (getD words 2 0) (leb-true _ 1 (tests .1 .0)), flag-forth (getD words 4 0) (leb-true _ 1 (tests .1 .1 .1)))
+    (sym (five words (none .0)))
+
+-- and so it is with a building record
+pub building-forth : (words : List ℕ) → buildingFault words ≡ 0 → buildingWords (buildingIn words) ≡ words
+unfolding buildingIn buildingWords
+building-forth words h =
+    let none = building-none words h in
+    let tests = buildingTests words (none .1) in
+    rw (kind-forth (getD words 0 0) (tests .0), flag-forth (getD words 4 0) (leb-true _ 1 (tests .1 .1 .1 .1)))
+    (sym (five words (none .0)))

@@ -1,0 +1,39 @@
+-- `name::name_fault` meets its contract: the array is looked at before the arguments.
+-- Assumes nothing.
+use mathlib.Core.Path.{_∙_, refl}
+use Rattle.ajp13.specs.Name.{nameFault}
+use borrow.Author.Needs.{needs}
+use Rattle.ajp13.proofs.name.name_fault.Statement.{statement}
+use Rattle.ajp13.proofs.name.name_fault.Tie as tie
+
+unless-requires : tie.Need-unless-requires
+unless-requires c κs = search needs
+
+list-fault-requires : tie.Need-list-fault-requires
+list-fault-requires c κs = search needs
+
+number-fault-requires : tie.Need-number-fault-requires
+number-fault-requires c κs = search needs
+
+or-else-requires : tie.Need-or-else-requires
+or-else-requires c κs = search needs
+
+or-else-requires-2 : tie.Need-or-else-requires-2
+or-else-requires-2 c κs = search needs
+
+returns : tie.Need-returns
+unfolding nameFault
+returns c =
+    c .or-else2 .ensures
+    ∙ rw (c .before .or-else .ensures, c .before .before .before .before .unless .ensures, c .before .before .before .list-fault .ensures, c .before .before .number-fault .ensures) refl
+
+pub name-fault-spec : {M : Type 1} → statement M
+name-fault-spec =
+    tie.close
+    (tie.spec
+    unless-requires
+    list-fault-requires
+    number-fault-requires
+    or-else-requires
+    or-else-requires-2
+    returns)

@@ -1,0 +1,64 @@
+-- `name::put_name` meets its contract: what the table tells is written where the code is listed.
+-- Assumes nothing.
+use native.Mathlib.Omega.{arith}
+use mathlib.Core.Path.{_≡_, refl, sym, ap, _∙_}
+use Rattle.wire.specs.Bytes.{put}
+use mathlib.Core.Bool.{true, false}
+use Rattle.names.specs.Names.{isListed}
+use Rattle.names.specs.declared.Name.{Name}
+use Rattle.names.proofs.Codes.{name-length}
+use borrow.Author.Needs.{needs}
+use Rattle.ajp13.proofs.name.put_name.Statement.{statement}
+use Rattle.ajp13.proofs.name.put_name.Tie as tie
+
+name-of-requires : tie.Need-name-of-requires
+name-of-requires c κs = search needs
+
+cast-length : tie.Need-cast-length
+cast-length c =
+    let a = c .before .before .before .before .args in
+    omega (arith, ap (λ (n : Name). n .length) (c .before .before .name-of .ensures), name-length (a .list) (a .code) .0)
+
+is-listed-requires : tie.Need-is-listed-requires
+is-listed-requires c κs = search needs
+
+slice-aggregate-bytes : tie.Need-slice-aggregate-bytes
+slice-aggregate-bytes c = search needs
+
+bytes-requires : tie.Need-bytes-requires
+bytes-requires c κs = search needs
+
+same-length : tie.Need-same-length
+same-length c = search needs
+
+returns : tie.Need-returns
+returns c =
+    let listed = c .before .before .before .before .before .before in
+    let told = listed .before .before .before in
+    let a = told .before .before .args in
+    let is : isListed (a .list) (a .code) ≡ true = sym (listed .is-listed .ensures) ∙ c .before .before .before .before .before .if1 .taken in (
+      ap (λ (n : Name). n .length) (told .name-of .ensures),
+      c .before .before .bytes3 .ensures
+          ∙ ap (λ (n : Name). put (a .name .now) 0 (n .bytes)) (told .name-of .ensures)
+          ∙ rw is refl,
+    )
+
+returns-2 : tie.Need-returns-2
+returns-2 c =
+    let told = c .before .before .before .before in
+    let a = told .before .before .args in
+    let is : isListed (a .list) (a .code) ≡ false = sym (c .before .is-listed .ensures) ∙ c .if1 .left in
+    (ap (λ (n : Name). n .length) (told .name-of .ensures), rw is refl)
+
+pub put-name-spec : {M : Type 1} → statement M
+put-name-spec =
+    tie.close
+    (tie.spec
+    name-of-requires
+    cast-length
+    is-listed-requires
+    slice-aggregate-bytes
+    bytes-requires
+    same-length
+    returns
+    returns-2)

@@ -1,0 +1,43 @@
+-- `view::ajp13_attribute_kind_at` meets its contract: a fault in the place is told, else what the view shows there.
+-- Assumes nothing.
+use mathlib.Core.Path.{sym, ap, _∙_}
+use Rattle.ajp13.proofs.Found.{fault-told, later-told}
+use Rattle.ajp13.proofs.Effects.{number-within}
+use Prim.Native.Nat.{ℕ}
+use lib.ListN.{getD}
+use Rattle.names.specs.Attribute.{attributeKind}
+use Rattle.ajp13.specs.View.{kindNumber}
+use borrow.Author.Needs.{needs}
+use Rattle.ajp13.proofs.view.ajp13_attribute_kind_at.Statement.{statement}
+use Rattle.ajp13.proofs.view.ajp13_attribute_kind_at.Tie as tie
+
+number-fault-requires : tie.Need-number-fault-requires
+number-fault-requires c κs = search needs
+
+returns : tie.Need-returns
+returns c = fault-told (c .before .number-fault .ensures) _ (c .if1 .taken)
+
+place-in-requires : tie.Need-place-in-requires
+place-in-requires c κs = number-within _ (sym (c .before .number-fault .ensures) ∙ c .if1 .left)
+
+attribute-kind-at-requires : tie.Need-attribute-kind-at-requires
+attribute-kind-at-requires c κs = search needs
+
+kind-number-requires : tie.Need-kind-number-requires
+kind-number-requires c κs = search needs
+
+returns-2 : tie.Need-returns-2
+returns-2 c =
+    later-told (c .before .before .before .before .number-fault .ensures) (c .before .before .before .if1 .left)
+    (c .kind-number .ensures ∙ ap kindNumber (c .before .attribute-kind-at .ensures ∙ ap (λ (i : ℕ). attributeKind (getD (c .before .before .before .before .before .before .args .packet .now) i 0)) (c .before .before .place-in .ensures)))
+
+pub ajp13-attribute-kind-at-spec : {M : Type 1} → statement M
+ajp13-attribute-kind-at-spec =
+    tie.close
+    (tie.spec
+    number-fault-requires
+    returns
+    place-in-requires
+    attribute-kind-at-requires
+    kind-number-requires
+    returns-2)

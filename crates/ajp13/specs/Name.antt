@@ -1,0 +1,44 @@
+-- The lists of names by their numbers, and what the calls on names and codes tell.
+-- The C boundary.
+-- Assumes nothing.
+use mathlib.Core.List.{List}
+use Prim.Native.Nat.{ℕ}
+use lib.Dec.{leb, eqb}
+use lib.ListN.{length}
+use Rattle.wire.specs.Pick.{pick, both}
+use Rattle.names.specs.Names.{isListed, nameFor}
+use Rattle.names.specs.Row.{nameRoom, rowOf}
+use Rattle.names.specs.declared.CodeFound.{CodeFound}
+use Rattle.names.specs.declared.NameList.{NameList}
+use Rattle.fields.specs.Fault.{unless, orElse}
+use Rattle.ajp13.specs.Status as status
+use Rattle.ajp13.specs.Words.{numberFault}
+
+-- the last of the lists' numbers
+abbrev pub lastList : ℕ
+lastList = 3
+
+-- the list that a number says
+unfoldable pub listIn : ℕ → NameList
+listIn word =
+    pick (eqb word 0) NameList.Methods
+    (pick (eqb word 1) NameList.RequestHeaders (pick (eqb word 2) NameList.ResponseHeaders NameList.Attributes))
+
+-- the fault of a list's number
+abbrev pub listFault : ℕ → ℕ
+listFault list = unless (leb list lastList) status.argument
+
+-- the fault of a call that tells a name: by the array lent for it, by the list's number and by the code
+unfoldable pub nameFault : List ℕ → ℕ → ℕ → ℕ
+nameFault name list code =
+    orElse (unless (eqb (length name) nameRoom) status.answerLength) (orElse (listFault list) (numberFault code))
+
+-- the array after it: the name with zeros behind it where it is listed
+unfoldable pub nameAfter : List ℕ → ℕ → ℕ → List ℕ
+nameAfter name list code =
+    pick (both (eqb (nameFault name list code) status.done) (isListed (listIn list) code)) (rowOf (nameFor (listIn list) code)) name
+
+-- the number of a code that was looked for: 0 where the name is not listed
+abbrev pub codeNumber : CodeFound → ℕ
+codeNumber (CodeFound.Code code) = code
+codeNumber CodeFound.NotListed = 0

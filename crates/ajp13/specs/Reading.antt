@@ -1,0 +1,27 @@
+-- What reading a packet at either end leaves.
+-- The C boundary: "needs" writes the answer alone, a refusal nothing; the reader's own definitions say all else.
+-- Assumes nothing.
+use mathlib.Core.List.{List}
+use Prim.Native.Nat.{ℕ}
+use lib.ListN.{length}
+use Rattle.wire.specs.declared.Direction.{Direction}
+use Rattle.reader.specs.Meaning.{Meaning, needs, refused, accepted}
+use Rattle.reader.specs.Reading.{reading, tableAfter}
+use Rattle.ajp13.specs.Status as status
+use Rattle.ajp13.specs.Words.{connectionIn, connectionWords}
+use Rattle.ajp13.specs.Answer.{needsWords, toldWords}
+use Rattle.ajp13.specs.Effect.{Effect, leaves, checked, callFault}
+
+-- by the reader's answer, with the table as the reader leaves it
+abbrev pub afterReading : Meaning → List ℕ → List ℕ → List ℕ → Effect
+afterReading (needs n) connection table answer = leaves status.needs connection table (needsWords n)
+afterReading (refused n) connection table answer = leaves n connection table answer
+afterReading (accepted t taken after) connection table answer = leaves status.done (connectionWords after) table (toldWords t taken)
+
+-- reading at the end to which packets of this direction go
+unfoldable pub readEffect : Direction → List ℕ → List ℕ → List ℕ → List ℕ → Effect
+readEffect direction connection bytes table answer =
+    checked (callFault connection answer) connection table answer
+    (afterReading (reading direction (connectionIn connection) bytes (length table)) connection
+    (tableAfter direction (connectionIn connection) bytes table)
+    answer)

@@ -1,0 +1,42 @@
+-- What a call returns: `done`, the number of a refusal (`Refusal.antt` of `wire`), or one of the others here. These are above 65535, so
+-- that no number which a call hands out can be taken for one. `src/status.rt` has the same list.
+-- The C boundary.
+-- Assumes nothing.
+use Prim.Native.Nat.{ℕ}
+
+-- accepted, written, added
+abbrev pub done : ℕ
+done = 0
+
+-- the packet is not whole yet
+abbrev pub needs : ℕ
+needs = 0x10000
+
+-- a connection has not its number of words, or one that cannot be
+abbrev pub connectionLength : ℕ
+connectionLength = 0x10001
+
+abbrev pub connectionWord : ℕ
+connectionWord = 0x10002
+
+-- a building record has not its number of words, or one that cannot be
+abbrev pub buildingLength : ℕ
+buildingLength = 0x10003
+
+abbrev pub buildingWord : ℕ
+buildingWord = 0x10004
+
+-- a Forward's fixed numbers are not as many as they must be, or one cannot be
+abbrev pub fixedLength : ℕ
+fixedLength = 0x10005
+
+abbrev pub fixedWord : ℕ
+fixedWord = 0x10006
+
+-- an array lent for an answer has not that answer's length
+abbrev pub answerLength : ℕ
+answerLength = 0x10007
+
+-- an argument that cannot be
+abbrev pub argument : ℕ
+argument = 0x10008

@@ -1,0 +1,42 @@
+// Closing a packet that was built in pieces.
+ghost use mathlib.Core.Path.{_≡_};
+ghost use Rattle.ajp13.specs.Effect.{leaves};
+ghost use Rattle.ajp13.specs.Sending.{closeFault, closeEffect};
+use crate::answer::answer_fault;
+use crate::send::tell;
+use crate::status;
+use crate::status::or_else;
+use crate::words::building_fault;
+use crate::words::building_in;
+use crate::words::connection_fault;
+use crate::words::connection_in;
+
+// What is looked for first.
+fn close_fault(connection: &[u32], building: &[u32], answer: &[u32]) -> u32
+    ensures { λ r. ⌜ r ≡ closeFault (now (connection .entry)) (now (building .entry)) (now (answer .entry)) ⌝ }
+{
+    or_else(
+        or_else(connection_fault(connection), building_fault(building)),
+        answer_fault(answer),
+    )
+}
+
+// Closes the packet that a building record says.
+#[no_mangle]
+pub extern "C" fn ajp13_close(
+    connection: &mut [u32],
+    building: &[u32],
+    buffer: &mut [u8],
+    answer: &mut [u32],
+) -> u32
+    ensures { λ r. ⌜ leaves r (now (connection .exit)) (now (buffer .exit)) (now (answer .exit)) ≡ closeEffect (now (building .entry)) (now (connection .entry)) (now (buffer .entry)) (now (answer .entry)) ⌝ }
+{
+    let found = close_fault(connection, building, answer);
+    if found != status::DONE {
+        return found;
+    }
+    let record = building_in(building);
+    let kind = record.kind();
+    let sent = closing::close(connection_in(connection), record, buffer);
+    tell(kind.kind(), sent, connection, answer)
+}
