@@ -1,7 +1,7 @@
 -- Laws of the headers' definitions: each outcome stated once, that what is answered lies inside the packet, and the loop that reads them.
 -- Assumes nothing.
 use mathlib.Core.Path.{_≡_, refl, sym, ap, subst}
-use mathlib.Core.Bool.{Bool, true, false}
+use mathlib.Core.Bool.{Bool, true, false, not}
 use mathlib.Core.List.{List, [], _∷_}
 use Prim.Native.Nat.{ℕ, zero, suc, _+_, _-_, _≤_, _<_}
 use native.Mathlib.Nat.{zero-add}
@@ -9,10 +9,10 @@ use native.Mathlib.Omega.{arith}
 use borrow.Author.Tests.{le-leb}
 use lib.Dec.{leb, eqb}
 use lib.ListN.{length, getD}
-use Rattle.wire.specs.Pick.{pick, all}
-use Rattle.wire.specs.Refusal.{none, cutShort}
+use Rattle.wire.specs.Pick.{pick, both, either, all}
+use Rattle.wire.specs.Refusal.{none, cutShort, stringWrong}
 use Rattle.wire.specs.Bytes.{part, over, put}
-use Rattle.wire.specs.Field.{integerAt, stringAt, isOptional}
+use Rattle.wire.specs.Field.{integerAt, nullLength, isOptional, holdsBarred, textAt, afterLength, stringOf, stringAt}
 use Rattle.wire.specs.declared.Direction.{Direction}
 use Rattle.wire.specs.declared.StringField.{StringField}
 use Rattle.wire.specs.declared.read.NumberRead.{NumberRead}
@@ -45,6 +45,48 @@ pub spelled-is : (d : Direction) (s : List ℕ) (start len next : ℕ) (text : L
     → fault ≡ spelledFault d text → eqb fault none ≡ t → pick t (NameRead.Spelled start len next) (NameRead.Refused fault) ≡ spelledAt d s start len next
 unfolding spelledAt
 spelled-is d s start len next text fault t p q r = rw (← p, ← q, r)
+
+-- what follows a spelled name's length, by its tests and by the fault of its bytes; a proof that does not reach one says `refl`
+pub text-is : (d : Direction) (s : List ℕ) (start len : ℕ) (null empty there ended : Bool) (fault : ℕ) (t : Bool)
+    → eqb len nullLength ≡ null → eqb len 0 ≡ empty → leb (start + (len + 1)) (length s) ≡ there → eqb (getD s (start + len) 0) 0 ≡ ended
+    → fault ≡ pick (holdsBarred (part s start len)) stringWrong (spelledFault d (part s start len)) → eqb fault none ≡ t
+    → pick (either null empty) (NameRead.Refused stringWrong)
+    (pick there
+    (pick ended (pick t (NameRead.Spelled start len (start + len + 1)) (NameRead.Refused fault)) (NameRead.Refused stringWrong))
+    (NameRead.Refused cutShort))
+    ≡ spelledOf d s (afterLength s (isOptional StringField.HeaderName) len start)
+unfolding spelledAt afterLength textAt
+text-is d s start len null empty there ended fault t p q r e f g =
+    rw (p, q, r, e) (go null empty there ended (holdsBarred (part s start len)) f)
+  where
+    go : (null empty there ended barred : Bool) → fault ≡ pick barred stringWrong (spelledFault d (part s start len))
+        → pick (either null empty) (NameRead.Refused stringWrong)
+        (pick there
+        (pick ended (pick t (NameRead.Spelled start len (start + len + 1)) (NameRead.Refused fault)) (NameRead.Refused stringWrong))
+        (NameRead.Refused cutShort))
+        ≡ spelledOf d s
+        (pick (either null empty) (StringRead.Refused stringWrong)
+        (pick null (StringRead.Null start)
+        (pick there
+        (pick (both ended (not barred)) (StringRead.Text start len (start + len + 1)) (StringRead.Refused stringWrong))
+        (StringRead.Refused cutShort))))
+    go true empty there ended barred f = refl
+    go false true there ended barred f = refl
+    go false false false ended barred f = refl
+    go false false true false barred f = refl
+    go false false true true true f = rw (← g, f)
+    go false false true true false f = rw (← g, f)
+
+-- a spelled name, by what its length reads as
+pub spelled-by : (d : Direction) (s : List ℕ) (at : ℕ) (r : NumberRead) → integerAt s at ≡ r
+    → spelledOf d s (stringOf s (isOptional StringField.HeaderName) r) ≡ spelledOf d s (stringAt s at (isOptional StringField.HeaderName))
+unfolding stringAt
+spelled-by d s at r e = ap (λ (n : NumberRead). spelledOf d s (stringOf s (isOptional StringField.HeaderName) n)) (sym e)
+
+-- the fault of a spelled name's bytes, by that of the name and by whether they hold a barred one
+pub fault-is : (d : Direction) (text : List ℕ) (fault : ℕ) (barred : Bool) → fault ≡ spelledFault d text → holdsBarred text ≡ barred
+    → pick barred stringWrong fault ≡ pick (holdsBarred text) stringWrong (spelledFault d text)
+fault-is d text fault barred p q = rw (q, p)
 
 -- the name at a place, by its two tests and by what its string reads as; a proof that does not reach one says `refl`
 pub name-is : (d : Direction) (s : List ℕ) (at : ℕ) (there code optional : Bool) (r : StringRead) → leb (at + 2) (length s) ≡ there

@@ -3,17 +3,26 @@
 ghost use mathlib.Core.Path.{_≡_};
 ghost use Prim.Native.Nat.{_+_, _≤_};
 ghost use lib.ListN.{length};
+ghost use Rattle.wire.specs.Pick.{pick};
+ghost use Rattle.wire.specs.Refusal.{stringWrong};
 ghost use Rattle.wire.specs.Bytes.{over};
+ghost use Rattle.wire.specs.Field.{isOptional, holdsBarred, afterLength, stringAt};
+ghost use Rattle.names.specs.Token.{TokenFlags};
+ghost use Rattle.names.specs.Header.{spelledFault};
 ghost use Rattle.places.specs.Entries.{maxPlace};
-ghost use Rattle.headers.specs.Headers.{nameAt, codeNameOf, spelledAt, declares, declaredBy, valueAt, valued, headerAt, headersAt};
+ghost use Rattle.headers.specs.Headers.{nameAt, codeNameOf, spelledOf, declares, declaredBy, valueAt, valued, headerAt, headersAt};
 use names::header;
 use names::length;
 use names::length::Declared;
 use names::length::Declaring;
+use names::token;
+use names::token::BYTES;
 use places::put_pair;
 use wire::Direction;
+use wire::NULL_LENGTH;
 use wire::StringField;
 use wire::has_room;
+use wire::holds_barred;
 use wire::is_optional;
 use wire::part_of;
 use wire::read;
@@ -51,8 +60,9 @@ pub enum HeadersRead {
     Headers { declared: Declared, next: usize },
 }
 
-// The header name at a place. Nothing is judged before its first two bytes are there.
-pub fn name_at(packet: &[u8], at: usize, direction: Direction) -> NameRead
+// The header name at a place; `flags` are those of the token bytes. Nothing is judged before its first two bytes are there.
+pub fn name_at(packet: &[u8], at: usize, direction: Direction, flags: &[bool; BYTES]) -> NameRead
+    requires { ⌜ TokenFlags (now flags) ⌝ }
     ensures { λ r. ⌜ r ≡ nameAt direction (now (packet .entry)) at ⌝ }
 {
     if !has_room(packet.len(), at, 2) {
@@ -61,13 +71,7 @@ pub fn name_at(packet: &[u8], at: usize, direction: Direction) -> NameRead
     if header::begins_code(packet[at]) {
         return code_name(read::integer(packet, at), direction);
     }
-    match read::string(packet, at, is_optional(StringField::HeaderName)) {
-        StringRead::Refused(n) => NameRead::Refused(n),
-        StringRead::Null { next } => NameRead::Refused(refusal::STRING_WRONG),
-        StringRead::Text { start, len, next } => {
-            spelled_name(packet, start, len, next, direction)
-        }
-    }
+    spelled_name(packet, at, direction, flags)
 }
 
 // A name by its code, as read.
@@ -86,21 +90,68 @@ fn code_name(number: NumberRead, direction: Direction) -> NameRead
     }
 }
 
-// A name that is spelled out.
-fn spelled_name(
+// A name that is spelled out: a string, by its length.
+fn spelled_name(packet: &[u8], at: usize, direction: Direction, flags: &[bool; BYTES]) -> NameRead
+    requires { ⌜ TokenFlags (now flags) ⌝ }
+    ensures { λ r. ⌜ r ≡ spelledOf direction (now (packet .entry)) (stringAt (now (packet .entry)) at (isOptional StringField.HeaderName)) ⌝ }
+{
+    match read::integer(packet, at) {
+        NumberRead::Refused(n) => NameRead::Refused(n),
+        NumberRead::Number { value, next } => name_text(packet, next, value, direction, flags),
+    }
+}
+
+// What follows a spelled name's length, judged as `read::string` judges it, but for its bytes: they are looked through once, for all their
+// faults.
+fn name_text(
     packet: &[u8],
     start: usize,
-    len: usize,
-    next: usize,
+    length: u16,
     direction: Direction,
+    flags: &[bool; BYTES],
 ) -> NameRead
-    ensures { λ r. ⌜ r ≡ spelledAt direction (now (packet .entry)) start len next ⌝ }
+    requires { ⌜ TokenFlags (now flags) ⌝ }
+    ensures { λ r. ⌜ r ≡ spelledOf direction (now (packet .entry)) (afterLength (now (packet .entry)) (isOptional StringField.HeaderName) length start) ⌝ }
 {
-    let fault = header::spelled_fault(direction, part_of(packet, start, len));
+    if length == NULL_LENGTH {
+        return NameRead::Refused(refusal::STRING_WRONG);
+    }
+    if length == 0 {
+        return NameRead::Refused(refusal::STRING_WRONG);
+    }
+    let len = length as usize;
+    if !has_room(packet.len(), start, len + 1) {
+        return NameRead::Refused(refusal::CUT_SHORT);
+    }
+    let end = start + len;
+    if packet[end] != 0 {
+        return NameRead::Refused(refusal::STRING_WRONG);
+    }
+    let fault = text_fault(direction, &packet[start..end], flags);
     if fault != refusal::NONE {
         return NameRead::Refused(fault);
     }
-    NameRead::Spelled { start, len, next }
+    NameRead::Spelled {
+        start,
+        len,
+        next: end + 1,
+    }
+}
+
+// The refusal of a spelled name's bytes, 0 for none: a barred byte, then the name's own. A name without a fault holds no barred byte, so only
+// another is looked through for one.
+fn text_fault(direction: Direction, text: &[u8], flags: &[bool; BYTES]) -> u8
+    requires { ⌜ TokenFlags (now flags) ⌝ }
+    ensures { λ r. ⌜ r ≡ pick (holdsBarred (now (text .entry))) stringWrong (spelledFault direction (now (text .entry))) ⌝ }
+{
+    let fault = header::spelled_fault(direction, text, flags);
+    if fault == refusal::NONE {
+        return refusal::NONE;
+    }
+    if holds_barred(text) {
+        return refusal::STRING_WRONG;
+    }
+    fault
 }
 
 // Whether a header with this code declares the length of a request's body.
@@ -160,11 +211,18 @@ fn value_at(packet: &[u8], at: usize, declares: bool, before: Declared) -> Heade
     }
 }
 
-// The header at a place; `before` is what the headers before it declare.
-pub fn header_at(packet: &[u8], at: usize, direction: Direction, before: Declared) -> HeaderRead
+// The header at a place; `before` is what the headers before it declare, and `flags` are those of the token bytes.
+pub fn header_at(
+    packet: &[u8],
+    at: usize,
+    direction: Direction,
+    before: Declared,
+    flags: &[bool; BYTES],
+) -> HeaderRead
+    requires { ⌜ TokenFlags (now flags) ⌝ }
     ensures { λ r. ⌜ r ≡ headerAt direction (now (packet .entry)) at before ⌝ }
 {
-    match name_at(packet, at, direction) {
+    match name_at(packet, at, direction, flags) {
         NameRead::Refused(n) => HeaderRead::Refused(n),
         NameRead::Code { code, next } => {
             value_at(packet, next, declares_length(direction, code), before)
@@ -173,7 +231,8 @@ pub fn header_at(packet: &[u8], at: usize, direction: Direction, before: Declare
     }
 }
 
-// Reads `count` headers from a place on, and puts the places of each one's name and value into a table, from its start on.
+// Reads `count` headers from a place on, and puts the places of each one's name and value into a table, from its start on. The flags of the
+// token bytes are laid out once for all of them.
 pub fn headers(
     packet: &[u8],
     at: usize,
@@ -186,11 +245,12 @@ pub fn headers(
     ensures { λ r. ⌜ now (table .exit) ≡ over (now (table .entry)) 0 (headersAt direction (now (packet .entry)) at count Declared.Absent .places) ⌝ }
 {
     let most = count as usize;
+    let flags = token::flags();
     let mut declared = Declared::Absent;
     let mut place = at;
     let mut i = 0;
     while i < most {
-        match header_at(packet, place, direction, declared) {
+        match header_at(packet, place, direction, declared, &flags) {
             HeaderRead::Refused(n) => {
                 return HeadersRead::Refused(n);
             }

@@ -1,6 +1,6 @@
 -- Laws of the names: what it is to spell one, and where it stands in its list.
 -- Assumes nothing.
-use borrow.Author.Tests.{le-leb, lt-leb, lt-ltb, le-ltb, ltb-true, ltb-false}
+use borrow.Author.Tests.{le-leb, lt-leb, lt-ltb, le-ltb, ltb-true, ltb-false, ne-eqb}
 use mathlib.Core.Path.{_≡_, refl, sym, ap, _∙_}
 use mathlib.Core.Bool.{Bool, true, false}
 use mathlib.Core.List.{List, [], _∷_}
@@ -17,7 +17,7 @@ use Rattle.names.specs.declared.Name.{Name}
 use Rattle.names.specs.declared.NameList.{NameList}
 use Rattle.names.specs.declared.CodeFound.{CodeFound}
 use Rattle.names.specs.Names.{methodNames, requestNames, responseNames, attributeNames, namesIn, firstCode, ignoresCase, isListed, nameFor, letter, sameName, codeFrom, codeIn}
-use Rattle.names.specs.Row.{nameRoom, rowOf, padded, bytesOf}
+use Rattle.names.specs.Row.{nameRoom, firstOf, rowOf, padded, bytesOf}
 
 -- the bytes of a name that is handed out are the name's
 pub bytes-padded : (name : List ℕ) → bytesOf (padded name) ≡ name
@@ -61,6 +61,14 @@ same-length ignoring (x ∷ a) (y ∷ b) h =
     both-false : (t : Bool) → both t false ≡ false
     both-false true = refl
     both-false false = refl
+
+-- a name and a text that differ in their first letter
+pub same-first : (ignoring : Bool) (a b : List ℕ) → (firstOf ignoring a ≡ firstOf ignoring b → ⊥) → sameName ignoring a b ≡ false
+unfolding sameName
+same-first ignoring [] [] h = absurd (h refl)
+same-first ignoring [] (y ∷ b) h = refl
+same-first ignoring (x ∷ a) [] h = refl
+same-first ignoring (x ∷ a) (y ∷ b) h = rw (ne-eqb (letter ignoring x) (letter ignoring y) h)
 
 -- the names from a place of the list on
 code-step : (ignoring : Bool) (first : ℕ) (names : List (List ℕ)) (text : List ℕ) (k : ℕ) (t : Bool)

@@ -1,9 +1,9 @@
--- The tables of names: the rows of a list of names are the names with zeros behind them, and its lengths are theirs.
--- antt computes both from the list and compares them with the constants.
+-- The tables of names: the rows of a list of names are the names with zeros behind them, and its lengths and first letters are theirs.
+-- antt computes all three from the list and compares them with the constants.
 -- Assumes nothing.
 use borrow.Author.Tests.{leb-true}
-use mathlib.Core.Bool.{true}
-use mathlib.Core.Path.{_≡_, refl, sym, ap}
+use mathlib.Core.Bool.{Bool, true, false}
+use mathlib.Core.Path.{_≡_, refl, sym, ap, _∙_}
 use mathlib.Core.List.{List, [], _∷_, _++_, map}
 use Prim.Native.Nat.{ℕ, zero, suc, _-_, _≤_, _<_}
 use native.Mathlib.Omega.{arith}
@@ -12,8 +12,8 @@ use lib.ListN.{length, getD, replicate, List·getD-eq-default}
 use lib.Dec.{leb, lit≤}
 use Rattle.wire.specs.Pick.{all}
 use Rattle.names.specs.declared.NameList.{NameList}
-use Rattle.names.specs.Names.{methodNames, requestNames, responseNames, attributeNames, namesIn}
-use Rattle.names.specs.Row.{lengthsIn, nameRoom, rowOf}
+use Rattle.names.specs.Names.{methodNames, requestNames, responseNames, attributeNames, namesIn, ignoresCase, letter}
+use Rattle.names.specs.Row.{lengthsIn, firstOf, firstsIn, nameRoom, rowOf}
 use Rattle.wire.proofs.Tests.{both-first, both-second}
 
 -- a row of the table of a list of names
@@ -32,17 +32,29 @@ zeros zero k = refl
 zeros (suc n) zero = refl
 zeros (suc n) (suc k) = zeros n k
 
--- the length at a place of the table of lengths
-length-of : (names : List (List ℕ)) (n k : ℕ) → getD (map length names ++ replicate n 0) k 0 ≡ length (getD names k [])
-length-of [] n k = zeros n k
-length-of (name ∷ names) n zero = refl
-length-of (name ∷ names) n (suc k) = length-of names n k
+-- what stands at a place of a table with a number for each name and zeros behind them, where the number of no bytes is 0
+number-of : (f : List ℕ → ℕ) → f [] ≡ 0 → (names : List (List ℕ)) (n k : ℕ)
+    → getD (map f names ++ replicate n 0) k 0 ≡ f (getD names k [])
+number-of f e [] n k = zeros n k ∙ sym e
+number-of f e (name ∷ names) n zero = refl
+number-of f e (name ∷ names) n (suc k) = number-of f e names n k
 
+-- the length at a place of the table of lengths
 pub length-in : (list : NameList) (k : ℕ) → getD (lengthsIn list) k 0 ≡ length (getD (namesIn list) k [])
-length-in list k = length-of (namesIn list) (27 - length (namesIn list)) k
+length-in list k = number-of length refl (namesIn list) (27 - length (namesIn list)) k
+
+-- 0 is no letter
+no-letter : (ignoring : Bool) → letter ignoring 0 ≡ 0
+unfolding letter
+no-letter true = refl
+no-letter false = refl
+
+-- the letter at a place of the table of first letters
+pub first-in : (list : NameList) (k : ℕ) → getD (firstsIn list) k 0 ≡ firstOf (ignoresCase list) (getD (namesIn list) k [])
+first-in list k = number-of (firstOf (ignoresCase list)) (no-letter (ignoresCase list)) (namesIn list) (27 - length (namesIn list)) k
 
 -- no list is longer than 27
-most-names : (list : NameList) → length (namesIn list) ≤ 27
+pub most-names : (list : NameList) → length (namesIn list) ≤ 27
 unfolding methodNames requestNames responseNames attributeNames
 most-names NameList.Methods = lit≤ tt
 most-names NameList.RequestHeaders = lit≤ tt
@@ -61,12 +73,15 @@ within-room (name ∷ names) zero h = leb-true (length name) nameRoom (both-firs
 within-room (name ∷ names) (suc k) h = within-room names k (both-second (leb (length name) nameRoom) _ h)
 
 -- every listed name has at most 17 bytes: antt computes the lengths
-pub name-room : (list : NameList) (k : ℕ) → length (getD (namesIn list) k []) ≤ nameRoom
+pub all-short : (list : NameList) → all (λ n. leb n nameRoom) (map length (namesIn list)) ≡ true
 unfolding all methodNames requestNames responseNames attributeNames
-name-room NameList.Methods k = within-room methodNames k refl
-name-room NameList.RequestHeaders k = within-room requestNames k refl
-name-room NameList.ResponseHeaders k = within-room responseNames k refl
-name-room NameList.Attributes k = within-room attributeNames k refl
+all-short NameList.Methods = refl
+all-short NameList.RequestHeaders = refl
+all-short NameList.ResponseHeaders = refl
+all-short NameList.Attributes = refl
+
+pub name-room : (list : NameList) (k : ℕ) → length (getD (namesIn list) k []) ≤ nameRoom
+name-room list k = within-room (namesIn list) k (all-short list)
 
 pub length-fits : (list : NameList) (k : ℕ) → length (getD (namesIn list) k []) < 256
 length-fits list k = omega (arith, name-room list k)

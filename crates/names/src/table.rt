@@ -2,9 +2,10 @@
 // A constant table is laid out anew wherever it is named, so each is named in one place and outside every loop over bytes.
 ghost use mathlib.Core.Path.{_≡_};
 ghost use mathlib.Core.List.{[]};
+ghost use Prim.Native.Nat.{_<_};
 ghost use lib.ListN.{getD, length};
 ghost use Rattle.names.specs.Names.{methodNames, requestNames, responseNames, attributeNames, namesIn, firstCode, ignoresCase, isListed, nameFor, letter, sameName, codeIn};
-ghost use Rattle.names.specs.Row.{lengthsIn, rowOf, padded, bytesOf};
+ghost use Rattle.names.specs.Row.{lengthsIn, firstOf, firstsIn, mostNames, rowOf, padded, bytesOf};
 use crate::CodeFound;
 use crate::NAME_ROOM;
 use crate::Name;
@@ -114,6 +115,16 @@ const RESPONSE_LENGTHS: [u8; MOST] =
 
 const ATTRIBUTE_LENGTHS: [u8; MOST] =
     *b"\x0b\x09\x0c\x05\x08\x0a\x0b\x0d\x0c\x06\x0d\x00\x00\x00\x00\x00\x00\x00\x00\x00\x00\x00\x00\x00\x00\x00\x00";
+
+// The letters that the names of each list begin with, as they are compared, in its order, zeros behind them: one byte a name, so that a
+// letter that no name of the text's length begins with costs no look at the names.
+const METHOD_FIRSTS: [u8; MOST] = *b"OGHPPDTPPMCMLUARVCCUSMULMBM";
+
+const REQUEST_FIRSTS: [u8; MOST] = *b"aaaaaccccchpru\0\0\0\0\0\0\0\0\0\0\0\0\0";
+
+const RESPONSE_FIRSTS: [u8; MOST] = *b"cccdllssssw\0\0\0\0\0\0\0\0\0\0\0\0\0\0\0\0";
+
+const ATTRIBUTE_FIRSTS: [u8; MOST] = *b"raqrsssrsss\0\0\0\0\0\0\0\0\0\0\0\0\0\0\0\0";
 
 // The bytes of the name at a place of a list, from 0, zeros behind them; no bytes past its end.
 fn row(list: NameList, k: usize) -> [u8; NAME_ROOM]
@@ -293,30 +304,68 @@ pub fn spells(name: Name, text: &[u8], ignoring: bool) -> bool
     same
 }
 
-// Whether a text spells the name at a place of a list.
-fn spells_at(list: NameList, k: usize, text: &[u8]) -> bool
+// The first letter of a text as it is compared, 0 where it has none.
+fn first_of(text: &[u8], ignoring: bool) -> u8
+    ensures { λ r. ⌜ r ≡ firstOf ignoring (now (text .entry)) ⌝ }
+{
+    if text.len() == 0 {
+        return compared(0, ignoring);
+    }
+    compared(text[0], ignoring)
+}
+
+// Whether a text spells the name at a place of a list, by the list's lengths and first letters: only where both are the text's own is the
+// name looked at.
+fn spells_at(
+    list: NameList,
+    k: usize,
+    text: &[u8],
+    lengths: &[u8; MOST],
+    firsts: &[u8; MOST],
+) -> bool
+    requires { ⌜ k < mostNames ⌝ }
+    requires { ⌜ now lengths ≡ lengthsIn list ⌝ }
+    requires { ⌜ now firsts ≡ firstsIn list ⌝ }
     ensures { λ r. ⌜ r ≡ sameName (ignoresCase list) (getD (namesIn list) k []) (now (text .entry)) ⌝ }
 {
-    let length = length_at(list, k);
+    let length = lengths[k] as usize;
     if length != text.len() {
         return false;
     }
+    let ignoring = ignores_case(list);
+    if firsts[k] != first_of(text, ignoring) {
+        return false;
+    }
     let bytes = row(list, k);
-    spells(Name { bytes, length }, text, ignores_case(list))
+    spells(Name { bytes, length }, text, ignoring)
 }
 
-// The code of the name that a text spells.
-pub fn code_of(list: NameList, text: &[u8]) -> CodeFound
+// The code of the name of a list that a text spells, by the list's lengths and first letters.
+fn find(list: NameList, text: &[u8], lengths: &[u8; MOST], firsts: &[u8; MOST]) -> CodeFound
+    requires { ⌜ now lengths ≡ lengthsIn list ⌝ }
+    requires { ⌜ now firsts ≡ firstsIn list ⌝ }
     ensures { λ r. ⌜ r ≡ codeIn list (now (text .entry)) ⌝ }
 {
     let first = first_code(list);
     let n = count(list);
     let mut k = 0;
     while k < n {
-        if spells_at(list, k, text) {
+        if spells_at(list, k, text, lengths, firsts) {
             return CodeFound::Code(first + (k as u16));
         }
         k += 1;
     }
     CodeFound::NotListed
+}
+
+// The code of the name that a text spells.
+pub fn code_of(list: NameList, text: &[u8]) -> CodeFound
+    ensures { λ r. ⌜ r ≡ codeIn list (now (text .entry)) ⌝ }
+{
+    match list {
+        NameList::Methods => find(list, text, &METHOD_LENGTHS, &METHOD_FIRSTS),
+        NameList::RequestHeaders => find(list, text, &REQUEST_LENGTHS, &REQUEST_FIRSTS),
+        NameList::ResponseHeaders => find(list, text, &RESPONSE_LENGTHS, &RESPONSE_FIRSTS),
+        NameList::Attributes => find(list, text, &ATTRIBUTE_LENGTHS, &ATTRIBUTE_FIRSTS),
+    }
 }

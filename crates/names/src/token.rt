@@ -1,23 +1,33 @@
 // RFC 9110 tokens.
 ghost use mathlib.Core.Path.{_≡_};
-ghost use Rattle.names.specs.Token.{isToken};
+ghost use Rattle.names.specs.Token.{isToken, TokenFlags};
 
-// Whether a text is made of token bytes alone. The table is named outside the loop, which has no early way out.
-pub fn is_token(text: &[u8]) -> bool
+// How many values a byte has.
+pub const BYTES: usize = 256;
+
+// The table of token bytes. It is laid out on every call, so whoever judges many texts calls this once.
+pub fn flags() -> [bool; BYTES]
+    ensures { λ r. ⌜ TokenFlags r ⌝ }
+{
+    TOKEN
+}
+
+// Whether a text is made of token bytes alone, by their table. The loop has no early way out.
+pub fn is_token(text: &[u8], flags: &[bool; BYTES]) -> bool
+    requires { ⌜ TokenFlags (now flags) ⌝ }
     ensures { λ r. ⌜ r ≡ isToken (now (text .entry)) ⌝ }
 {
-    let table = TOKEN;
     let mut good = true;
     let mut i = 0;
     while i < text.len() {
-        good = good & table[text[i] as usize];
+        good = good & flags[text[i] as usize];
         i += 1;
     }
     good
 }
 
 // A flag for each byte value, set where it is a token byte; beside it, the character.
-const TOKEN: [bool; 256] = [
+const TOKEN: [bool; BYTES] = [
     false,
     false,
     false,

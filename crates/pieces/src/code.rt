@@ -8,14 +8,14 @@ ghost use Rattle.pieces.specs.Record.{kindIn};
 use crate::BuildingKind;
 use names::CodeFound;
 use names::NameList;
-use names::header::names_of;
+use names::header;
 use names::table::code_of;
 
 // The code of a header's name, by the packet that it is for, small and capital letters taken as one.
 pub fn of_header(kind: BuildingKind, name: &[u8]) -> CodeFound
     ensures { λ r. ⌜ r ≡ codeIn (headerNames (directionOf (kindIn kind))) (now (name .entry)) ⌝ }
 {
-    code_of(names_of(kind.kind().direction()), name)
+    header::code_of(kind.kind().direction(), name)
 }
 
 // The code of a method's name.

@@ -25,6 +25,7 @@ use names::header::code_fault;
 use names::header::spelled_fault;
 use names::length::Declared;
 use names::length::Declaring;
+use names::token;
 use wire::Direction;
 use wire::StringField;
 use wire::refusal;
@@ -92,9 +93,10 @@ fn value_fault(declares: bool, text: &[u8], null: bool) -> u8
 fn name_fault(direction: Direction, text: &[u8], null: bool) -> u8
     ensures { λ r. ⌜ r ≡ spelledName direction null (now (text .entry)) .fault ⌝ }
 {
+    let flags = token::flags();
     fault::or_else(
         fault::string(StringField::HeaderName, text, null),
-        spelled_fault(direction, text),
+        spelled_fault(direction, text, &flags),
     )
 }
 

@@ -2,9 +2,9 @@
 // library does not.
 ghost use mathlib.Core.Path.{_≡_};
 ghost use mathlib.Core.List.{[], _∷_};
-ghost use lib.ListN.{take};
+ghost use Prim.Native.Nat.{_+_, _≤_};
+ghost use lib.ListN.{length, take};
 ghost use Rattle.wire.specs.Bytes.{put};
-use wire::has_room;
 
 // The most headers of a packet, the most attributes of a Forward, and the most places that they take.
 pub const MAX_HEADERS: u16 = 100;
@@ -13,14 +13,13 @@ pub const MAX_ATTRIBUTES: usize = 64;
 
 pub const MAX_PLACES: usize = 328;
 
-// Puts two places into a table, from an index on; where they do not fit, the table stays as it is.
+// Puts two places into a table, from an index on. That they fit is known before the first one of a list is put.
 pub fn put_pair(table: &mut [u16], at: usize, first: u16, second: u16)
+    requires { ⌜ at + 2 ≤ length (now table) ⌝ }
     ensures { λ _. ⌜ now (table .exit) ≡ put (now (table .entry)) at (first ∷ second ∷ []) ⌝ }
 {
-    if has_room(table.len(), at, 2) {
-        table[at] = first;
-        table[at + 1] = second;
-    }
+    table[at] = first;
+    table[at + 1] = second;
 }
 
 // The first `count` places of a list, or as many as there are.

@@ -68,7 +68,9 @@ cast-put-pair-2 : tie.Need-cast-put-pair-2 Inv-loop μ-loop
 cast-put-pair-2 c = omega (arith, inside (c .before .before))
 
 put-pair-requires : tie.Need-put-pair-requires Inv-loop μ-loop
-put-pair-requires c κs = search needs
+put-pair-requires c κs =
+    let l = c .before .before .before .before .before .before in
+    omega (arith, l .loop .inv .filling .long)
 
 with-requires : tie.Need-with-requires Inv-loop μ-loop
 with-requires c κs = search needs

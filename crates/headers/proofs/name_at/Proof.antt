@@ -1,15 +1,14 @@
--- `headers::name_at` meets its contract, by its tests and by what its string reads as.
+-- `headers::name_at` meets its contract, by its tests.
 -- Assumes nothing.
 use native.Mathlib.Omega.{arith}
-use mathlib.Core.Path.{_≡_, refl, sym, ap, _∙_}
+use mathlib.Core.Path.{refl, sym, ap, _∙_}
 use mathlib.Core.Bool.{true, false}
 use Prim.Native.Nat.{_+_, _≤_}
 use borrow.Author.Needs.{needs}
 use borrow.Author.Tests.{le-leb, not-true}
 use lib.ListN.{length}
-use Rattle.wire.specs.declared.read.StringRead.{StringRead}
 use Rattle.wire.proofs.Bytes.{room-in}
-use Rattle.headers.specs.Headers.{codeNameOf, spelledOf, nameAt}
+use Rattle.headers.specs.Headers.{codeNameOf}
 use Rattle.headers.proofs.Laws.{name-is}
 use Rattle.headers.proofs.name_at.Statement.{statement}
 use Rattle.headers.proofs.name_at.Tie as tie
@@ -45,41 +44,15 @@ returns-2 c =
     ∙ name-is (a .direction) (a .packet .now) (a .at) true true false _ (le-leb _ _ (fits (tested .before .before .before)))
     (sym (tested .before .begins-code .ensures) ∙ tested .if2 .taken) refl refl
 
-is-optional-requires : tie.Need-is-optional-requires
-is-optional-requires c κs = search needs
-
-string-requires : tie.Need-string-requires
-string-requires c κs = search needs
-
-enum-known-n : tie.Need-enum-known-n
-enum-known-n c = search needs
-
-enum-known-next : tie.Need-enum-known-next
-enum-known-next c = search needs
-
-enum-known-start : tie.Need-enum-known-start
-enum-known-start c = search needs
-
 spelled-name-requires : tie.Need-spelled-name-requires
 spelled-name-requires c κs = search needs
 
--- a name that is spelled out, by what its string reads as
-spelled : (c : tie.After-string) (r : StringRead) → c .string .result ≡ r → let a = c .before .before .before .before .before .before .before .before .args in
-    spelledOf (a .direction) (a .packet .now) r ≡ nameAt (a .direction) (a .packet .now) (a .at)
-spelled c r e =
-    let tested = c .before .before in
-    name-is _ _ _ true false _ r (le-leb _ _ (fits (tested .before .before .before)))
-    (sym (tested .before .begins-code .ensures) ∙ tested .if2 .left) (c .before .is-optional .ensures) (sym (c .string .ensures) ∙ e)
-
 returns-3 : tie.Need-returns-3
-returns-3 c = spelled (c .before .before .before) (StringRead.Refused _) (c .before .n .given .1)
-
-returns-4 : tie.Need-returns-4
-returns-4 c = spelled (c .before .before .before) (StringRead.Null _) (c .before .next .given .1)
-
-returns-5 : tie.Need-returns-5
-returns-5 c =
-    c .spelled-name .ensures ∙ spelled (c .before .before .before .before) (StringRead.Text _ _ _) (c .before .before .start .given .1)
+returns-3 c =
+    let tested = c .before in
+    c .spelled-name .ensures
+    ∙ name-is _ _ _ true false _ _ (le-leb _ _ (fits (tested .before .before .before)))
+    (sym (tested .before .begins-code .ensures) ∙ tested .if2 .left) refl refl
 
 pub name-at-spec : {M : Type 1} → statement M
 name-at-spec =
@@ -92,12 +65,5 @@ name-at-spec =
     integer-requires
     code-name-requires
     returns-2
-    is-optional-requires
-    string-requires
-    enum-known-n
-    enum-known-next
-    enum-known-start
     spelled-name-requires
-    returns-3
-    returns-4
-    returns-5)
+    returns-3)

@@ -1,25 +1,34 @@
--- `headers::spelled_name` meets its contract, by the fault of the name's text.
+-- `headers::spelled_name` meets its contract, by what the name's length reads as.
 -- Assumes nothing.
 use borrow.Author.Needs.{needs}
-use borrow.Author.Tests.{eq-eqb, ne-eqb}
-use mathlib.Core.Bool.{true, false}
-use Rattle.headers.proofs.Laws.{spelled-is}
+use mathlib.Core.Path.{_≡_, sym, _∙_}
+use Rattle.wire.specs.declared.read.NumberRead.{NumberRead}
+use Rattle.headers.proofs.Laws.{spelled-by}
 use Rattle.headers.proofs.spelled_name.Statement.{statement}
 use Rattle.headers.proofs.spelled_name.Tie as tie
 
-part-of-requires : tie.Need-part-of-requires
-part-of-requires c κs = search needs
+integer-requires : tie.Need-integer-requires
+integer-requires c κs = search needs
 
-spelled-fault-requires : tie.Need-spelled-fault-requires
-spelled-fault-requires c κs = search needs
+enum-known-n : tie.Need-enum-known-n
+enum-known-n c = search needs
+
+enum-known-value : tie.Need-enum-known-value
+enum-known-value c = search needs
+
+name-text-requires : tie.Need-name-text-requires
+name-text-requires c κs = search needs
 
 returns : tie.Need-returns
 returns c =
-    spelled-is _ _ _ _ _ _ _ false (c .before .before .part-of .ensures) (c .before .spelled-fault .ensures) (ne-eqb _ _ (c .if1 .taken))
+    spelled-by _ _ _ (NumberRead.Refused _) (sym (c .before .before .before .integer .ensures) ∙ c .before .n .given .1)
 
 returns-2 : tie.Need-returns-2
 returns-2 c =
-    spelled-is _ _ _ _ _ _ _ true (c .before .before .part-of .ensures) (c .before .spelled-fault .ensures) (eq-eqb _ _ (c .if1 .left))
+    c .name-text .ensures
+    ∙ spelled-by _ _ _ (NumberRead.Number _ _) (sym (c .before .before .before .before .integer .ensures) ∙ c .before .before .value .given .1)
 
 pub spelled-name-spec : {M : Type 1} → statement M
-spelled-name-spec = tie.close (tie.spec part-of-requires spelled-fault-requires returns returns-2)
+spelled-name-spec =
+    tie.close
+    (tie.spec integer-requires enum-known-n enum-known-value name-text-requires returns returns-2)

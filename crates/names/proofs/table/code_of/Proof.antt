@@ -1,94 +1,73 @@
--- `table::code_of` meets its contract. The invariant: the names left answer as the whole list does.
+-- `table::code_of` meets its contract: each list has its own tables of lengths and first letters, which antt computes from the names.
 -- Assumes nothing.
 use borrow.Author.Needs.{needs}
-use mathlib.Core.Path.{_≡_, sym, ap, _∙_}
-use mathlib.Core.Bool.{true, false}
-use Prim.Native.Nat.{ℕ, _+_, _-_, _≤_, _<_}
-use native.Mathlib.Omega.{arith}
-use lib.ListN.{length}
-use Rattle.names.specs.declared.CodeFound.{CodeFound}
-use Rattle.names.specs.Names.{namesIn, codeIn}
-use Rattle.names.proofs.Laws.{codeLeft, code-start, code-turn, code-end, code-room}
+use mathlib.Core.Path.{sym, ap}
+use Rattle.names.specs.Names.{methodNames, requestNames, responseNames, attributeNames, letter}
+use Rattle.names.specs.Row.{lengthsIn, firstsIn}
 use Rattle.names.proofs.table.code_of.Statement.{statement}
 use Rattle.names.proofs.table.code_of.Tie as tie
 
-abbrev Inv-loop : tie.InvT-loop
-Inv-loop list text first n k₀ k = (k ≤ n) × (codeIn list text ≡ codeLeft list text k)
+enum-told : tie.Need-enum-told
+enum-told c = search needs
 
-abbrev μ-loop : tie.MeasureT-loop
-μ-loop list text first n k₀ k = n - k
+find-requires : tie.Need-find-requires
+unfolding methodNames letter
+find-requires c κs =
+    let list = c .before .before .enum-told .given .1 in
+    (sym (ap lengthsIn list), sym (ap firstsIn list))
 
-first-code-requires : tie.Need-first-code-requires Inv-loop μ-loop
-first-code-requires c κs = search needs
+enum-told-2 : tie.Need-enum-told-2
+enum-told-2 c = search needs
 
-count-requires : tie.Need-count-requires Inv-loop μ-loop
-count-requires c κs = search needs
+find-requires-2 : tie.Need-find-requires-2
+unfolding requestNames letter
+find-requires-2 c κs =
+    let list = c .before .before .enum-told2 .given .1 in
+    (sym (ap lengthsIn list), sym (ap firstsIn list))
 
-loop-holds : tie.Need-loop-holds Inv-loop μ-loop
-loop-holds c = (search needs, code-start _ _)
+enum-told-3 : tie.Need-enum-told-3
+enum-told-3 c = search needs
 
-spells-at-requires : tie.Need-spells-at-requires Inv-loop μ-loop
-spells-at-requires c κs = search needs
+find-requires-3 : tie.Need-find-requires-3
+unfolding responseNames letter
+find-requires-3 c κs =
+    let list = c .before .before .enum-told3 .given .1 in
+    (sym (ap lengthsIn list), sym (ap firstsIn list))
 
--- the place is in the list, and its code fits two bytes
-inside : (c : tie.In-loop Inv-loop μ-loop) → let l = c .before in
-    let list = l .before .before .before .before .args .list in
-    (l .loop .k < length (namesIn list)) × (l .before .before .first-code .result + length (namesIn list) < 65536)
-inside c =
-    let l = c .before in
-    let list = l .before .before .before .before .args .list in
-    let n = l .before .count .ensures in
-    let first = l .before .before .first-code .ensures in
-    (omega (arith, n), omega (arith, first, code-room list))
+enum-told-4 : tie.Need-enum-told-4
+enum-told-4 c = search needs
 
-cast-t8 : tie.Need-cast-t8 Inv-loop μ-loop
-cast-t8 c = omega (arith, inside (c .before .before) .0, inside (c .before .before) .1)
+find-requires-4 : tie.Need-find-requires-4
+unfolding attributeNames letter
+find-requires-4 c κs =
+    let list = c .before .before .enum-told4 .given .1 in
+    (sym (ap lengthsIn list), sym (ap firstsIn list))
 
-add-t9 : tie.Need-add-t9 Inv-loop μ-loop
-add-t9 c = omega (arith, inside (c .before .before) .0, inside (c .before .before) .1)
+returns : tie.Need-returns
+returns c = search needs
 
-returns : tie.Need-returns Inv-loop μ-loop
-returns c =
-    let l = c .before .before .before in
-    let a = l .before .before .before .before .args in
-    ap (λ (n : ℕ). CodeFound.Code (n + l .loop .k)) (l .before .before .first-code .ensures)
-    ∙ sym (l .loop .inv .1
-    ∙ code-turn (a .list) (a .text .now) (l .loop .k) true (inside (c .before .before) .0) (sym (c .before .spells-at .ensures) ∙ c .if1 .taken))
+returns-2 : tie.Need-returns-2
+returns-2 c = search needs
 
-add-k : tie.Need-add-k Inv-loop μ-loop
-add-k c = search needs
+returns-3 : tie.Need-returns-3
+returns-3 c = search needs
 
-loop-less : tie.Need-loop-less Inv-loop μ-loop
-loop-less c = search needs
-
-loop-again : tie.Need-loop-again Inv-loop μ-loop
-loop-again c =
-    let l = c .before .before .before in
-    let a = l .before .before .before .before .args in (
-      search needs,
-      l .loop .inv .1 ∙ code-turn (a .list) (a .text .now) (l .loop .k) false (inside (c .before .before) .0) (sym (c .before .spells-at .ensures) ∙ c .if1 .left),
-    )
-
-returns-2 : tie.Need-returns-2 Inv-loop μ-loop
-returns-2 c =
-    let l = c .before in
-    let a = l .before .before .before .before .args in
-    sym (l .loop .inv .1 ∙ code-end (a .list) (a .text .now) (l .loop .k) (omega (arith, l .before .count .ensures)))
+returns-4 : tie.Need-returns-4
+returns-4 c = search needs
 
 pub code-of-spec : {M : Type 1} → statement M
 code-of-spec =
     tie.close
     (tie.spec
-    Inv-loop
-    μ-loop
-    first-code-requires
-    count-requires
-    loop-holds
-    spells-at-requires
-    cast-t8
-    add-t9
+    enum-told
+    find-requires
+    enum-told-2
+    find-requires-2
+    enum-told-3
+    find-requires-3
+    enum-told-4
+    find-requires-4
     returns
-    add-k
-    loop-less
-    loop-again
-    returns-2)
+    returns-2
+    returns-3
+    returns-4)
