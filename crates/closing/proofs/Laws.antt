@@ -15,7 +15,7 @@ use Rattle.wire.specs.Field.{integerAt}
 use Rattle.wire.specs.declared.Direction.{Direction}
 use Rattle.wire.specs.declared.read.NumberRead.{NumberRead}
 use Rattle.wire.proofs.Field.{number-read}
-use Rattle.connection.specs.Cycle.{directionOf, inState}
+use Rattle.connection.specs.Cycle.{inState}
 use Rattle.connection.specs.declared.Connection.{Connection}
 use Rattle.connection.specs.declared.Kind.{Kind}
 use Rattle.payload.specs.Code.{kindAt}
@@ -25,7 +25,6 @@ use Rattle.payload.specs.declared.packet.PacketRead.{PacketRead}
 use Rattle.fields.specs.Fault.{unless, orElse, fitFault}
 use Rattle.fields.specs.Call.{Outcome, refused, done}
 use Rattle.fields.proofs.Sizes.{or-first, or-second, unless-none, fit-none, fit-by}
-use Rattle.pieces.specs.declared.BuildingKind.{BuildingKind}
 use Rattle.pieces.specs.declared.Building.{Building}
 use Rattle.pieces.specs.Record.{kindIn, directionIn, isPossible}
 use Rattle.pieces.proofs.Possible.{possible-yes}
@@ -161,12 +160,10 @@ module _ (c : Connection) (r : Building) (buffer : List ℕ) where
       let reads : reading (directionIn r) c s 328 ≡ read.accepted t taken next = aside (directionIn r) c s 328 (omega arith) ∙ e in
       frame-taken r buffer (ready-closable c r buffer ready) (directionIn r) taken (accepted-is (directionIn r) c s 328 t taken next reads .whole-is)
 
-  -- the bytes that `read_there` is given are read by the end of the packet's kind as they are judged
-  pub read-there : (k : BuildingKind) (room : ℕ) {kind : BuildingKind} → kind ≡ r .kind → kind ≡ k → 328 ≤ room
-      → reading (directionOf (kindIn k)) c buffer room ≡ judgement c r buffer
+  -- the bytes that `read_there` is given are read in the packet's direction as they are judged
+  pub read-there : (d : Direction) (room : ℕ) → d ≡ directionIn r → 328 ≤ room → reading d c buffer room ≡ judgement c r buffer
   unfolding judgement
-  read-there k room p q h =
-      ap (λ (x : BuildingKind). reading (directionOf (kindIn x)) c buffer room) (sym q ∙ p) ∙ aside (directionIn r) c buffer room h
+  read-there d room e h = ap (λ (x : Direction). reading x c buffer room) e ∙ aside (directionIn r) c buffer room h
 
   -- closing by the fault that was found: it is refused with it
   pub found-refused : (found : ℕ) → found ≡ closingFault c r buffer → (found ≡ 0 → ⊥) → refused found ≡ closeOutcome c r buffer

@@ -21,8 +21,7 @@ use pieces::BuildingKind;
 use places::MAX_PLACES;
 use reader::LENGTH_PLACE;
 use reader::Received;
-use reader::read_at_container;
-use reader::read_at_server;
+use reader::read;
 use reader::view;
 use wire::part_of;
 use wire::refusal;
@@ -122,12 +121,9 @@ fn put_back(buffer: &mut [u8], building: Building, old: Old)
 fn read_there(connection: Connection, building: Building, packet: &[u8]) -> Received
     ensures { λ r. ⌜ read.meaning r ≡ judgement connection building (now (packet .entry)) ⌝ }
 {
-    let kind = building.kind();
+    let direction = building.kind().kind().direction();
     let mut places = [0u16; MAX_PLACES];
-    match kind {
-        BuildingKind::Forward => read_at_container(connection, packet, &mut places),
-        BuildingKind::SendHeaders => read_at_server(connection, packet, &mut places),
-    }
+    read(direction, connection, packet, &mut places)
 }
 
 // Judges a packet by that answer.

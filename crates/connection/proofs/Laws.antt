@@ -1,9 +1,11 @@
 -- The definitions of the cycle by the values of their tests. Each law has its tests as variables: a proof that knows a test puts its
 -- value there, and one whose branch does not reach a test says `refl`.
 -- Assumes nothing.
-use mathlib.Core.Path.{_≡_}
-use mathlib.Core.Bool.{Bool}
+use mathlib.Core.Path.{_≡_, refl, sym, subst⁻¹, _∙_}
+use mathlib.Core.Bool.{Bool, true, false}
 use Prim.Native.Nat.{ℕ, min}
+use native.Mathlib.Omega.{arith}
+use borrow.Author.Tests.{eqb-true, ne-eqb, le-leb, lt-leb}
 use lib.Dec.{eqb, leb}
 use Rattle.wire.specs.Pick.{pick, both}
 use Rattle.wire.specs.Refusal.{notNow, sizeWrong}
@@ -23,13 +25,30 @@ pub largest-by : (c : Connection) (t : Bool) → bodyDue c ≡ t
 unfolding largestBody
 largest-by c t e = rw e
 
--- whether a size is allowed, by whether none may come and whether any came
-pub size-by : (most k : ℕ) (a b : Bool) → eqb most 0 ≡ a → leb 1 k ≡ b
-    → sizeAllowed most k ≡ pick a (eqb k 0) (both b (leb k most))
-size-by most k a b d e = rw (d, e)
+-- an empty body packet is allowed exactly where none may come
+pub size-none : (most k : ℕ) → k ≡ 0 → sizeAllowed most k ≡ eqb most 0
+size-none most k e = subst⁻¹ (λ (n : ℕ). sizeAllowed most n ≡ eqb most 0) e (go (eqb most 0))
+  where
+    go : (none : Bool) → pick none true (both false (leb 0 most)) ≡ none
+    go true = refl
+    go false = refl
+
+-- and one that holds bytes where it holds no more than may come
+pub size-some : (most k : ℕ) → (k ≡ 0 → ⊥) → sizeAllowed most k ≡ leb k most
+size-some most k h = go (eqb most 0) refl
+  where
+    go : (none : Bool) → eqb most 0 ≡ none → pick none (eqb k 0) (both (leb 1 k) (leb k most)) ≡ leb k most
+    go true e = ne-eqb k 0 h ∙ sym (lt-leb k most (omega (arith, eqb-true most 0 e)))
+    go false e = rw (le-leb 1 k (omega (arith, h)))
 
 -- a step, by whether the state and the size allow it
 pub step-by : (c : Connection) (m : Move) (a b : Bool) → inState c (kindOf m) ≡ a → inSize c m ≡ b
     → stepOf c m ≡ pick a (pick b (Step.Next (after c m)) (Step.Refused sizeWrong)) (Step.Refused notNow)
 unfolding stepOf
 step-by c m a b d e = rw (d, e)
+
+-- the step of a packet that may have any size, by the connection after it
+pub any-size : (c : Connection) (m : Move) (d : Connection) → inSize c m ≡ true → d ≡ after c m
+    → pick (inState c (kindOf m)) (Step.Next d) (Step.Refused notNow) ≡ stepOf c m
+unfolding stepOf
+any-size c m d s e = rw (s, e)

@@ -2,7 +2,8 @@
 // This crate alone makes a connection record or takes one apart. No call has a condition: any record gets an answer.
 ghost use mathlib.Core.Path.{_≡_};
 ghost use Rattle.connection.specs.Connection.{maxPacket, maxPayload, fresh, fields, bare, busy, isIdle, isPinged, isBusy, bodyDue};
-ghost use Rattle.connection.specs.Cycle.{kindOf, directionOf, inState, largestBody, sizeAllowed, inSize, after, stepOf};
+ghost use Rattle.connection.specs.Cycle.{kindOf, directionOf, inState, largestBody, sizeAllowed, stepOf};
+ghost use Rattle.wire.specs.Refusal.{notNow};
 ghost use Prim.Native.Nat.{_-_};
 ghost use lib.Dec.{leb};
 ghost use Rattle.wire.specs.Pick.{pick};
@@ -24,12 +25,13 @@ pub struct BodyLeft(pub u32);
 pub struct Place(pub u16);
 
 // A connection. All but the state counts only in Busy, and asked only where a body packet is due.
+// The short fields come first: the compiler then loads each by itself, and not the state together with what lies behind it.
 pub struct Connection {
     state: State,
-    left: BodyLeft,
     due: bool,
-    asked: u16,
     headers: bool,
+    asked: u16,
+    left: BodyLeft,
 }
 
 // The kinds of packet.
@@ -294,37 +296,63 @@ impl Connection {
         most
     }
 
-    // Whether a move's size is allowed, else it is refused with 14.
-    fn allows_size(self, m: Move) -> bool
-        ensures { λ r. ⌜ r ≡ inSize self m ⌝ }
-    {
-        match m {
-            Move::CPing => true,
-            Move::CPong => true,
-            Move::Forward(_) => true,
-            Move::Body(k) => is_size_allowed(self.largest_body(), k),
-            Move::GetBody(_) => true,
-            Move::SendHeaders => true,
-            Move::BodyChunk(_) => true,
-            Move::End(_) => true,
-        }
-    }
-
-    // The connection after a move, by the rows of the cycle.
-    fn after(self, m: Move) -> Connection
-        ensures { λ r. ⌜ r ≡ after self m ⌝ }
+    // A move, by the rows of the cycle: refused with 13 or 14, or the connection after it. Sending and accepting both step so.
+    pub fn step(self, m: Move) -> Step
+        ensures { λ r. ⌜ r ≡ stepOf self m ⌝ }
     {
         let left = self.left;
         match m {
-            Move::CPing => Self::bare(State::Pinged),
-            Move::CPong => Self::bare(State::Idle),
-            Move::Forward(n) => Self::busy(n, 0 < n.0, Self::MAX_BODY, false),
-            Move::Body(k) => Self::busy(left.less(k), false, 0, self.headers),
-            Move::GetBody(r) => Self::busy(left, true, r, self.headers),
-            Move::SendHeaders => Self::busy(left, self.due, self.asked, true),
-            Move::BodyChunk(_) => Self::busy(left, self.due, self.asked, self.headers),
-            Move::End(reuse) => Self::ended(reuse),
+            Move::CPing => self.step_any_size(Kind::CPing, Self::bare(State::Pinged)),
+            Move::CPong => self.step_any_size(Kind::CPong, Self::bare(State::Idle)),
+            Move::Forward(n) => {
+                let after = Self::busy(n, 0 < n.0, Self::MAX_BODY, false);
+                self.step_any_size(Kind::Forward, after)
+            }
+            Move::Body(k) => self.step_body(k),
+            Move::GetBody(r) => {
+                let after = Self::busy(left, true, r, self.headers);
+                self.step_any_size(Kind::GetBody, after)
+            }
+            Move::SendHeaders => {
+                let after = Self::busy(left, self.due, self.asked, true);
+                self.step_any_size(Kind::SendHeaders, after)
+            }
+            Move::BodyChunk(k) => self.step_body_chunk(k),
+            Move::End(reuse) => self.step_any_size(Kind::End, Self::ended(reuse)),
         }
+    }
+
+    // A body packet of k bytes, for a caller that knows the move: refused with 13 or 14, or the connection after it.
+    pub fn step_body(self, k: usize) -> Step
+        ensures { λ r. ⌜ r ≡ stepOf self (Move.Body k) ⌝ }
+    {
+        let left = self.left;
+        if !self.is_body_due() {
+            return Step::Refused(refusal::NOT_NOW);
+        }
+        if !is_size_allowed(self.largest_body(), k) {
+            return Step::Refused(refusal::SIZE_WRONG);
+        }
+        Step::Next(Self::busy(left.less(k), false, 0, self.headers))
+    }
+
+    // A Send Body Chunk of k bytes, in the same way; it may have any size.
+    pub fn step_body_chunk(self, k: usize) -> Step
+        ensures { λ r. ⌜ r ≡ stepOf self (Move.BodyChunk k) ⌝ }
+    {
+        let left = self.left;
+        let after = Self::busy(left, self.due, self.asked, self.headers);
+        self.step_any_size(Kind::BodyChunk, after)
+    }
+
+    // A packet of a kind that may have any size: refused with 13, or the connection that it makes.
+    fn step_any_size(self, kind: Kind, after: Connection) -> Step
+        ensures { λ r. ⌜ r ≡ pick (inState self kind) (Step.Next after) (Step.Refused notNow) ⌝ }
+    {
+        if !self.allows(kind) {
+            return Step::Refused(refusal::NOT_NOW);
+        }
+        Step::Next(after)
     }
 
     // The connection after a request's end: Idle where it is used again, else Closed.
@@ -335,19 +363,6 @@ impl Connection {
             return Self::bare(State::Idle);
         }
         Self::bare(State::Closed)
-    }
-
-    // A move: refused with 13 or 14, or the connection after it. Sending and accepting both step so.
-    pub fn step(self, m: Move) -> Step
-        ensures { λ r. ⌜ r ≡ stepOf self m ⌝ }
-    {
-        if !self.allows(m.kind()) {
-            return Step::Refused(refusal::NOT_NOW);
-        }
-        if !self.allows_size(m) {
-            return Step::Refused(refusal::SIZE_WRONG);
-        }
-        Step::Next(self.after(m))
     }
 }
 
@@ -368,12 +383,8 @@ impl BodyLeft {
 fn is_size_allowed(most: u16, k: usize) -> bool
     ensures { λ r. ⌜ r ≡ sizeAllowed most k ⌝ }
 {
-    let m = most as usize;
-    if m == 0 {
-        return k == 0;
+    if k == 0 {
+        return most == 0;
     }
-    if k < 1 {
-        return false;
-    }
-    k <= m
+    k <= most as usize
 }

@@ -1,6 +1,7 @@
 pub mod Framing
 pub mod Below
 pub mod Laws
+pub mod ShortWays
 pub mod Views
 pub mod Later
 pub mod Acceptance

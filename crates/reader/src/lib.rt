@@ -6,7 +6,7 @@ ghost use lib.ListN.{length};
 ghost use Rattle.connection.specs.Connection.{maxPacket};
 ghost use Rattle.payload.specs.Kinds.{moveIn};
 ghost use Rattle.reader.specs.Meaning.{meaning, told, placesNeeded};
-ghost use Rattle.reader.specs.Reading.{readAsBody, accepting, withRoom, reading, tableAfter};
+ghost use Rattle.reader.specs.Reading.{readAsBody, stepped, accepting, withRoom, reading, tableAfter};
 ghost use Rattle.reader.specs.Private.{needed, tableGiven, fieldsOf, tableFields, wholeOf, tableWhole};
 use connection::Connection;
 use connection::Kind;
@@ -23,6 +23,7 @@ use wire::part_of;
 use wire::refusal;
 
 mod frame;
+mod short;
 pub mod view;
 
 use crate::frame::FrameRead;
@@ -43,24 +44,38 @@ pub enum Received {
 }
 
 // The container's end reads the first packet of the bytes. Where it is accepted, the table has the places of its headers and attributes;
-// else the table is as it was, and the connection given still counts.
+// else the table is as it was, and the connection given still counts. A body packet goes a short way.
 pub fn read_at_container(connection: Connection, bytes: &[u8], table: &mut [u16]) -> Received
     ensures { λ r. ⌜ meaning r ≡ reading Direction.ToContainer connection (now (bytes .entry)) (length (now (table .entry))) ⌝ }
     ensures { λ r. ⌜ now (table .exit) ≡ tableAfter Direction.ToContainer connection (now (bytes .entry)) (now (table .entry)) ⌝ }
 {
-    read(Direction::ToContainer, connection, bytes, table)
+    let size = short::body_size(connection, bytes);
+    if size == 0 {
+        return read(Direction::ToContainer, connection, bytes, table);
+    }
+    short::body(connection, part_of(bytes, 0, size))
 }
 
-// The server's end reads the first packet of the bytes, in the same way.
+// The server's end reads the first packet of the bytes, in the same way. A Send Body Chunk goes a short way.
 pub fn read_at_server(connection: Connection, bytes: &[u8], table: &mut [u16]) -> Received
     ensures { λ r. ⌜ meaning r ≡ reading Direction.ToServer connection (now (bytes .entry)) (length (now (table .entry))) ⌝ }
     ensures { λ r. ⌜ now (table .exit) ≡ tableAfter Direction.ToServer connection (now (bytes .entry)) (now (table .entry)) ⌝ }
 {
-    read(Direction::ToServer, connection, bytes, table)
+    let size = short::chunk_size(connection, bytes);
+    if size == 0 {
+        return read(Direction::ToServer, connection, bytes, table);
+    }
+    short::body_chunk(connection, part_of(bytes, 0, size))
 }
 
-// Reads the first packet of the bytes, which goes in a direction.
-fn read(direction: Direction, connection: Connection, bytes: &[u8], table: &mut [u16]) -> Received
+// The end to which packets of a direction go reads the first packet of the bytes: both calls above, for a caller that has the direction.
+// Closing calls this one, so that each of the two has a single caller, into which the compiler can put it.
+pub fn read(
+    direction: Direction,
+    connection: Connection,
+    bytes: &[u8],
+    table: &mut [u16],
+) -> Received
     ensures { λ r. ⌜ meaning r ≡ reading direction connection (now (bytes .entry)) (length (now (table .entry))) ⌝ }
     ensures { λ r. ⌜ now (table .exit) ≡ tableAfter direction connection (now (bytes .entry)) (now (table .entry)) ⌝ }
 {
@@ -164,13 +179,20 @@ fn accept(connection: Connection, found: PacketRead, taken: usize) -> Received
 {
     match found {
         PacketRead::Refused(n) => Received::Refused(n),
-        PacketRead::Packet(packet) => match connection.step(move_of(packet)) {
-            Step::Refused(n) => Received::Refused(n),
-            Step::Next(after) => Received::Accepted {
-                packet,
-                taken,
-                connection: after,
-            },
+        PacketRead::Packet(packet) => stepped(packet, taken, connection.step(move_of(packet))),
+    }
+}
+
+// A packet that was read, by the step that it makes.
+fn stepped(packet: Packet, taken: usize, step: Step) -> Received
+    ensures { λ r. ⌜ meaning r ≡ stepped packet taken step ⌝ }
+{
+    match step {
+        Step::Refused(n) => Received::Refused(n),
+        Step::Next(after) => Received::Accepted {
+            packet,
+            taken,
+            connection: after,
         },
     }
 }

@@ -24,35 +24,33 @@ use Rattle.connection.specs.declared.Move.{Move}
 use Rattle.connection.specs.declared.Step.{Step}
 use Rattle.fields.specs.Fault.{unless, orElse, firstFault, fitFault}
 use Rattle.fields.specs.Field.{opening, sizeTold, Fits}
-use Rattle.fields.specs.Call.{Call, Outcome, refused, done, answered, refusalOf, outcome, bufferAfter}
+use Rattle.fields.specs.Call.{Call, refused, done, answered, refusalOf, outcome, bufferAfter}
 use Rattle.fields.proofs.Sizes.{told-exact}
 use Rattle.fields.proofs.Rows.{fits-later, joined}
 use Rattle.fields.proofs.Calls.{found-by, refused-buffer, done-buffer, done-fits}
 use Rattle.writer.specs.declared.Sent.{Sent}
 use Rattle.writer.specs.Meaning.{Written, meaning, isWritten}
 use Rattle.writer.specs.Private.{readyOf}
-use Rattle.writer.specs.Sending.{packetOf, sending, barePayload, bodyPayload, chunkPayload, endPayload}
+use Rattle.writer.specs.Sending.{packetOf, sendingFaults, sending, barePayload, bodyPayload, chunkPayload, endPayload}
 
--- what `ready` promises: what the step comes to, and then whether the packet fits
-abbrev onStep : ℕ → ℕ → Step → Outcome Written
-onStep size room (Step.Refused n) = refused n
-onStep size room (Step.Next d) = answered (fitFault size room) (record { length = size; connection = d })
+-- what `ready` promises where the step goes on, by whether the packet fits
+pub ready-next : (size room : ℕ) (step : Step) (d : Connection) (fit : ℕ) (t : Bool) → step ≡ Step.Next d → fit ≡ fitFault size room → eqb fit 0 ≡ t
+    → pick t (done (record { length = size; connection = d })) (refused fit) ≡ readyOf size room step
+ready-next size room step d fit t e f h = rw (e, ← h, f)
 
-module _ (c : Connection) (m : Move) (size room : ℕ) where
-  pub ready-step : (s : Step) → s ≡ stepOf c m → onStep size room s ≡ readyOf c m size room
-  unfolding stepOf readyOf
-  ready-step s e = ap (onStep size room) e ∙ go (inState c (kindOf m)) (inSize c m)
-    where
-      go : (a b : Bool) → onStep size room (pick a (pick b (Step.Next (after c m)) (Step.Refused sizeWrong)) (Step.Refused notNow))
-          ≡ answered (orElse (firstFault (unless a notNow ∷ unless b sizeWrong ∷ [])) (fitFault size room))
-          (record { length = size; connection = after c m })
-      go true true = refl
-      go true false = refl
-      go false b = refl
-
-  pub ready-next : (d : Connection) (fit : ℕ) (t : Bool) → Step.Next d ≡ stepOf c m → fit ≡ fitFault size room → eqb fit 0 ≡ t
-      → pick t (done (record { length = size; connection = d })) (refused fit) ≡ readyOf c m size room
-  ready-next d fit t e f h = rw (← h, f) (ready-step (Step.Next d) e)
+-- and what it promises for the step of a move: 13, then 14, then whether the packet fits
+ready-step : (c : Connection) (m : Move) (size room : ℕ)
+    → readyOf size room (stepOf c m)
+    ≡ answered (orElse (firstFault (sendingFaults c m)) (fitFault size room)) (record { length = size; connection = after c m })
+unfolding stepOf
+ready-step c m size room = go (inState c (kindOf m)) (inSize c m)
+  where
+    go : (a b : Bool) → readyOf size room (pick a (pick b (Step.Next (after c m)) (Step.Refused sizeWrong)) (Step.Refused notNow))
+        ≡ answered (orElse (firstFault (unless a notNow ∷ unless b sizeWrong ∷ [])) (fitFault size room))
+        (record { length = size; connection = after c m })
+    go true true = refl
+    go true false = refl
+    go false b = refl
 
 -- what is answered matters only where there is no fault
 answered-same : (fault : ℕ) (v w : Written) → (fault ≡ 0 → v ≡ w) → answered fault v ≡ answered fault w
@@ -64,12 +62,13 @@ answered-same fault v w e = go (eqb fault 0) refl
 
 -- what `ready` promises for the size that is told of a packet is what sending it comes to: a size that fits is told as it is
 ready-outcome : (c : Connection) (m : Move) (payload buffer : List ℕ) (size : ℕ) → size ≡ sizeTold (length (packetOf m payload))
-    → readyOf c m size (length buffer) ≡ outcome (sending c m payload) (length buffer)
-unfolding readyOf outcome
+    → readyOf size (length buffer) (stepOf c m) ≡ outcome (sending c m payload) (length buffer)
+unfolding outcome
 ready-outcome c m payload buffer size told =
     let call : Call Written = sending c m payload in
     let fault : ℕ = refusalOf call (length buffer) in
-    ap (λ (f : ℕ). answered f (record { length = size; connection = after c m }))
+    ready-step c m size (length buffer)
+    ∙ ap (λ (f : ℕ). answered f (record { length = size; connection = after c m }))
     (found-by call (length buffer) _ _ size _ refl refl (told ∙ ap sizeTold (sym (zero-add _))) refl)
     ∙ answered-same fault _ _ (λ h.
     let fits : Fits 0 (packetOf m payload) buffer = done-fits call buffer fault refl h in
@@ -93,15 +92,16 @@ pub record Sends (call : Call Written) (buffer : List ℕ) (r : Sent) (written :
   pub stands : written ≡ true → over buffer (call .at) (call .bytes) ≡ bufferAfter call buffer
   pub kept : written ≡ false → buffer ≡ bufferAfter call buffer
 
--- so it is with what `ready` answers for the size that is told of the packet
-pub sends : (c : Connection) (m : Move) (payload buffer : List ℕ) (size : ℕ) (r : Sent) (written : Bool)
-    → size ≡ sizeTold (length (packetOf m payload)) → meaning r ≡ readyOf c m size (length buffer) → written ≡ isWritten r
+-- so it is with what `ready` answers for the packet's step and the size that is told of it
+pub sends : (c : Connection) (m : Move) (payload buffer : List ℕ) (step : Step) (size : ℕ) (r : Sent) (written : Bool)
+    → step ≡ stepOf c m → size ≡ sizeTold (length (packetOf m payload)) → meaning r ≡ readyOf size (length buffer) step → written ≡ isWritten r
     → Sends (sending c m payload) buffer r written
 unfolding outcome
-sends c m payload buffer size r written told ready is =
+sends c m payload buffer step size r written stepped told ready is =
     let call : Call Written = sending c m payload in
     let fault : ℕ = refusalOf call (length buffer) in
-    let answer : meaning r ≡ outcome call (length buffer) = ready ∙ ready-outcome c m payload buffer size told in
+    let answer : meaning r ≡ outcome call (length buffer) =
+    ready ∙ ap (readyOf size (length buffer)) stepped ∙ ready-outcome c m payload buffer size told in
     let none : eqb fault 0 ≡ written = sym (is ∙ written-none r fault (call .answer) answer) in
     record {
       answer = answer;

@@ -74,11 +74,11 @@ pub fn is_written(sent: Sent) -> bool
     }
 }
 
-// What a packet of so many bytes that makes a move comes to on a buffer with so much room: the step, then whether it fits.
-fn ready(connection: Connection, m: Move, size: usize, room: usize) -> Sent
-    ensures { λ r. ⌜ meaning r ≡ readyOf connection m size room ⌝ }
+// What a packet of so many bytes that makes a step comes to on a buffer with so much room: the step, then whether it fits.
+fn ready(step: Step, size: usize, room: usize) -> Sent
+    ensures { λ r. ⌜ meaning r ≡ readyOf size room step ⌝ }
 {
-    match connection.step(m) {
+    match step {
         Step::Refused(n) => Sent::Refused(n),
         Step::Next(after) => {
             let found = fault::fit(size, room);
@@ -144,8 +144,7 @@ fn bare(connection: Connection, buffer: &mut [u8], m: Move) -> Sent
     ensures { λ _. ⌜ now (buffer .exit) ≡ bufferAfter (bareCall connection m) (now (buffer .entry)) ⌝ }
 {
     let sent = ready(
-        connection,
-        m,
+        connection.step(m),
         PAYLOAD_PLACE + BARE_PAYLOAD as usize,
         buffer.len(),
     );
@@ -177,8 +176,7 @@ pub fn body(connection: Connection, buffer: &mut [u8], bytes: &[u8]) -> Sent
     ensures { λ _. ⌜ now (buffer .exit) ≡ bufferAfter (bodyCall connection (now (bytes .entry))) (now (buffer .entry)) ⌝ }
 {
     let sent = ready(
-        connection,
-        Move::Body(bytes.len()),
+        connection.step_body(bytes.len()),
         body_needs(bytes),
         buffer.len(),
     );
@@ -194,8 +192,7 @@ pub fn body_chunk(connection: Connection, buffer: &mut [u8], bytes: &[u8]) -> Se
     ensures { λ _. ⌜ now (buffer .exit) ≡ bufferAfter (chunkCall connection (now (bytes .entry))) (now (buffer .entry)) ⌝ }
 {
     let sent = ready(
-        connection,
-        Move::BodyChunk(bytes.len()),
+        connection.step_body_chunk(bytes.len()),
         body_chunk_needs(bytes),
         buffer.len(),
     );
@@ -211,8 +208,7 @@ pub fn get_body(connection: Connection, buffer: &mut [u8], asked: u16) -> Sent
     ensures { λ _. ⌜ now (buffer .exit) ≡ bufferAfter (getCall connection asked) (now (buffer .entry)) ⌝ }
 {
     let sent = ready(
-        connection,
-        Move::GetBody(asked),
+        connection.step(Move::GetBody(asked)),
         PAYLOAD_PLACE + GET_BODY_PAYLOAD as usize,
         buffer.len(),
     );
@@ -228,8 +224,7 @@ pub fn end(connection: Connection, buffer: &mut [u8], reuse: bool) -> Sent
     ensures { λ _. ⌜ now (buffer .exit) ≡ bufferAfter (endCall connection reuse) (now (buffer .entry)) ⌝ }
 {
     let sent = ready(
-        connection,
-        Move::End(reuse),
+        connection.step(Move::End(reuse)),
         PAYLOAD_PLACE + END_PAYLOAD as usize,
         buffer.len(),
     );

@@ -20,11 +20,8 @@ move-of-requires c κs = search needs
 step-requires : tie.Need-step-requires
 step-requires c κs = search needs
 
-enum-known-n : tie.Need-enum-known-n
-enum-known-n c = search needs
-
-enum-known-after : tie.Need-enum-known-after
-enum-known-after c = search needs
+stepped-requires : tie.Need-stepped-requires
+stepped-requires c κs = search needs
 
 returns : tie.Need-returns
 unfolding accepting
@@ -32,15 +29,9 @@ returns c = sym (ap (accepting _ _) (c .before .found .given .1))
 
 returns-2 : tie.Need-returns-2
 returns-2 c =
-    accepting-is _ _ _ _
-    (ap (stepOf _) (sym (c .before .before .before .before .move-of .ensures)) ∙ sym (c .before .before .before .step .ensures) ∙ c .before .n .given .1)
-    ∙ sym (ap (accepting _ _) (c .before .before .before .before .before .before .found2 .given .1))
-
-returns-3 : tie.Need-returns-3
-returns-3 c =
-    accepting-is _ _ _ _
-    (ap (stepOf _) (sym (c .before .before .before .before .move-of .ensures)) ∙ sym (c .before .before .before .step .ensures) ∙ c .before .after .given .1)
-    ∙ sym (ap (accepting _ _) (c .before .before .before .before .before .before .found2 .given .1))
+    c .stepped .ensures
+    ∙ accepting-is _ _ _ _ (ap (stepOf _) (sym (c .before .before .move-of .ensures)) ∙ sym (c .before .step .ensures))
+    ∙ sym (ap (accepting _ _) (c .before .before .before .before .found2 .given .1))
 
 pub accept-spec : {M : Type 1} → statement M
 accept-spec =
@@ -50,8 +41,6 @@ accept-spec =
     enum-known-found-2
     move-of-requires
     step-requires
-    enum-known-n
-    enum-known-after
+    stepped-requires
     returns
-    returns-2
-    returns-3)
+    returns-2)

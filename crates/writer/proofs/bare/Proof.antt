@@ -11,6 +11,9 @@ use Rattle.writer.proofs.Laws.{Sends, sends, bare-size}
 use Rattle.writer.proofs.bare.Statement.{statement}
 use Rattle.writer.proofs.bare.Tie as tie
 
+step-requires : tie.Need-step-requires
+step-requires c κs = search needs
+
 cast-ready : tie.Need-cast-ready
 cast-ready c = search needs
 
@@ -24,13 +27,13 @@ is-written-requires : tie.Need-is-written-requires
 is-written-requires c κs = search needs
 
 -- what is known of the answer
-known : (c : tie.After-is-written) → let a = c .before .before .before .args in
+known : (c : tie.After-is-written) → let a = c .before .before .before .before .args in
     Sends (bareCall (a .connection) (a .m)) (a .buffer .now) (c .before .ready .result) (c .is-written .result)
 unfolding bareCall
 known c =
-    let a = c .before .before .before .args in
-    sends (a .connection) (a .m) (barePayload (a .m)) (a .buffer .now) _ (c .before .ready .result) _
-    (sym (ap sizeTold (bare-size (a .m)) ∙ told-exact 5 (omega arith)))
+    let a = c .before .before .before .before .args in
+    sends (a .connection) (a .m) (barePayload (a .m)) (a .buffer .now) _ _ (c .before .ready .result) _
+    (c .before .before .step .ensures) (sym (ap sizeTold (bare-size (a .m)) ∙ told-exact 5 (omega arith)))
     (c .before .ready .ensures)
     (c .is-written .ensures)
 
@@ -40,7 +43,7 @@ kind-requires c κs = search needs
 open-requires : tie.Need-open-requires
 unfolding bareCall
 open-requires c κs =
-    let a = c .before .before .before .before .before .before .args in
+    let a = c .before .before .before .before .before .before .before .args in
     subst (λ k. Fits 0 (opening k 1) (a .buffer .now)) (sym (c .kind .ensures)) (known (c .before .before .before) .fits (c .before .before .if1 .taken))
 
 same-length : tie.Need-same-length
@@ -50,7 +53,7 @@ returns : tie.Need-returns
 unfolding bareCall
 returns c =
     let k = known (c .before .before .before .before .before .before) in
-    let a = c .before .before .before .before .before .before .before .before .before .args in (
+    let a = c .before .before .before .before .before .before .before .before .before .before .args in (
       k .answer,
       c .before .before .«open» .ensures .1
           ∙ ap (λ d. over (a .buffer .now) 0 (opening d 1)) (c .before .before .before .kind .ensures)
@@ -64,6 +67,7 @@ pub bare-spec : {M : Type 1} → statement M
 bare-spec =
     tie.close
     (tie.spec
+    step-requires
     cast-ready
     add-ready
     ready-requires

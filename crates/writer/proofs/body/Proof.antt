@@ -9,6 +9,9 @@ use Rattle.writer.proofs.Laws.{Sends, sends}
 use Rattle.writer.proofs.body.Statement.{statement}
 use Rattle.writer.proofs.body.Tie as tie
 
+step-body-requires : tie.Need-step-body-requires
+step-body-requires c κs = search needs
+
 body-needs-requires : tie.Need-body-needs-requires
 body-needs-requires c κs = search needs
 
@@ -19,13 +22,13 @@ is-written-requires : tie.Need-is-written-requires
 is-written-requires c κs = search needs
 
 -- what is known of the answer
-known : (c : tie.After-is-written) → let a = c .before .before .before .before .before .args in
+known : (c : tie.After-is-written) → let a = c .before .before .before .before .before .before .args in
     Sends (bodyCall (a .connection) (a .bytes .now)) (a .buffer .now) (c .before .ready .result) (c .is-written .result)
 unfolding bodyCall
 known c =
-    let a = c .before .before .before .before .before .args in
-    sends (a .connection) (Move.Body (length (a .bytes .now))) (bodyPayload (a .bytes .now)) (a .buffer .now) _ (c .before .ready .result) _
-    (c .before .before .body-needs .ensures) (c .before .ready .ensures) (c .is-written .ensures)
+    let a = c .before .before .before .before .before .before .args in
+    sends (a .connection) (Move.Body (length (a .bytes .now))) (bodyPayload (a .bytes .now)) (a .buffer .now) _ _ (c .before .ready .result) _
+    (c .before .before .before .step-body .ensures) (c .before .before .body-needs .ensures) (c .before .ready .ensures) (c .is-written .ensures)
 
 write-body-requires : tie.Need-write-body-requires
 unfolding bodyCall
@@ -47,6 +50,7 @@ pub body-spec : {M : Type 1} → statement M
 body-spec =
     tie.close
     (tie.spec
+    step-body-requires
     body-needs-requires
     ready-requires
     is-written-requires

@@ -9,6 +9,9 @@ use Rattle.writer.proofs.Laws.{Sends, sends}
 use Rattle.writer.proofs.body_chunk.Statement.{statement}
 use Rattle.writer.proofs.body_chunk.Tie as tie
 
+step-body-chunk-requires : tie.Need-step-body-chunk-requires
+step-body-chunk-requires c κs = search needs
+
 body-chunk-needs-requires : tie.Need-body-chunk-needs-requires
 body-chunk-needs-requires c κs = search needs
 
@@ -19,13 +22,13 @@ is-written-requires : tie.Need-is-written-requires
 is-written-requires c κs = search needs
 
 -- what is known of the answer
-known : (c : tie.After-is-written) → let a = c .before .before .before .before .before .args in
+known : (c : tie.After-is-written) → let a = c .before .before .before .before .before .before .args in
     Sends (chunkCall (a .connection) (a .bytes .now)) (a .buffer .now) (c .before .ready .result) (c .is-written .result)
 unfolding chunkCall
 known c =
-    let a = c .before .before .before .before .before .args in
-    sends (a .connection) (Move.BodyChunk (length (a .bytes .now))) (chunkPayload (a .bytes .now)) (a .buffer .now) _ (c .before .ready .result) _
-    (c .before .before .body-chunk-needs .ensures) (c .before .ready .ensures) (c .is-written .ensures)
+    let a = c .before .before .before .before .before .before .args in
+    sends (a .connection) (Move.BodyChunk (length (a .bytes .now))) (chunkPayload (a .bytes .now)) (a .buffer .now) _ _ (c .before .ready .result) _
+    (c .before .before .before .step-body-chunk .ensures) (c .before .before .body-chunk-needs .ensures) (c .before .ready .ensures) (c .is-written .ensures)
 
 write-body-chunk-requires : tie.Need-write-body-chunk-requires
 unfolding chunkCall
@@ -47,6 +50,7 @@ pub body-chunk-spec : {M : Type 1} → statement M
 body-chunk-spec =
     tie.close
     (tie.spec
+    step-body-chunk-requires
     body-chunk-needs-requires
     ready-requires
     is-written-requires

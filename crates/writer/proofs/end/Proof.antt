@@ -11,6 +11,9 @@ use Rattle.writer.proofs.Laws.{end-size, Sends, sends}
 use Rattle.writer.proofs.end.Statement.{statement}
 use Rattle.writer.proofs.end.Tie as tie
 
+step-requires : tie.Need-step-requires
+step-requires c κs = search needs
+
 cast-ready : tie.Need-cast-ready
 cast-ready c = search needs
 
@@ -24,13 +27,13 @@ is-written-requires : tie.Need-is-written-requires
 is-written-requires c κs = search needs
 
 -- what is known of the answer
-known : (c : tie.After-is-written) → let a = c .before .before .before .args in
+known : (c : tie.After-is-written) → let a = c .before .before .before .before .args in
     Sends (endCall (a .connection) (a .reuse)) (a .buffer .now) (c .before .ready .result) (c .is-written .result)
 unfolding endCall
 known c =
-    let a = c .before .before .before .args in
-    sends (a .connection) (Move.End (a .reuse)) (endPayload (a .reuse)) (a .buffer .now) _ (c .before .ready .result) _
-    (sym (told-exact 6 (omega arith)) ∙ ap sizeTold (sym (end-size (a .reuse)))) (c .before .ready .ensures) (c .is-written .ensures)
+    let a = c .before .before .before .before .args in
+    sends (a .connection) (Move.End (a .reuse)) (endPayload (a .reuse)) (a .buffer .now) _ _ (c .before .ready .result) _
+    (c .before .before .step .ensures) (sym (told-exact 6 (omega arith)) ∙ ap sizeTold (sym (end-size (a .reuse)))) (c .before .ready .ensures) (c .is-written .ensures)
 
 write-end-requires : tie.Need-write-end-requires
 unfolding endCall
@@ -52,6 +55,7 @@ pub end-spec : {M : Type 1} → statement M
 end-spec =
     tie.close
     (tie.spec
+    step-requires
     cast-ready
     add-ready
     ready-requires

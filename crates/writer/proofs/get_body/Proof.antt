@@ -10,6 +10,9 @@ use Rattle.writer.proofs.Laws.{Sends, sends}
 use Rattle.writer.proofs.get_body.Statement.{statement}
 use Rattle.writer.proofs.get_body.Tie as tie
 
+step-requires : tie.Need-step-requires
+step-requires c κs = search needs
+
 cast-ready : tie.Need-cast-ready
 cast-ready c = search needs
 
@@ -23,13 +26,13 @@ is-written-requires : tie.Need-is-written-requires
 is-written-requires c κs = search needs
 
 -- what is known of the answer
-known : (c : tie.After-is-written) → let a = c .before .before .before .args in
+known : (c : tie.After-is-written) → let a = c .before .before .before .before .args in
     Sends (getCall (a .connection) (a .asked)) (a .buffer .now) (c .before .ready .result) (c .is-written .result)
 unfolding getCall
 known c =
-    let a = c .before .before .before .args in
-    sends (a .connection) (Move.GetBody (a .asked)) (getPayload (a .asked)) (a .buffer .now) _ (c .before .ready .result) _
-    (sym (told-exact 7 (omega arith))) (c .before .ready .ensures) (c .is-written .ensures)
+    let a = c .before .before .before .before .args in
+    sends (a .connection) (Move.GetBody (a .asked)) (getPayload (a .asked)) (a .buffer .now) _ _ (c .before .ready .result) _
+    (c .before .before .step .ensures) (sym (told-exact 7 (omega arith))) (c .before .ready .ensures) (c .is-written .ensures)
 
 write-get-body-requires : tie.Need-write-get-body-requires
 unfolding getCall
@@ -51,6 +54,7 @@ pub get-body-spec : {M : Type 1} → statement M
 get-body-spec =
     tie.close
     (tie.spec
+    step-requires
     cast-ready
     add-ready
     ready-requires

@@ -1,0 +1,68 @@
+-- Each return knows whether a body packet is due and whether its size is allowed, and answers what `stepOf` has for that.
+-- Assumes nothing.
+use mathlib.Core.Path.{_≡_, refl, sym, ap, _∙_}
+use mathlib.Core.Bool.{Bool, true, false}
+use Prim.Native.Nat.{ℕ}
+use borrow.Author.Needs.{needs}
+use borrow.Author.Tests.{not-true, not-false}
+use Rattle.wire.specs.Pick.{pick}
+use Rattle.wire.specs.Refusal.{sizeWrong}
+use Rattle.connection.specs.declared.Move.{Move}
+use Rattle.connection.specs.declared.Step.{Step}
+use Rattle.connection.specs.Connection.{busy}
+use Rattle.connection.specs.Cycle.{sizeAllowed, after, stepOf}
+use Rattle.connection.proofs.Laws.{step-by}
+use Rattle.connection.proofs.Connection.step_body.Statement.{statement}
+use Rattle.connection.proofs.Connection.step_body.Tie as tie
+
+is-body-due-requires : tie.Need-is-body-due-requires
+is-body-due-requires c κs = search needs
+
+returns : tie.Need-returns
+returns c =
+    let a = c .before .before .before .args in
+    sym (step-by (a .self) (Move.Body (a .k)) false _ (sym (c .before .is-body-due .ensures) ∙ not-true _ (c .if1 .taken)) refl)
+
+largest-body-requires : tie.Need-largest-body-requires
+largest-body-requires c κs = search needs
+
+is-size-allowed-requires : tie.Need-is-size-allowed-requires
+is-size-allowed-requires c κs = search needs
+
+-- the step by whether the size is allowed, where a body packet is due
+due-step : (c : tie.After-is-size-allowed) (t : Bool) → c .is-size-allowed .result ≡ t → let a = c .before .before .before .before .before .args in
+    stepOf (a .self) (Move.Body (a .k))
+    ≡ pick t (Step.Next (after (a .self) (Move.Body (a .k)))) (Step.Refused sizeWrong)
+due-step c t e =
+    let a = c .before .before .before .before .before .args in
+    step-by (a .self) (Move.Body (a .k)) true t
+    (sym (c .before .before .before .is-body-due .ensures) ∙ not-false _ (c .before .before .if1 .left))
+    (ap (λ (n : ℕ). sizeAllowed n (a .k)) (sym (c .before .largest-body .ensures)) ∙ sym (c .is-size-allowed .ensures) ∙ e)
+
+returns-2 : tie.Need-returns-2
+returns-2 c = sym (due-step (c .before) false (not-true _ (c .if2 .taken)))
+
+less-requires : tie.Need-less-requires
+less-requires c κs = search needs
+
+busy-requires : tie.Need-busy-requires
+busy-requires c κs = search needs
+
+returns-3 : tie.Need-returns-3
+returns-3 c =
+    let a = c .before .before .before .before .before .before .before .before .args in
+    ap Step.Next (c .busy .ensures ∙ ap (λ (n : ℕ). busy n false 0 (a .self .headers)) (c .before .less .ensures))
+    ∙ sym (due-step (c .before .before .before) true (not-false _ (c .before .before .if2 .left)))
+
+pub step-body-spec : {M : Type 1} → statement M
+step-body-spec =
+    tie.close
+    (tie.spec
+    is-body-due-requires
+    returns
+    largest-body-requires
+    is-size-allowed-requires
+    returns-2
+    less-requires
+    busy-requires
+    returns-3)

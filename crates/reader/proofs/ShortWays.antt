@@ -1,0 +1,140 @@
+-- The short ways: what is known of a packet that goes one, and that it is answered as reading any packet answers it.
+-- Assumes nothing.
+use mathlib.Core.Path.{_≡_, refl, sym, ap, _∙_}
+use mathlib.Core.Bool.{Bool, true, false, false≢true}
+use mathlib.Core.List.{List}
+use Prim.Native.Nat.{ℕ}
+use lib.ListN.{length}
+use Rattle.wire.specs.Pick.{pick}
+use Rattle.wire.specs.Bytes.{part}
+use Rattle.wire.specs.Field.{byteAt}
+use Rattle.wire.specs.declared.Direction.{Direction}
+use Rattle.wire.specs.declared.read.NumberRead.{NumberRead}
+use Rattle.places.specs.Entries.{ended}
+use Rattle.connection.specs.Connection.{bodyDue}
+use Rattle.connection.specs.Cycle.{inState, stepOf}
+use Rattle.connection.specs.declared.Kind.{Kind}
+use Rattle.connection.specs.declared.Move.{Move}
+use Rattle.connection.specs.declared.Connection.{Connection}
+use Rattle.connection.specs.declared.Step.{Step}
+use Rattle.payload.specs.Code.{codePlace, codeKind, kindOfCode, kindAt}
+use Rattle.payload.specs.Kinds.{packetAt, kindIn, moveIn}
+use Rattle.payload.specs.declared.KindRead.{KindRead}
+use Rattle.payload.specs.declared.packet.Packet.{Packet}
+use Rattle.payload.specs.declared.packet.PacketRead.{PacketRead}
+use Rattle.payload.proofs.Laws.{kind-is}
+use Rattle.payload.proofs.Parsed.{parsed-kind}
+use Rattle.reader.specs.declared.frame.FrameRead.{FrameRead}
+use Rattle.reader.specs.Frame.{frameAt}
+use Rattle.reader.specs.Meaning.{Meaning, told}
+use Rattle.reader.specs.Reading.{readAsBody, stepped, accepting, reading, tableAfter}
+use Rattle.reader.specs.Private.{wholeSize, isChunk, bodySize, chunkSize}
+use Rattle.reader.proofs.Laws.{accepting-is, plain-is, whole-kind, read-whole}
+
+-- the size of a body packet, by whether one is due
+pub body-size-by : (c : Connection) (s : List ℕ) (due : Bool) → bodyDue c ≡ due
+    → bodySize c s ≡ pick due (wholeSize (frameAt Direction.ToContainer s)) 0
+unfolding bodySize
+body-size-by c s due e = rw e
+
+-- the size of a chunk, by whether it is allowed and whether the packet's code is a chunk's
+pub chunk-size-by : (c : Connection) (s : List ℕ) (n : ℕ) (allowed chunk : Bool) → inState c Kind.BodyChunk ≡ allowed
+    → n ≡ wholeSize (frameAt Direction.ToServer s) → isChunk (byteAt (part s 0 n) codePlace) ≡ chunk
+    → chunkSize c s ≡ pick allowed (pick chunk n 0) 0
+unfolding chunkSize
+chunk-size-by c s n allowed chunk p q e = rw (p, ← q, e)
+
+-- a packet that goes a short way: so many bytes are a whole packet of a kind that is allowed
+pub record Short (d : Direction) (c : Connection) (s : List ℕ) (kind : Kind) (n : ℕ) : Type 0 where
+  pub whole : frameAt d s ≡ FrameRead.Whole n
+  pub kind-read : kindAt d (readAsBody d c) (part s 0 n) ≡ KindRead.Kind kind
+  pub allowed : inState c kind ≡ true
+
+-- a size that is not 0 is a whole packet's
+size-whole : (frame : FrameRead) (n : ℕ) → n ≡ wholeSize frame → (n ≡ 0 → ⊥) → frame ≡ FrameRead.Whole n
+size-whole (FrameRead.Needs k) n e h = absurd (h e)
+size-whole (FrameRead.Refused k) n e h = absurd (h e)
+size-whole (FrameRead.Whole k) n e h = ap FrameRead.Whole (sym e)
+
+-- so it is with a body packet's size
+pub short-body : (c : Connection) (s : List ℕ) (n : ℕ) → n ≡ bodySize c s → (n ≡ 0 → ⊥) → Short Direction.ToContainer c s Kind.Body n
+unfolding bodySize
+short-body c s n e h = go (bodyDue c) refl e
+  where
+    go : (due : Bool) → bodyDue c ≡ due → n ≡ pick due (wholeSize (frameAt Direction.ToContainer s)) 0
+        → Short Direction.ToContainer c s Kind.Body n
+    go false q e = absurd (h e)
+    go true q e = record {
+      whole = size-whole (frameAt Direction.ToContainer s) n e h;
+      kind-read = kind-is Direction.ToContainer (bodyDue c) true (part s 0 n) (byteAt (part s 0 n) codePlace) q refl;
+      allowed = q;
+    }
+
+-- a packet with a chunk's code is a Send Body Chunk
+chunk-kind : (s : List ℕ) → isChunk (byteAt s codePlace) ≡ true → kindAt Direction.ToServer false s ≡ KindRead.Kind Kind.BodyChunk
+unfolding codeKind
+chunk-kind s e = kind-is Direction.ToServer false false s (byteAt s codePlace) refl refl ∙ go (byteAt s codePlace) e
+  where
+    go : (code : NumberRead) → isChunk code ≡ true → kindOfCode Direction.ToServer code ≡ KindRead.Kind Kind.BodyChunk
+    go (NumberRead.Refused n) e = absurd (false≢true e)
+    go (NumberRead.Number code next) e = rw e
+
+-- and with a chunk's
+pub short-chunk : (c : Connection) (s : List ℕ) (n : ℕ) → n ≡ chunkSize c s → (n ≡ 0 → ⊥) → Short Direction.ToServer c s Kind.BodyChunk n
+unfolding chunkSize
+short-chunk c s n e h = go (inState c Kind.BodyChunk) (isChunk (byteAt (part s 0 size) codePlace)) refl refl e
+  where
+    size : ℕ
+    size = wholeSize (frameAt Direction.ToServer s)
+
+    go : (allowed chunk : Bool) → inState c Kind.BodyChunk ≡ allowed → isChunk (byteAt (part s 0 size) codePlace) ≡ chunk
+        → n ≡ pick allowed (pick chunk size 0) 0 → Short Direction.ToServer c s Kind.BodyChunk n
+    go false chunk p q e = absurd (h e)
+    go true false p q e = absurd (h e)
+    go true true p q e = record {
+      whole = size-whole (frameAt Direction.ToServer s) n e h;
+      kind-read = chunk-kind (part s 0 n) (ap (λ (k : ℕ). isChunk (byteAt (part s 0 k) codePlace)) e ∙ q);
+      allowed = p;
+    }
+
+-- a packet without headers that goes a short way: it was stepped by, and the table is as it was
+pub short-is : (d : Direction) (c : Connection) (s table : List ℕ) (kind : Kind) (n : ℕ) (packet : List ℕ) (end : PacketRead) (r : Meaning)
+    → Short d c s kind n → packet ≡ part s 0 n → packetAt kind packet ≡ ended end → r ≡ accepting c (length packet) end
+    → (r ≡ reading d c s (length table)) × (table ≡ tableAfter d c s table)
+short-is d c s table kind n packet end r short p q e =
+    read-whole d c s table n packet r table (short .whole) p
+    (whole-kind d c packet table kind r table (ap (kindAt d (readAsBody d c)) p ∙ short .kind-read) (short .allowed)
+    (plain-is c kind kind packet table end end r refl q refl e))
+
+-- the move of a packet of a kind: of a body packet and of a chunk by its size
+abbrev pub movedBy : Kind → Move → ℕ → Move
+movedBy Kind.CPing m k = m
+movedBy Kind.CPong m k = m
+movedBy Kind.Forward m k = m
+movedBy Kind.Body m k = Move.Body k
+movedBy Kind.GetBody m k = m
+movedBy Kind.SendHeaders m k = m
+movedBy Kind.BodyChunk m k = Move.BodyChunk k
+movedBy Kind.End m k = m
+
+-- every packet moves so by its own kind
+own-move : (p : Packet) → moveIn p ≡ movedBy (kindIn p) (moveIn p) (told p .len)
+own-move Packet.CPing = refl
+own-move Packet.CPong = refl
+own-move (Packet.Forward forward) = refl
+own-move (Packet.Body part) = refl
+own-move (Packet.GetBody asked) = refl
+own-move (Packet.SendHeaders head) = refl
+own-move (Packet.BodyChunk part) = refl
+own-move (Packet.End reuse) = refl
+
+-- a packet that was read as of a kind, and stepped by the move of that kind with its size
+pub sized-stepped : (kind : Kind) (c : Connection) (s : List ℕ) (taken : ℕ) (packet : Packet) (k : ℕ) (step : Step)
+    → packetAt kind s .end ≡ PacketRead.Packet packet → k ≡ told packet .len → step ≡ stepOf c (movedBy kind (moveIn packet) k)
+    → stepped packet taken step ≡ accepting c taken (packetAt kind s .end)
+sized-stepped kind c s taken packet k step e q f =
+    let moves : moveIn packet ≡ movedBy kind (moveIn packet) k =
+    own-move packet
+    ∙ ap (λ (own : Kind). movedBy own (moveIn packet) (told packet .len)) (parsed-kind kind s packet e)
+    ∙ ap (movedBy kind (moveIn packet)) (sym q) in
+    accepting-is c taken packet step (ap (stepOf c) moves ∙ sym f) ∙ ap (accepting c taken) (sym e)

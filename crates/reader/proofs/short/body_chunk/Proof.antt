@@ -1,0 +1,52 @@
+-- `reader::short::body_chunk` meets its contract, by what is read and by the step.
+-- Assumes nothing.
+use mathlib.Core.Path.{sym, ap, _∙_}
+use Rattle.connection.specs.declared.Kind.{Kind}
+use Rattle.reader.specs.Reading.{accepting}
+use Rattle.reader.proofs.ShortWays.{sized-stepped}
+use borrow.Author.Needs.{needs}
+use Rattle.reader.proofs.short.body_chunk.Statement.{statement}
+use Rattle.reader.proofs.short.body_chunk.Tie as tie
+
+read-requires : tie.Need-read-requires
+read-requires c κs = search needs
+
+enum-known-n : tie.Need-enum-known-n
+enum-known-n c = search needs
+
+enum-known-found : tie.Need-enum-known-found
+enum-known-found c = search needs
+
+len-of-requires : tie.Need-len-of-requires
+len-of-requires c κs = search needs
+
+step-body-chunk-requires : tie.Need-step-body-chunk-requires
+step-body-chunk-requires c κs = search needs
+
+stepped-requires : tie.Need-stepped-requires
+stepped-requires c κs = search needs
+
+returns : tie.Need-returns
+unfolding accepting
+returns c = sym (ap (accepting _ _) (sym (c .before .before .before .read .ensures) ∙ c .before .n .given .1))
+
+returns-2 : tie.Need-returns-2
+returns-2 c =
+    let a = c .before .before .before .before .before .before .before .before .args in
+    c .stepped .ensures
+    ∙ sized-stepped Kind.BodyChunk (a .connection) (a .packet .now) _ _ _ _
+    (sym (c .before .before .before .before .before .before .read .ensures) ∙ c .before .before .before .before .found .given .1)
+    (c .before .before .len-of .ensures) (c .before .step-body-chunk .ensures)
+
+pub body-chunk-spec : {M : Type 1} → statement M
+body-chunk-spec =
+    tie.close
+    (tie.spec
+    read-requires
+    enum-known-n
+    enum-known-found
+    len-of-requires
+    step-body-chunk-requires
+    stepped-requires
+    returns
+    returns-2)
