@@ -136,7 +136,7 @@ impl Connection {
     pub fn read_at_container<'a>(&mut self, bytes: &'a [u8], table: &'a mut [u16]) -> Received<'a> {
         let mut answer = [0; raw::ANSWER_WORDS];
         let status = raw::read_at_container(&mut self.words, bytes, table, &mut answer);
-        Received::new(status, answer, bytes, table)
+        Received::new(status, &answer, bytes, table)
     }
 
     /// Reads the packet at the start of `bytes`, at the server's end. `table` is lent for the places of headers:
@@ -145,7 +145,7 @@ impl Connection {
     pub fn read_at_server<'a>(&mut self, bytes: &'a [u8], table: &'a mut [u16]) -> Received<'a> {
         let mut answer = [0; raw::ANSWER_WORDS];
         let status = raw::read_at_server(&mut self.words, bytes, table, &mut answer);
-        Received::new(status, answer, bytes, table)
+        Received::new(status, &answer, bytes, table)
     }
 
     /// Writes a CPing to the start of `buffer` and hands out its bytes. From the server's end.

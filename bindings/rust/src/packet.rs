@@ -91,7 +91,7 @@ impl<'a> Received<'a> {
     #[inline]
     pub(crate) fn new(
         status: u32,
-        answer: [u32; raw::ANSWER_WORDS],
+        answer: &[u32; raw::ANSWER_WORDS],
         bytes: &'a [u8],
         table: &'a [u16],
     ) -> Received<'a> {
@@ -137,7 +137,7 @@ pub enum Packet<'a> {
 
 impl<'a> Packet<'a> {
     #[inline]
-    fn new(answer: [u32; raw::ANSWER_WORDS], packet: &'a [u8], table: &'a [u16]) -> Packet<'a> {
+    fn new(answer: &[u32; raw::ANSWER_WORDS], packet: &'a [u8], table: &'a [u16]) -> Packet<'a> {
         match answer[raw::KIND] {
             raw::CPING => Packet::CPing,
             raw::CPONG => Packet::CPong,
@@ -146,7 +146,7 @@ impl<'a> Packet<'a> {
                 Packet::Forward(Forward {
                     packet,
                     places: &table[..2 * entries as usize],
-                    answer,
+                    answer: *answer,
                 })
             }
             raw::BODY => Packet::Body(part(packet, answer[raw::START], answer[raw::LEN])),

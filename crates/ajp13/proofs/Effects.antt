@@ -25,7 +25,7 @@ use Rattle.ajp13.specs.Answer.{answerFault}
 use Rattle.ajp13.specs.Effect.{Effect, leaves, checked, callFault}
 use Rattle.ajp13.specs.Reading.{afterReading, readEffect}
 use Rattle.ajp13.specs.Sending.{afterSending, sendEffect, closeFault, closeEffect}
-use Rattle.ajp13.specs.Private.{ConnectionFits, BuildingFits, Takes}
+use Rattle.ajp13.specs.Private.{ConnectionFits, BuildingFits, Takes, soundReading}
 use Rattle.ajp13.proofs.Records.{connection-fits, building-fits}
 
 -- an array that is to take a connection has room for it
@@ -78,18 +78,23 @@ module _ (connection lent answer : List ℕ) (fault found : ℕ) (is : found ≡
   pub none-told : found ≡ 0 → effect ≡ checked fault connection lent answer effect
   none-told h = rw (← is, eq-eqb found 0 h)
 
--- where there is none, and the reader answered and left the table so, this is what reading leaves
-pub read-leaves : (direction : Direction) (connection bytes table answer : List ℕ) (found : ℕ) (c : Connection) (m : Meaning) (after : List ℕ) (e : Effect)
-    → found ≡ callFault connection answer → found ≡ 0 → c ≡ connectionIn connection → m ≡ reading direction c bytes (length table)
-    → after ≡ tableAfter direction c bytes table → e ≡ afterReading m connection after answer
-    → e ≡ readEffect direction connection bytes table answer
-unfolding readEffect
-read-leaves direction connection bytes table answer found c m after e is none from says fills tells =
+-- where the reader answered and left the table so, this is what reading leaves
+pub sound-reading : (direction : Direction) (connection bytes table answer : List ℕ) (c : Connection) (m : Meaning) (after : List ℕ) (e : Effect)
+    → c ≡ connectionIn connection → m ≡ reading direction c bytes (length table) → after ≡ tableAfter direction c bytes table
+    → e ≡ afterReading m connection after answer → e ≡ soundReading direction connection bytes table answer
+sound-reading direction connection bytes table answer c m after e from says fills tells =
     tells
     ∙ ap (λ (x : Meaning). afterReading x connection after answer) (says ∙ ap (λ (x : Connection). reading direction x bytes (length table)) from)
     ∙ ap (λ (l : List ℕ). afterReading (reading direction (connectionIn connection) bytes (length table)) connection l answer)
     (fills ∙ ap (λ (x : Connection). tableAfter direction x bytes table) from)
-    ∙ none-told connection table answer (callFault connection answer) found is _ none
+
+-- and this is what the call leaves, where it has no fault
+pub read-leaves : (direction : Direction) (connection bytes table answer : List ℕ) (found : ℕ) (e : Effect)
+    → found ≡ callFault connection answer → found ≡ 0 → e ≡ soundReading direction connection bytes table answer
+    → e ≡ readEffect direction connection bytes table answer
+unfolding readEffect
+read-leaves direction connection bytes table answer found e is none sound =
+    sound ∙ none-told connection table answer (callFault connection answer) found is _ none
 
 -- where a call came to this and left the buffer so, this is what sending leaves
 sending-leaves : (kind : Kind) (connection buffer answer : List ℕ) (fault found : ℕ) (o p : Outcome Written) (after then : List ℕ) (e : Effect)

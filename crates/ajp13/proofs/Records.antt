@@ -19,7 +19,7 @@ use Rattle.pieces.specs.Record as building
 use Rattle.pieces.specs.declared.BuildingKind.{BuildingKind}
 use Rattle.pieces.specs.declared.Building.{Building}
 use Rattle.ajp13.specs.Status as status
-use Rattle.ajp13.specs.Words.{areConnection, stateWord, stateIn, flagIn, connectionFault, connectionIn, connectionWords, areBuilding, kindWord, isForward, isSendHeaders, buildingKindIn, buildingFault, buildingIn, buildingWords}
+use Rattle.ajp13.specs.Words.{word, areConnection, stateWord, stateIn, flagIn, connectionFault, connectionIn, connectionWords, areBuilding, kindWord, isForward, isSendHeaders, buildingKindIn, buildingFault, buildingIn, buildingWords}
 use Rattle.ajp13.specs.Private.{ConnectionFits, BuildingFits}
 
 -- where both tests hold, each does
@@ -48,9 +48,11 @@ module _ (words : List ℕ) where
   unfolding connectionFault
   connection-short h = rw (ne-eqb (length words) 5 h)
 
-  pub connection-judged : length words ≡ 5 → unless (areConnection words) status.connectionWord ≡ connectionFault words
+  pub connection-judged : length words ≡ 5 → (state due asked headers : Bool) → leb (word words 0) 3 ≡ state → leb (word words 2) 1 ≡ due
+      → leb (word words 3) 65535 ≡ asked → leb (word words 4) 1 ≡ headers
+      → unless (both (both (both state due) asked) headers) status.connectionWord ≡ connectionFault words
   unfolding connectionFault
-  connection-judged h = rw (eq-eqb (length words) 5 h)
+  connection-judged h state due asked headers p q r s = rw (eq-eqb (length words) 5 h, p, q, r, s)
 
   -- of a building record's
   pub building-short : (length words ≡ 5 → ⊥) → status.buildingLength ≡ buildingFault words

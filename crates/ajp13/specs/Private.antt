@@ -4,12 +4,16 @@ use mathlib.Core.Path.{_≡_}
 use mathlib.Core.List.{List}
 use Prim.Native.Nat.{ℕ, _≤_}
 use lib.ListN.{length}
+use Rattle.wire.specs.declared.Direction.{Direction}
 use Rattle.connection.specs.Connection.{maxPacket}
 use Rattle.fields.specs.Call as call
 use Rattle.reader.specs.Meaning as read
+use Rattle.reader.specs.Reading.{reading, tableAfter}
 use Rattle.writer.specs.Meaning.{Written}
-use Rattle.ajp13.specs.Words.{word, lastNumber, connectionSize, askedPlace, buildingSize, nextPlace, countPlace, soFarPlace}
+use Rattle.ajp13.specs.Words.{word, lastNumber, connectionSize, askedPlace, connectionIn, buildingSize, nextPlace, countPlace, soFarPlace}
 use Rattle.ajp13.specs.Answer.{answerSize}
+use Rattle.ajp13.specs.Effect.{Effect}
+use Rattle.ajp13.specs.Reading.{afterReading}
 
 -- the words of a connection: all of them are there, and the number among them is one
 pub record ConnectionFits (words : List ℕ) : Type 0 where
@@ -38,3 +42,10 @@ ReadWithin (read.accepted t taken after) = taken ≤ maxPacket
 abbrev pub SentWithin : call.Outcome Written → Type 0
 SentWithin (call.refused n) = Unit
 SentWithin (call.done w) = w .length ≤ maxPacket
+
+-- what reading leaves where the call has no fault
+abbrev pub soundReading : Direction → List ℕ → List ℕ → List ℕ → List ℕ → Effect
+soundReading direction connection bytes table answer =
+    afterReading (reading direction (connectionIn connection) bytes (length table)) connection
+    (tableAfter direction (connectionIn connection) bytes table)
+    answer

@@ -1,10 +1,11 @@
 // The words of an answer, and what every call that writes one looks for first.
 ghost use mathlib.Core.Path.{_≡_};
+ghost use mathlib.Core.Bool.{true};
 ghost use Prim.Native.Nat.{_≤_};
 ghost use Rattle.connection.specs.Connection.{maxPacket};
 ghost use Rattle.payload.specs.declared.packet.Packet.{Packet};
-ghost use Rattle.reader.specs.Meaning.{told};
-ghost use Rattle.ajp13.specs.Answer.{answerFault, row, needsWords, writtenWords, toldWords};
+ghost use Rattle.reader.specs.Meaning.{parted, told};
+ghost use Rattle.ajp13.specs.Answer.{answerFault, row, needsWords, writtenWords, hasPart, toldWords};
 ghost use Rattle.ajp13.specs.Effect.{callFault};
 use crate::status;
 use crate::status::or_else;
@@ -15,6 +16,7 @@ use crate::words::kind_word;
 use connection::Kind;
 use payload::packet::Forward;
 use payload::packet::Packet;
+use payload::packet::Part;
 
 // How many words an answer has.
 const ANSWER_SIZE: usize = 13;
@@ -65,6 +67,20 @@ pub fn written_words(kind: Kind, bytes: u32) -> [u32; 13]
     row(kind_word(kind), bytes, 0, 0, 0)
 }
 
+// What is told of a body packet or a chunk.
+pub fn part_words(kind: Kind, part: Part, bytes: u32) -> [u32; 13]
+    requires { ⌜ hasPart kind ≡ true ⌝ }
+    ensures { λ r. ⌜ r ≡ toldWords (parted kind (part .start .0) (part .len)) bytes ⌝ }
+{
+    row(
+        kind_word(kind),
+        bytes,
+        part.start.0 as u32,
+        part.len as u32,
+        0,
+    )
+}
+
 // What is told of a Forward.
 fn forward_words(f: Forward, bytes: u32) -> [u32; 13]
     ensures { λ r. ⌜ r ≡ toldWords (told (Packet.Forward f)) bytes ⌝ }
@@ -94,13 +110,7 @@ pub fn told_words(packet: Packet, bytes: u32) -> [u32; 13]
         Packet::CPing => written_words(Kind::CPing, bytes),
         Packet::CPong => written_words(Kind::CPong, bytes),
         Packet::Forward(f) => forward_words(f, bytes),
-        Packet::Body(p) => row(
-            kind_word(Kind::Body),
-            bytes,
-            p.start.0 as u32,
-            p.len as u32,
-            0,
-        ),
+        Packet::Body(p) => part_words(Kind::Body, p, bytes),
         Packet::GetBody(asked) => row(kind_word(Kind::GetBody), bytes, asked as u32, 0, 0),
         Packet::SendHeaders(h) => row(
             kind_word(Kind::SendHeaders),
@@ -109,13 +119,7 @@ pub fn told_words(packet: Packet, bytes: u32) -> [u32; 13]
             h.message.0 as u32,
             h.headers as u32,
         ),
-        Packet::BodyChunk(p) => row(
-            kind_word(Kind::BodyChunk),
-            bytes,
-            p.start.0 as u32,
-            p.len as u32,
-            0,
-        ),
+        Packet::BodyChunk(p) => part_words(Kind::BodyChunk, p, bytes),
         Packet::End(reuse) => row(kind_word(Kind::End), bytes, flag_word(reuse), 0, 0),
     }
 }

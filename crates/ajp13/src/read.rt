@@ -1,23 +1,34 @@
 // Reading at both ends. "needs" writes the answer alone; a refusal and an error write nothing.
+// A body packet and a chunk go a short way each, from the connection's words to the answer's without a record in memory between them.
 ghost use mathlib.Core.Path.{_≡_};
+ghost use mathlib.Core.Bool.{true};
 ghost use mathlib.Core.List.{List};
-ghost use Prim.Native.Nat.{ℕ};
+ghost use Prim.Native.Nat.{ℕ, _≤_};
 ghost use Rattle.wire.specs.declared.Direction.{Direction};
-ghost use Rattle.reader.specs.Meaning.{meaning};
+ghost use Rattle.connection.specs.Connection.{maxPacket};
+ghost use Rattle.reader.specs.Meaning.{accepted, parted, meaning};
+ghost use Rattle.ajp13.specs.Answer.{hasPart};
 ghost use Rattle.ajp13.specs.Effect.{leaves};
 ghost use Rattle.ajp13.specs.Reading.{afterReading, readEffect};
-ghost use Rattle.ajp13.specs.Private.{Takes, ReadWithin};
+ghost use Rattle.ajp13.specs.Private.{ConnectionFits, Takes, ReadWithin, soundReading};
 use crate::answer::bytes_word;
 use crate::answer::call_fault;
 use crate::answer::needs_words;
+use crate::answer::part_words;
 use crate::answer::told_words;
 use crate::status;
 use crate::words::connection_in;
 use crate::words::fill;
 use crate::words::put_connection;
+use connection::Connection;
+use connection::Kind;
+use payload::packet::Part;
 use reader::Received;
-use reader::read_at_container;
-use reader::read_at_server;
+use reader::read;
+use reader::short::PartRead;
+use reader::short::read_body;
+use reader::short::read_body_chunk;
+use wire::Direction;
 
 // Tells what the reader answered: the status, the connection after it and the answer's words.
 fn tell(received: Received, connection: &mut [u32], answer: &mut [u32]) -> u32
@@ -45,6 +56,42 @@ fn tell(received: Received, connection: &mut [u32], answer: &mut [u32]) -> u32
     }
 }
 
+// Reads a packet of any kind. Both ends call it for all that goes no short way, so that it stays out of the short ways.
+fn read_any(
+    direction: Direction,
+    connection: &mut [u32],
+    bytes: &[u8],
+    table: &mut [u16],
+    answer: &mut [u32],
+) -> u32
+    requires { ⌜ ConnectionFits (now connection) ⌝ }
+    requires { ⌜ Takes (now connection) (now answer) ⌝ }
+    ensures { λ r. ⌜ leaves r (now (connection .exit)) (now (table .exit)) (now (answer .exit)) ≡ soundReading direction (now (connection .entry)) (now (bytes .entry)) (now (table .entry)) (now (answer .entry)) ⌝ }
+{
+    let received = read(direction, connection_in(connection), bytes, table);
+    tell(received, connection, answer)
+}
+
+// Tells of a body packet or a chunk that was accepted, in the same way as any packet; it is small, so that it becomes part of both calls below.
+fn tell_part(
+    kind: Kind,
+    part: Part,
+    taken: usize,
+    after: Connection,
+    connection: &mut [u32],
+    answer: &mut [u32],
+) -> u32
+    requires { ⌜ Takes (now connection) (now answer) ⌝ }
+    requires { ⌜ hasPart kind ≡ true ⌝ }
+    requires { ⌜ taken ≤ maxPacket ⌝ }
+    ensures { λ r. ⌜ ((table : List ℕ) → leaves r (now (connection .exit)) table (now (answer .exit)) ≡ afterReading (accepted (parted kind (part .start .0) (part .len)) taken after) (now (connection .entry)) table (now (answer .entry))) ⌝ }
+{
+    put_connection(connection, after);
+    let words = part_words(kind, part, bytes_word(taken));
+    fill(answer, &words);
+    status::DONE
+}
+
 // The container's end reads the first packet of the bytes. Where it is accepted, the table has the places of its headers and attributes.
 #[no_mangle]
 pub extern "C" fn ajp13_read_at_container(
@@ -59,8 +106,15 @@ pub extern "C" fn ajp13_read_at_container(
     if found != status::DONE {
         return found;
     }
-    let received = read_at_container(connection_in(connection), bytes, table);
-    tell(received, connection, answer)
+    match read_body(connection_in(connection), bytes) {
+        PartRead::Other => read_any(Direction::ToContainer, connection, bytes, table, answer),
+        PartRead::Refused(n) => n as u32,
+        PartRead::Part {
+            part,
+            taken,
+            connection: after,
+        } => tell_part(Kind::Body, part, taken, after, connection, answer),
+    }
 }
 
 // The server's end reads the first packet of the bytes. Where it is accepted, the table has the places of its headers and attributes.
@@ -77,6 +131,13 @@ pub extern "C" fn ajp13_read_at_server(
     if found != status::DONE {
         return found;
     }
-    let received = read_at_server(connection_in(connection), bytes, table);
-    tell(received, connection, answer)
+    match read_body_chunk(connection_in(connection), bytes) {
+        PartRead::Other => read_any(Direction::ToServer, connection, bytes, table, answer),
+        PartRead::Refused(n) => n as u32,
+        PartRead::Part {
+            part,
+            taken,
+            connection: after,
+        } => tell_part(Kind::BodyChunk, part, taken, after, connection, answer),
+    }
 }

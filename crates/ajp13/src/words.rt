@@ -172,20 +172,26 @@ pub fn connection_room(words: &[u32]) -> u32
     unless(words.len() == CONNECTION_SIZE, status::CONNECTION_LENGTH)
 }
 
-// The fault of the words of a connection.
+// The fault of the words of a connection. A test for each word, and not one for all: the tests then need no registers to be put together.
 pub fn connection_fault(words: &[u32]) -> u32
     ensures { λ r. ⌜ r ≡ connectionFault (now (words .entry)) ⌝ }
 {
     if words.len() != CONNECTION_SIZE {
         return status::CONNECTION_LENGTH;
     }
-    unless(
-        (words[STATE] <= CLOSED)
-            & (words[DUE] <= SET)
-            & (words[ASKED] <= LAST_NUMBER)
-            & (words[HEADERS_SENT] <= SET),
-        status::CONNECTION_WORD,
-    )
+    if CLOSED < words[STATE] {
+        return status::CONNECTION_WORD;
+    }
+    if SET < words[DUE] {
+        return status::CONNECTION_WORD;
+    }
+    if LAST_NUMBER < words[ASKED] {
+        return status::CONNECTION_WORD;
+    }
+    if SET < words[HEADERS_SENT] {
+        return status::CONNECTION_WORD;
+    }
+    status::DONE
 }
 
 // The connection that words are.

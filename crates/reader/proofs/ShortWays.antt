@@ -1,6 +1,6 @@
 -- The short ways: what is known of a packet that goes one, and that it is answered as reading any packet answers it.
 -- Assumes nothing.
-use mathlib.Core.Path.{_≡_, refl, sym, ap, _∙_}
+use mathlib.Core.Path.{_≡_, refl, sym, ap, subst, _∙_}
 use mathlib.Core.Bool.{Bool, true, false, false≢true}
 use mathlib.Core.List.{List}
 use Prim.Native.Nat.{ℕ}
@@ -20,15 +20,18 @@ use Rattle.connection.specs.declared.Step.{Step}
 use Rattle.payload.specs.Code.{codePlace, codeKind, kindOfCode, kindAt}
 use Rattle.payload.specs.Kinds.{packetAt, kindIn, moveIn}
 use Rattle.payload.specs.declared.KindRead.{KindRead}
+use Rattle.payload.specs.declared.packet.Part.{Part}
 use Rattle.payload.specs.declared.packet.Packet.{Packet}
 use Rattle.payload.specs.declared.packet.PacketRead.{PacketRead}
 use Rattle.payload.proofs.Laws.{kind-is}
 use Rattle.payload.proofs.Parsed.{parsed-kind}
 use Rattle.reader.specs.declared.frame.FrameRead.{FrameRead}
 use Rattle.reader.specs.Frame.{frameAt}
-use Rattle.reader.specs.Meaning.{Meaning, told}
+use Rattle.reader.specs.declared.short.PartRead.{PartRead}
+use Rattle.reader.specs.Meaning.{Meaning, Told, accepted, told, parted}
 use Rattle.reader.specs.Reading.{readAsBody, stepped, accepting, reading, tableAfter}
-use Rattle.reader.specs.Private.{wholeSize, isChunk, bodySize, chunkSize}
+use Rattle.reader.specs.Short.{PartMeans, Read, PartRight}
+use Rattle.reader.specs.Private.{wholeSize, isChunk, bodySize, chunkSize, partIn, steppedPart, PartAccepted}
 use Rattle.reader.proofs.Laws.{accepting-is, plain-is, whole-kind, read-whole}
 
 -- the size of a body packet, by whether one is due
@@ -106,6 +109,12 @@ short-is d c s table kind n packet end r short p q e =
     (whole-kind d c packet table kind r table (ap (kindAt d (readAsBody d c)) p ∙ short .kind-read) (short .allowed)
     (plain-is c kind kind packet table end end r refl q refl e))
 
+-- what a short way's answer means has a property, and so every property that follows from it
+pub part-so : (kind : Kind) (P Q : Meaning → Type 0) (r : PartRead) → ((m : Meaning) → P m → Q m) → PartMeans kind P r → PartMeans kind Q r
+part-so kind P Q PartRead.Other f h = tt
+part-so kind P Q (PartRead.Refused n) f h = f _ h
+part-so kind P Q (PartRead.Part part taken after) f h = f _ h
+
 -- the move of a packet of a kind: of a body packet and of a chunk by its size
 abbrev pub movedBy : Kind → Move → ℕ → Move
 movedBy Kind.CPing m k = m
@@ -117,24 +126,57 @@ movedBy Kind.SendHeaders m k = m
 movedBy Kind.BodyChunk m k = Move.BodyChunk k
 movedBy Kind.End m k = m
 
--- every packet moves so by its own kind
-own-move : (p : Packet) → moveIn p ≡ movedBy (kindIn p) (moveIn p) (told p .len)
-own-move Packet.CPing = refl
-own-move Packet.CPong = refl
-own-move (Packet.Forward forward) = refl
-own-move (Packet.Body part) = refl
-own-move (Packet.GetBody asked) = refl
-own-move (Packet.SendHeaders head) = refl
-own-move (Packet.BodyChunk part) = refl
-own-move (Packet.End reuse) = refl
+-- what a packet of a kind tells: a body packet and a chunk its part
+abbrev pub toldBy : Kind → Told → Part → Told
+toldBy Kind.CPing t p = t
+toldBy Kind.CPong t p = t
+toldBy Kind.Forward t p = t
+toldBy Kind.Body t p = parted Kind.Body (p .start .0) (p .len)
+toldBy Kind.GetBody t p = t
+toldBy Kind.SendHeaders t p = t
+toldBy Kind.BodyChunk t p = parted Kind.BodyChunk (p .start .0) (p .len)
+toldBy Kind.End t p = t
 
--- a packet that was read as of a kind, and stepped by the move of that kind with its size
-pub sized-stepped : (kind : Kind) (c : Connection) (s : List ℕ) (taken : ℕ) (packet : Packet) (k : ℕ) (step : Step)
-    → packetAt kind s .end ≡ PacketRead.Packet packet → k ≡ told packet .len → step ≡ stepOf c (movedBy kind (moveIn packet) k)
-    → stepped packet taken step ≡ accepting c taken (packetAt kind s .end)
-sized-stepped kind c s taken packet k step e q f =
-    let moves : moveIn packet ≡ movedBy kind (moveIn packet) k =
-    own-move packet
-    ∙ ap (λ (own : Kind). movedBy own (moveIn packet) (told packet .len)) (parsed-kind kind s packet e)
-    ∙ ap (movedBy kind (moveIn packet)) (sym q) in
-    accepting-is c taken packet step (ap (stepOf c) moves ∙ sym f) ∙ ap (accepting c taken) (sym e)
+-- every packet moves and tells so by its own kind
+own : (p : Packet) → (moveIn p ≡ movedBy (kindIn p) (moveIn p) (partIn p .len)) × (told p ≡ toldBy (kindIn p) (told p) (partIn p))
+own Packet.CPing = (refl, refl)
+own Packet.CPong = (refl, refl)
+own (Packet.Forward forward) = (refl, refl)
+own (Packet.Body part) = (refl, refl)
+own (Packet.GetBody asked) = (refl, refl)
+own (Packet.SendHeaders head) = (refl, refl)
+own (Packet.BodyChunk part) = (refl, refl)
+own (Packet.End reuse) = (refl, refl)
+
+-- a part that was stepped by means the packet that was stepped by, which tells so
+part-step : (kind : Kind) (packet : Packet) (part : Part) (taken : ℕ) (step : Step) (m : Meaning) → told packet ≡ parted kind (part .start .0) (part .len)
+    → stepped packet taken step ≡ m → PartMeans kind (λ (n : Meaning). n ≡ m) (steppedPart part taken step)
+part-step kind packet part taken (Step.Refused n) m t e = e
+part-step kind packet part taken (Step.Next after) m t e = ap (λ (x : Told). accepted x taken after) (sym t) ∙ e
+
+-- a packet that was read as of a kind with a part, and stepped by the move of that kind with the part's size
+pub part-stepped : (kind : Kind) (c : Connection) (s : List ℕ) (taken : ℕ) (packet : Packet) (part : Part) (step : Step) (r : PartRead)
+    → ((t : Told) → toldBy kind t part ≡ parted kind (part .start .0) (part .len))
+    → packetAt kind s .end ≡ PacketRead.Packet packet → part ≡ partIn packet → step ≡ stepOf c (movedBy kind (moveIn packet) (part .len))
+    → r ≡ steppedPart part taken step → PartAccepted kind c taken (packetAt kind s .end) r
+part-stepped kind c s taken packet part step r tells e q f is =
+    let is-kind : kindIn packet ≡ kind = parsed-kind kind s packet e in
+    let moves : moveIn packet ≡ movedBy kind (moveIn packet) (part .len) =
+    own packet .0
+    ∙ ap (λ (k : Kind). movedBy k (moveIn packet) (partIn packet .len)) is-kind
+    ∙ ap (λ (p : Part). movedBy kind (moveIn packet) (p .len)) (sym q) in
+    let says : told packet ≡ parted kind (part .start .0) (part .len) =
+    own packet .1
+    ∙ ap (λ (k : Kind). toldBy k (told packet) (partIn packet)) is-kind
+    ∙ ap (toldBy kind (told packet)) (sym q)
+    ∙ tells (told packet) in
+    subst (PartAccepted kind c taken (packetAt kind s .end)) (sym is)
+    (part-step kind packet part taken step _ says
+    (accepting-is c taken packet step (ap (stepOf c) moves ∙ sym f) ∙ ap (accepting c taken) (sym e)))
+
+-- an answer to a packet that goes a short way is right
+pub part-right : (d : Direction) (c : Connection) (s : List ℕ) (kind : Kind) (n : ℕ) (packet : List ℕ) (end : PacketRead) (r : PartRead)
+    → Short d c s kind n → packet ≡ part s 0 n → packetAt kind packet ≡ ended end → PartAccepted kind c (length packet) end r → PartRight d kind c s r
+part-right d c s kind n packet end r short p q =
+    part-so kind (λ (m : Meaning). m ≡ accepting c (length packet) end) (Read d c s) r
+    (λ m e table. short-is d c s table kind n packet end m short p q e)

@@ -1,6 +1,7 @@
 -- What the reader's own functions promise to one another: the answer and the table at each stage on the way. Whoever reads the promises of
 -- the public calls needs none of these.
 -- Assumes nothing.
+use mathlib.Core.Path.{_≡_}
 use mathlib.Core.Bool.{Bool, false}
 use mathlib.Core.List.{List}
 use Prim.Native.Nat.{ℕ}
@@ -16,10 +17,16 @@ use Rattle.connection.specs.declared.Kind.{Kind}
 use Rattle.connection.specs.declared.Connection.{Connection}
 use Rattle.payload.specs.Code.{codeOf, codePlace}
 use Rattle.payload.specs.Kinds.{packetAt}
+use Rattle.connection.specs.declared.Step.{Step}
+use Rattle.payload.specs.declared.packet.Part.{Part}
+use Rattle.payload.specs.declared.packet.Packet.{Packet}
+use Rattle.payload.specs.declared.packet.PacketRead.{PacketRead}
+use Rattle.reader.specs.declared.short.PartRead.{PartRead}
 use Rattle.reader.specs.declared.frame.FrameRead.{FrameRead}
 use Rattle.reader.specs.Frame.{frameAt}
 use Rattle.reader.specs.Meaning.{Meaning, needs, refused, accepted, placesNeeded}
 use Rattle.reader.specs.Reading.{parseWhole, readAsBody, accepting, judging, withRoom, placesOf, filled}
+use Rattle.reader.specs.Short.{PartMeans}
 
 -- how many places an answer asks of the table
 abbrev pub needed : Meaning → ℕ
@@ -67,3 +74,26 @@ chunkFirst s n = pick (isChunk (byteAt (part s 0 n) codePlace)) n 0
 -- and at the server's end a Send Body Chunk that is allowed
 unfoldable pub chunkSize : Connection → List ℕ → ℕ
 chunkSize c s = pick (inState c Kind.BodyChunk) (chunkFirst s (wholeSize (frameAt Direction.ToServer s))) 0
+
+-- a part of no bytes, and the part of a packet: this one unless it is a body packet or a chunk
+abbrev pub noPart : Part
+noPart = record { start = record { 0 = 0 }; len = 0 }
+
+abbrev pub partIn : Packet → Part
+partIn Packet.CPing = noPart
+partIn Packet.CPong = noPart
+partIn (Packet.Forward f) = noPart
+partIn (Packet.Body p) = p
+partIn (Packet.GetBody asked) = noPart
+partIn (Packet.SendHeaders h) = noPart
+partIn (Packet.BodyChunk p) = p
+partIn (Packet.End reuse) = noPart
+
+-- a part that was read, by the step that its packet makes
+abbrev pub steppedPart : Part → ℕ → Step → PartRead
+steppedPart part taken (Step.Refused n) = PartRead.Refused n
+steppedPart part taken (Step.Next after) = PartRead.Part part taken after
+
+-- a short way's answer to a packet that was read so: what acceptance says
+abbrev pub PartAccepted : Kind → Connection → ℕ → PacketRead → PartRead → Type 0
+PartAccepted kind c taken found r = PartMeans kind (λ (m : Meaning). m ≡ accepting c taken found) r

@@ -1,5 +1,6 @@
 // Reading at both ends: takes a packet out of lent bytes, checks it, tells what it is, fills the lent table and steps the connection.
-// `read_at_container` and `read_at_server` answer for any connection, any bytes and any table. `view` shows the fields of what was read.
+// `read_at_container` and `read_at_server` answer for any connection, any bytes and any table. `view` shows the fields of what was read;
+// `short` reads the packets of a body by themselves, for a caller that reads many of them.
 ghost use mathlib.Core.Path.{_≡_};
 ghost use Prim.Native.Nat.{_≤_};
 ghost use lib.ListN.{length};
@@ -23,7 +24,7 @@ use wire::part_of;
 use wire::refusal;
 
 mod frame;
-mod short;
+pub mod short;
 pub mod view;
 
 use crate::frame::FrameRead;
@@ -44,32 +45,23 @@ pub enum Received {
 }
 
 // The container's end reads the first packet of the bytes. Where it is accepted, the table has the places of its headers and attributes;
-// else the table is as it was, and the connection given still counts. A body packet goes a short way.
+// else the table is as it was, and the connection given still counts.
 pub fn read_at_container(connection: Connection, bytes: &[u8], table: &mut [u16]) -> Received
     ensures { λ r. ⌜ meaning r ≡ reading Direction.ToContainer connection (now (bytes .entry)) (length (now (table .entry))) ⌝ }
     ensures { λ r. ⌜ now (table .exit) ≡ tableAfter Direction.ToContainer connection (now (bytes .entry)) (now (table .entry)) ⌝ }
 {
-    let size = short::body_size(connection, bytes);
-    if size == 0 {
-        return read(Direction::ToContainer, connection, bytes, table);
-    }
-    short::body(connection, part_of(bytes, 0, size))
+    read(Direction::ToContainer, connection, bytes, table)
 }
 
-// The server's end reads the first packet of the bytes, in the same way. A Send Body Chunk goes a short way.
+// The server's end reads the first packet of the bytes, in the same way.
 pub fn read_at_server(connection: Connection, bytes: &[u8], table: &mut [u16]) -> Received
     ensures { λ r. ⌜ meaning r ≡ reading Direction.ToServer connection (now (bytes .entry)) (length (now (table .entry))) ⌝ }
     ensures { λ r. ⌜ now (table .exit) ≡ tableAfter Direction.ToServer connection (now (bytes .entry)) (now (table .entry)) ⌝ }
 {
-    let size = short::chunk_size(connection, bytes);
-    if size == 0 {
-        return read(Direction::ToServer, connection, bytes, table);
-    }
-    short::body_chunk(connection, part_of(bytes, 0, size))
+    read(Direction::ToServer, connection, bytes, table)
 }
 
 // The end to which packets of a direction go reads the first packet of the bytes: both calls above, for a caller that has the direction.
-// Closing calls this one, so that each of the two has a single caller, into which the compiler can put it.
 pub fn read(
     direction: Direction,
     connection: Connection,

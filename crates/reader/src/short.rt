@@ -1,30 +1,66 @@
 // The short ways: a body packet at the container's end and a Send Body Chunk at the server's, each where it is whole and allowed now.
-// They answer what `read` answers. The compiler puts all of a short way into its one caller, in registers; `read` is too large for that.
+// They answer what `read` answers. Each has one caller, in which the compiler keeps all of it in registers; `read` is too large for that.
 ghost use mathlib.Core.Path.{_≡_};
 ghost use lib.ListN.{length};
 ghost use Rattle.wire.specs.Field.{byteAt};
+ghost use Rattle.wire.specs.declared.Direction.{Direction};
+ghost use Rattle.connection.specs.declared.Kind.{Kind};
 ghost use Rattle.payload.specs.Code.{codePlace};
 ghost use Rattle.payload.specs.Body.{bodyAt};
 ghost use Rattle.payload.specs.BodyChunk.{chunkAt};
-ghost use Rattle.reader.specs.Meaning.{meaning, told};
-ghost use Rattle.reader.specs.Reading.{accepting};
-ghost use Rattle.reader.specs.Private.{isChunk, bodySize, chunkSize};
-use crate::Received;
+ghost use Rattle.reader.specs.Private.{isChunk, bodySize, chunkSize, noPart, partIn, steppedPart, PartAccepted};
+ghost use Rattle.reader.specs.Short.{PartRight};
 use crate::frame;
-use crate::stepped;
 use connection::Connection;
 use connection::Kind;
+use connection::Place;
+use connection::Step;
 use payload::BODY_CHUNK;
 use payload::CODE_PLACE;
 use payload::packet::Packet;
 use payload::packet::PacketRead;
+use payload::packet::Part;
 use wire::Direction;
 use wire::part_of;
 use wire::read::NumberRead;
 use wire::read::byte;
 
+// What a short way answers: that the packet is another one, which `read` reads; the refusal's number; or the packet's part, how many bytes
+// were taken, and the connection after it.
+pub enum PartRead {
+    Other,
+    Refused(u8),
+    Part {
+        part: Part,
+        taken: usize,
+        connection: Connection,
+    },
+}
+
+// The container's end reads the first packet of the bytes where it is whole and a body packet is due. It has no places for the table.
+pub fn read_body(connection: Connection, bytes: &[u8]) -> PartRead
+    ensures { λ r. ⌜ PartRight Direction.ToContainer Kind.Body connection (now (bytes .entry)) r ⌝ }
+{
+    let size = body_size(connection, bytes);
+    if size == 0 {
+        return PartRead::Other;
+    }
+    body(connection, part_of(bytes, 0, size))
+}
+
+// The server's end reads the first packet of the bytes where it is whole and a Send Body Chunk that is allowed, in the same way.
+pub fn read_body_chunk(connection: Connection, bytes: &[u8]) -> PartRead
+    ensures { λ r. ⌜ PartRight Direction.ToServer Kind.BodyChunk connection (now (bytes .entry)) r ⌝ }
+{
+    let size = chunk_size(connection, bytes);
+    if size == 0 {
+        return PartRead::Other;
+    }
+    body_chunk(connection, part_of(bytes, 0, size))
+}
+
 // How many bytes the first packet has where it is whole and a body packet is due, else 0.
-pub fn body_size(connection: Connection, bytes: &[u8]) -> usize
+fn body_size(connection: Connection, bytes: &[u8]) -> usize
     ensures { λ r. ⌜ r ≡ bodySize connection (now (bytes .entry)) ⌝ }
 {
     if !connection.is_body_due() {
@@ -34,7 +70,7 @@ pub fn body_size(connection: Connection, bytes: &[u8]) -> usize
 }
 
 // How many bytes the first packet has where it is whole and a Send Body Chunk that is allowed, else 0.
-pub fn chunk_size(connection: Connection, bytes: &[u8]) -> usize
+fn chunk_size(connection: Connection, bytes: &[u8]) -> usize
     ensures { λ r. ⌜ r ≡ chunkSize connection (now (bytes .entry)) ⌝ }
 {
     if !connection.allows(Kind::BodyChunk) {
@@ -57,42 +93,72 @@ fn is_chunk(packet: &[u8]) -> bool
     }
 }
 
-// A body packet: its size, then the step. It has no places for the table.
-pub fn body(connection: Connection, packet: &[u8]) -> Received
-    ensures { λ r. ⌜ meaning r ≡ accepting connection (length (now (packet .entry))) (bodyAt (now (packet .entry))) ⌝ }
+// A body packet: its size, then the step.
+fn body(connection: Connection, packet: &[u8]) -> PartRead
+    ensures { λ r. ⌜ PartAccepted Kind.Body connection (length (now (packet .entry))) (bodyAt (now (packet .entry))) r ⌝ }
 {
-    let size = packet.len();
     match payload::body::read(packet) {
-        PacketRead::Refused(n) => Received::Refused(n),
-        PacketRead::Packet(found) => stepped(found, size, connection.step_body(len_of(found))),
-    }
-}
-
-// A Send Body Chunk, in the same way.
-pub fn body_chunk(connection: Connection, packet: &[u8]) -> Received
-    ensures { λ r. ⌜ meaning r ≡ accepting connection (length (now (packet .entry))) (chunkAt (now (packet .entry))) ⌝ }
-{
-    let size = packet.len();
-    match payload::body_chunk::read(packet) {
-        PacketRead::Refused(n) => Received::Refused(n),
+        PacketRead::Refused(n) => PartRead::Refused(n),
         PacketRead::Packet(found) => {
-            stepped(found, size, connection.step_body_chunk(len_of(found)))
+            let part = part_in(found);
+            stepped(part, packet.len(), connection.step_body(part.len as usize))
         }
     }
 }
 
-// How many bytes of a body a packet holds: none unless it is a body packet or a chunk.
-fn len_of(packet: Packet) -> usize
-    ensures { λ r. ⌜ r ≡ told packet .len ⌝ }
+// A Send Body Chunk, in the same way.
+fn body_chunk(connection: Connection, packet: &[u8]) -> PartRead
+    ensures { λ r. ⌜ PartAccepted Kind.BodyChunk connection (length (now (packet .entry))) (chunkAt (now (packet .entry))) r ⌝ }
+{
+    match payload::body_chunk::read(packet) {
+        PacketRead::Refused(n) => PartRead::Refused(n),
+        PacketRead::Packet(found) => {
+            let part = part_in(found);
+            stepped(
+                part,
+                packet.len(),
+                connection.step_body_chunk(part.len as usize),
+            )
+        }
+    }
+}
+
+// A part that was read, by the step that its packet makes.
+fn stepped(part: Part, taken: usize, step: Step) -> PartRead
+    ensures { λ r. ⌜ r ≡ steppedPart part taken step ⌝ }
+{
+    match step {
+        Step::Refused(n) => PartRead::Refused(n),
+        Step::Next(after) => PartRead::Part {
+            part,
+            taken,
+            connection: after,
+        },
+    }
+}
+
+// A part of no bytes, which a packet has that is neither a body packet nor a chunk.
+fn no_part() -> Part
+    ensures { λ r. ⌜ r ≡ noPart ⌝ }
+{
+    Part {
+        start: Place(0),
+        len: 0,
+    }
+}
+
+// The part of a packet.
+fn part_in(packet: Packet) -> Part
+    ensures { λ r. ⌜ r ≡ partIn packet ⌝ }
 {
     match packet {
-        Packet::CPing => 0,
-        Packet::CPong => 0,
-        Packet::Forward(f) => 0,
-        Packet::Body(p) => p.len as usize,
-        Packet::GetBody(asked) => 0,
-        Packet::SendHeaders(h) => 0,
-        Packet::BodyChunk(p) => p.len as usize,
-        Packet::End(reuse) => 0,
+        Packet::CPing => no_part(),
+        Packet::CPong => no_part(),
+        Packet::Forward(f) => no_part(),
+        Packet::Body(p) => p,
+        Packet::GetBody(asked) => no_part(),
+        Packet::SendHeaders(h) => no_part(),
+        Packet::BodyChunk(p) => p,
+        Packet::End(reuse) => no_part(),
     }
 }

@@ -29,74 +29,56 @@ forward-words-requires c κs = search needs
 enum-known-packet-2 : tie.Need-enum-known-packet-2
 enum-known-packet-2 c = search needs
 
+part-words-requires : tie.Need-part-words-requires
+part-words-requires c κs = search needs
+
+enum-known-packet-3 : tie.Need-enum-known-packet-3
+enum-known-packet-3 c = search needs
+
 kind-word-requires : tie.Need-kind-word-requires
 kind-word-requires c κs = search needs
 
 cast-row : tie.Need-cast-row
 cast-row c = search needs
 
-cast-row-2 : tie.Need-cast-row-2
-cast-row-2 c = search needs
-
 row-requires : tie.Need-row-requires
 row-requires c κs = search needs
-
-enum-known-packet-3 : tie.Need-enum-known-packet-3
-enum-known-packet-3 c = search needs
-
-kind-word-requires-2 : tie.Need-kind-word-requires-2
-kind-word-requires-2 c κs = search needs
-
-cast-row-3 : tie.Need-cast-row-3
-cast-row-3 c = search needs
-
-row-requires-2 : tie.Need-row-requires-2
-row-requires-2 c κs = search needs
 
 enum-known-packet-4 : tie.Need-enum-known-packet-4
 enum-known-packet-4 c = search needs
 
-kind-word-requires-3 : tie.Need-kind-word-requires-3
-kind-word-requires-3 c κs = search needs
+kind-word-requires-2 : tie.Need-kind-word-requires-2
+kind-word-requires-2 c κs = search needs
+
+cast-row-2 : tie.Need-cast-row-2
+cast-row-2 c = search needs
+
+cast-row-3 : tie.Need-cast-row-3
+cast-row-3 c = search needs
 
 cast-row-4 : tie.Need-cast-row-4
 cast-row-4 c = search needs
 
-cast-row-5 : tie.Need-cast-row-5
-cast-row-5 c = search needs
-
-cast-row-6 : tie.Need-cast-row-6
-cast-row-6 c = search needs
-
-row-requires-3 : tie.Need-row-requires-3
-row-requires-3 c κs = search needs
+row-requires-2 : tie.Need-row-requires-2
+row-requires-2 c κs = search needs
 
 enum-known-packet-5 : tie.Need-enum-known-packet-5
 enum-known-packet-5 c = search needs
 
-kind-word-requires-4 : tie.Need-kind-word-requires-4
-kind-word-requires-4 c κs = search needs
-
-cast-row-7 : tie.Need-cast-row-7
-cast-row-7 c = search needs
-
-cast-row-8 : tie.Need-cast-row-8
-cast-row-8 c = search needs
-
-row-requires-4 : tie.Need-row-requires-4
-row-requires-4 c κs = search needs
+part-words-requires-2 : tie.Need-part-words-requires-2
+part-words-requires-2 c κs = search needs
 
 enum-known-packet-6 : tie.Need-enum-known-packet-6
 enum-known-packet-6 c = search needs
 
-kind-word-requires-5 : tie.Need-kind-word-requires-5
-kind-word-requires-5 c κs = search needs
+kind-word-requires-3 : tie.Need-kind-word-requires-3
+kind-word-requires-3 c κs = search needs
 
 flag-word-requires : tie.Need-flag-word-requires
 flag-word-requires c κs = search needs
 
-row-requires-5 : tie.Need-row-requires-5
-row-requires-5 c κs = search needs
+row-requires-3 : tie.Need-row-requires-3
+row-requires-3 c κs = search needs
 
 returns : tie.Need-returns
 unfolding writtenWords toldWords
@@ -110,24 +92,22 @@ returns-3 : tie.Need-returns-3
 returns-3 c = c .forward-words .ensures ∙ sym (ap (λ (p : Packet). toldWords (told p) (c .before .before .before .before .args .bytes)) (c .before .before .packet .given .1))
 
 returns-4 : tie.Need-returns-4
-unfolding toldWords
-returns-4 c = rw (c .row .ensures, c .before .before .before .kind-word .ensures) (sym (ap (λ (p : Packet). toldWords (told p) (c .before .before .before .before .before .before .before .args .bytes)) (c .before .before .before .before .before .packet2 .given .1)))
+returns-4 c = c .part-words .ensures ∙ sym (ap (λ (p : Packet). toldWords (told p) (c .before .before .before .before .args .bytes)) (c .before .before .packet2 .given .1))
 
 returns-5 : tie.Need-returns-5
 unfolding toldWords
-returns-5 c = rw (c .row2 .ensures, c .before .kind-word2 .ensures) (sym (ap (λ (p : Packet). toldWords (told p) (c .before .before .before .before .before .args .bytes)) (c .before .before .before .packet3 .given .1)))
+returns-5 c = rw (c .row .ensures, c .before .kind-word .ensures) (sym (ap (λ (p : Packet). toldWords (told p) (c .before .before .before .before .before .args .bytes)) (c .before .before .before .packet3 .given .1)))
 
 returns-6 : tie.Need-returns-6
 unfolding toldWords
-returns-6 c = rw (c .row3 .ensures, c .before .before .before .before .kind-word3 .ensures) (sym (ap (λ (p : Packet). toldWords (told p) (c .before .before .before .before .before .before .before .before .args .bytes)) (c .before .before .before .before .before .before .packet4 .given .1)))
+returns-6 c = rw (c .row2 .ensures, c .before .before .before .before .kind-word2 .ensures) (sym (ap (λ (p : Packet). toldWords (told p) (c .before .before .before .before .before .before .before .before .args .bytes)) (c .before .before .before .before .before .before .packet4 .given .1)))
 
 returns-7 : tie.Need-returns-7
-unfolding toldWords
-returns-7 c = rw (c .row4 .ensures, c .before .before .before .kind-word4 .ensures) (sym (ap (λ (p : Packet). toldWords (told p) (c .before .before .before .before .before .before .before .args .bytes)) (c .before .before .before .before .before .packet5 .given .1)))
+returns-7 c = c .part-words2 .ensures ∙ sym (ap (λ (p : Packet). toldWords (told p) (c .before .before .before .before .args .bytes)) (c .before .before .packet5 .given .1))
 
 returns-8 : tie.Need-returns-8
 unfolding toldWords
-returns-8 c = rw (c .row5 .ensures, c .before .before .kind-word5 .ensures, c .before .flag-word .ensures) (sym (ap (λ (p : Packet). toldWords (told p) (c .before .before .before .before .before .before .args .bytes)) (c .before .before .before .before .packet6 .given .1)))
+returns-8 c = rw (c .row3 .ensures, c .before .before .kind-word3 .ensures, c .before .flag-word .ensures) (sym (ap (λ (p : Packet). toldWords (told p) (c .before .before .before .before .before .before .args .bytes)) (c .before .before .before .before .packet6 .given .1)))
 
 pub told-words-spec : {M : Type 1} → statement M
 told-words-spec =
@@ -140,29 +120,23 @@ told-words-spec =
     enum-known-packet
     forward-words-requires
     enum-known-packet-2
+    part-words-requires
+    enum-known-packet-3
     kind-word-requires
     cast-row
-    cast-row-2
     row-requires
-    enum-known-packet-3
-    kind-word-requires-2
-    cast-row-3
-    row-requires-2
     enum-known-packet-4
-    kind-word-requires-3
+    kind-word-requires-2
+    cast-row-2
+    cast-row-3
     cast-row-4
-    cast-row-5
-    cast-row-6
-    row-requires-3
+    row-requires-2
     enum-known-packet-5
-    kind-word-requires-4
-    cast-row-7
-    cast-row-8
-    row-requires-4
+    part-words-requires-2
     enum-known-packet-6
-    kind-word-requires-5
+    kind-word-requires-3
     flag-word-requires
-    row-requires-5
+    row-requires-3
     returns
     returns-2
     returns-3

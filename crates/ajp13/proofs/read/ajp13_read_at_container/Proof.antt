@@ -1,12 +1,14 @@
--- `read::ajp13_read_at_container` meets its contract: what the reader answers is told.
+-- `read::ajp13_read_at_container` meets its contract: a due body packet is told of as its short way answers, and every other packet is read as any.
 -- Assumes nothing.
-use mathlib.Core.Path.{sym, subst, _∙_}
+use mathlib.Core.Path.{refl, sym, subst, _∙_}
 use lib.ListN.{length}
 use Rattle.wire.specs.declared.Direction.{Direction}
+use Rattle.connection.specs.declared.Kind.{Kind}
+use Rattle.reader.specs.Short.{PartRight}
 use Rattle.ajp13.specs.Reading.{readEffect}
 use Rattle.ajp13.specs.Private.{ReadWithin}
 use Rattle.ajp13.proofs.Within.{read-within}
-use Rattle.ajp13.proofs.Effects.{Right, call-right, fault-told, read-leaves}
+use Rattle.ajp13.proofs.Effects.{Right, call-right, fault-told, sound-reading, read-leaves}
 use borrow.Author.Needs.{needs}
 use Rattle.ajp13.proofs.read.ajp13_read_at_container.Statement.{statement}
 use Rattle.ajp13.proofs.read.ajp13_read_at_container.Tie as tie
@@ -31,14 +33,31 @@ returns c = fault-told _ _ _ _ _ (c .before .call-fault .ensures) _ (c .if1 .tak
 connection-in-requires : tie.Need-connection-in-requires
 connection-in-requires c κs = right (c .before) .fits
 
-read-at-container-requires : tie.Need-read-at-container-requires
-read-at-container-requires c κs = search needs
+read-body-requires : tie.Need-read-body-requires
+read-body-requires c κs = search needs
 
-tell-requires : tie.Need-tell-requires
-tell-requires c κs =
+enum-told : tie.Need-enum-told
+enum-told c = search needs
+
+read-any-requires : tie.Need-read-any-requires
+read-any-requires c κs = let sound = right (c .before .before .before .before .before .before .before .before) in (sound .fits, sound .takes)
+
+enum-known-n : tie.Need-enum-known-n
+enum-known-n c = search needs
+
+cast-result : tie.Need-cast-result
+cast-result c = search needs
+
+enum-known-part : tie.Need-enum-known-part
+enum-known-part c = search needs
+
+tell-part-requires : tie.Need-tell-part-requires
+tell-part-requires c κs =
+    let found = c .before .before .before .before .before in
+    let conn = found .before .connection-in in
     let a = c .before .before .before .before .before .before .before .before .before .before .before .before .before .before .before .before .args in
-    let received = c .before .before .before .before in
-    (right (received .before .before .before .before) .takes, subst ReadWithin (sym (received .read-at-container .ensures .0)) (read-within Direction.ToContainer (received .before .before .connection-in .result) (a .bytes .now) (length (a .table .now))))
+    let is = subst (PartRight Direction.ToContainer Kind.Body (conn .result) (a .bytes .now)) (c .before .before .before .part .given .1) (found .read-body .ensures) (a .table .now) in
+    (right (found .before .before .before) .takes, (refl, subst ReadWithin (sym (is .0)) (read-within Direction.ToContainer (conn .result) (a .bytes .now) (length (a .table .now)))))
 
 same-length-3 : tie.Need-same-length-3
 same-length-3 c = search needs
@@ -51,13 +70,44 @@ same-length-5 c = search needs
 
 returns-2 : tie.Need-returns-2
 returns-2 c =
-    let received = c .before .before .before .before .before .before .before .before .before in
-    let conn = received .before .before .connection-in in
-    let e = received .before .before .before .before in
+    let e = c .before .before .before .before .before .before .before .before .before .before .before .before .before .before .before in
     let a = e .before .before .before .before .before .before .before .before .args in
-    read-leaves Direction.ToContainer (a .connection .now) (a .bytes .now) (a .table .now) (a .answer .now) _ (conn .result) _ _ _
-    (e .before .call-fault .ensures) (e .if1 .left) (conn .ensures) (received .read-at-container .ensures .0) (received .read-at-container .ensures .1)
-    (c .before .before .before .before .tell .ensures _)
+    read-leaves Direction.ToContainer (a .connection .now) (a .bytes .now) (a .table .now) (a .answer .now) _ _
+    (e .before .call-fault .ensures) (e .if1 .left) (c .before .before .before .before .before .before .read-any .ensures)
+
+same-length-6 : tie.Need-same-length-6
+same-length-6 c = search needs
+
+same-length-7 : tie.Need-same-length-7
+same-length-7 c = search needs
+
+returns-3 : tie.Need-returns-3
+returns-3 c =
+    let found = c .before .before .before in
+    let conn = found .before .connection-in in
+    let e = found .before .before .before in
+    let a = e .before .before .before .before .before .before .before .before .args in
+    let is = subst (PartRight Direction.ToContainer Kind.Body (conn .result) (a .bytes .now)) (c .before .n .given .1) (found .read-body .ensures) (a .table .now) in
+    read-leaves Direction.ToContainer (a .connection .now) (a .bytes .now) (a .table .now) (a .answer .now) _ _
+    (e .before .call-fault .ensures) (e .if1 .left)
+    (sound-reading Direction.ToContainer (a .connection .now) (a .bytes .now) (a .table .now) (a .answer .now) (conn .result) _ _ _ (conn .ensures) (is .0) (is .1) refl)
+
+same-length-8 : tie.Need-same-length-8
+same-length-8 c = search needs
+
+same-length-9 : tie.Need-same-length-9
+same-length-9 c = search needs
+
+returns-4 : tie.Need-returns-4
+returns-4 c =
+    let found = c .before .before .before .before .before .before .before .before .before .before in
+    let conn = found .before .connection-in in
+    let e = found .before .before .before in
+    let a = e .before .before .before .before .before .before .before .before .args in
+    let is = subst (PartRight Direction.ToContainer Kind.Body (conn .result) (a .bytes .now)) (c .before .before .before .before .before .before .before .before .part .given .1) (found .read-body .ensures) (a .table .now) in
+    read-leaves Direction.ToContainer (a .connection .now) (a .bytes .now) (a .table .now) (a .answer .now) _ _
+    (e .before .call-fault .ensures) (e .if1 .left)
+    (sound-reading Direction.ToContainer (a .connection .now) (a .bytes .now) (a .table .now) (a .answer .now) (conn .result) _ _ _ (conn .ensures) (is .0) (is .1) (c .before .before .before .before .tell-part .ensures (a .table .now)))
 
 pub ajp13-read-at-container-spec : {M : Type 1} → statement M
 ajp13-read-at-container-spec =
@@ -68,9 +118,20 @@ ajp13-read-at-container-spec =
     same-length-2
     returns
     connection-in-requires
-    read-at-container-requires
-    tell-requires
+    read-body-requires
+    enum-told
+    read-any-requires
+    enum-known-n
+    cast-result
+    enum-known-part
+    tell-part-requires
     same-length-3
     same-length-4
     same-length-5
-    returns-2)
+    returns-2
+    same-length-6
+    same-length-7
+    returns-3
+    same-length-8
+    same-length-9
+    returns-4)

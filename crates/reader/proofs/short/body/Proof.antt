@@ -1,9 +1,9 @@
 -- `reader::short::body` meets its contract, by what is read and by the step.
 -- Assumes nothing.
-use mathlib.Core.Path.{sym, ap, _∙_}
+use mathlib.Core.Path.{refl, sym, ap, _∙_}
 use Rattle.connection.specs.declared.Kind.{Kind}
 use Rattle.reader.specs.Reading.{accepting}
-use Rattle.reader.proofs.ShortWays.{sized-stepped}
+use Rattle.reader.proofs.ShortWays.{part-stepped}
 use borrow.Author.Needs.{needs}
 use Rattle.reader.proofs.short.body.Statement.{statement}
 use Rattle.reader.proofs.short.body.Tie as tie
@@ -17,8 +17,11 @@ enum-known-n c = search needs
 enum-known-found : tie.Need-enum-known-found
 enum-known-found c = search needs
 
-len-of-requires : tie.Need-len-of-requires
-len-of-requires c κs = search needs
+part-in-requires : tie.Need-part-in-requires
+part-in-requires c κs = search needs
+
+cast-step-body : tie.Need-cast-step-body
+cast-step-body c = search needs
 
 step-body-requires : tie.Need-step-body-requires
 step-body-requires c κs = search needs
@@ -32,11 +35,10 @@ returns c = sym (ap (accepting _ _) (sym (c .before .before .before .read .ensur
 
 returns-2 : tie.Need-returns-2
 returns-2 c =
-    let a = c .before .before .before .before .before .before .before .before .args in
-    c .stepped .ensures
-    ∙ sized-stepped Kind.Body (a .connection) (a .packet .now) _ _ _ _
-    (sym (c .before .before .before .before .before .before .read .ensures) ∙ c .before .before .before .before .found .given .1)
-    (c .before .before .len-of .ensures) (c .before .step-body .ensures)
+    let a = c .before .before .before .before .before .before .before .before .before .args in
+    part-stepped Kind.Body (a .connection) (a .packet .now) _ _ _ _ _ (λ t. refl)
+    (sym (c .before .before .before .before .before .before .before .read .ensures) ∙ c .before .before .before .before .before .found .given .1)
+    (c .before .before .before .part-in .ensures) (c .before .step-body .ensures) (c .stepped .ensures)
 
 pub body-spec : {M : Type 1} → statement M
 body-spec =
@@ -45,7 +47,8 @@ body-spec =
     read-requires
     enum-known-n
     enum-known-found
-    len-of-requires
+    part-in-requires
+    cast-step-body
     step-body-requires
     stepped-requires
     returns

@@ -1,0 +1,31 @@
+-- `reader::short::read_body` meets its contract: a due body packet is answered as reading says.
+-- Assumes nothing.
+use mathlib.Core.Path.{refl}
+use Rattle.wire.specs.declared.Direction.{Direction}
+use Rattle.connection.specs.declared.Kind.{Kind}
+use Rattle.reader.proofs.ShortWays.{short-body, part-right}
+use borrow.Author.Needs.{needs}
+use Rattle.reader.proofs.short.read_body.Statement.{statement}
+use Rattle.reader.proofs.short.read_body.Tie as tie
+
+body-size-requires : tie.Need-body-size-requires
+body-size-requires c κs = search needs
+
+returns : tie.Need-returns
+returns c = search needs
+
+part-of-requires : tie.Need-part-of-requires
+part-of-requires c κs = search needs
+
+body-requires : tie.Need-body-requires
+body-requires c κs = search needs
+
+returns-2 : tie.Need-returns-2
+returns-2 c =
+    let a = c .before .before .before .before .before .args in
+    part-right Direction.ToContainer (a .connection) (a .bytes .now) Kind.Body _ _ _ (c .body .result)
+    (short-body _ _ _ (c .before .before .before .body-size .ensures) (c .before .before .if1 .left)) (c .before .part-of .ensures) refl (c .body .ensures)
+
+pub read-body-spec : {M : Type 1} → statement M
+read-body-spec =
+    tie.close (tie.spec body-size-requires returns part-of-requires body-requires returns-2)
