@@ -30,8 +30,8 @@ use Rattle.reader.specs.Frame.{frameAt}
 use Rattle.reader.specs.declared.short.PartRead.{PartRead}
 use Rattle.reader.specs.Meaning.{Meaning, Told, accepted, told, parted}
 use Rattle.reader.specs.Reading.{readAsBody, stepped, accepting, reading, tableAfter}
-use Rattle.reader.specs.Short.{PartMeans, Read, PartRight}
-use Rattle.reader.specs.Private.{wholeSize, isChunk, bodySize, chunkSize, partIn, steppedPart, PartAccepted}
+use Rattle.reader.specs.Short.{wholeSize, isChunk, bodySize, chunkSize, PartMeans, Read, PartRight}
+use Rattle.reader.specs.Private.{partIn, steppedPart, PartAccepted}
 use Rattle.reader.proofs.Laws.{accepting-is, plain-is, whole-kind, read-whole}
 
 -- the size of a body packet, by whether one is due
@@ -110,10 +110,11 @@ short-is d c s table kind n packet end r short p q e =
     (plain-is c kind kind packet table end end r refl q refl e))
 
 -- what a short way's answer means has a property, and so every property that follows from it
-pub part-so : (kind : Kind) (P Q : Meaning → Type 0) (r : PartRead) → ((m : Meaning) → P m → Q m) → PartMeans kind P r → PartMeans kind Q r
-part-so kind P Q PartRead.Other f h = tt
-part-so kind P Q (PartRead.Refused n) f h = f _ h
-part-so kind P Q (PartRead.Part part taken after) f h = f _ h
+pub part-so : (kind : Kind) (other : Type 0) (P Q : Meaning → Type 0) (r : PartRead) → ((m : Meaning) → P m → Q m) → PartMeans kind ⊥ P r
+    → PartMeans kind other Q r
+part-so kind other P Q PartRead.Other f h = absurd h
+part-so kind other P Q (PartRead.Refused n) f h = f _ h
+part-so kind other P Q (PartRead.Part part taken after) f h = f _ h
 
 -- the move of a packet of a kind: of a body packet and of a chunk by its size
 abbrev pub movedBy : Kind → Move → ℕ → Move
@@ -150,7 +151,7 @@ own (Packet.End reuse) = (refl, refl)
 
 -- a part that was stepped by means the packet that was stepped by, which tells so
 part-step : (kind : Kind) (packet : Packet) (part : Part) (taken : ℕ) (step : Step) (m : Meaning) → told packet ≡ parted kind (part .start .0) (part .len)
-    → stepped packet taken step ≡ m → PartMeans kind (λ (n : Meaning). n ≡ m) (steppedPart part taken step)
+    → stepped packet taken step ≡ m → PartMeans kind ⊥ (λ (n : Meaning). n ≡ m) (steppedPart part taken step)
 part-step kind packet part taken (Step.Refused n) m t e = e
 part-step kind packet part taken (Step.Next after) m t e = ap (λ (x : Told). accepted x taken after) (sym t) ∙ e
 
@@ -178,5 +179,5 @@ part-stepped kind c s taken packet part step r tells e q f is =
 pub part-right : (d : Direction) (c : Connection) (s : List ℕ) (kind : Kind) (n : ℕ) (packet : List ℕ) (end : PacketRead) (r : PartRead)
     → Short d c s kind n → packet ≡ part s 0 n → packetAt kind packet ≡ ended end → PartAccepted kind c (length packet) end r → PartRight d kind c s r
 part-right d c s kind n packet end r short p q =
-    part-so kind (λ (m : Meaning). m ≡ accepting c (length packet) end) (Read d c s) r
+    part-so kind _ (λ (m : Meaning). m ≡ accepting c (length packet) end) (Read d c s) r
     (λ m e table. short-is d c s table kind n packet end m short p q e)

@@ -2,28 +2,18 @@
 -- the public calls needs none of these.
 -- Assumes nothing.
 use mathlib.Core.Path.{_≡_}
-use mathlib.Core.Bool.{Bool, false}
 use mathlib.Core.List.{List}
 use Prim.Native.Nat.{ℕ}
-use lib.Dec.{eqb}
 use lib.ListN.{length, take}
-use Rattle.wire.specs.Pick.{pick}
-use Rattle.wire.specs.Bytes.{part}
-use Rattle.wire.specs.Field.{byteAt}
 use Rattle.wire.specs.declared.Direction.{Direction}
-use Rattle.wire.specs.declared.read.NumberRead.{NumberRead}
-use Rattle.connection.specs.Cycle.{inState}
 use Rattle.connection.specs.declared.Kind.{Kind}
 use Rattle.connection.specs.declared.Connection.{Connection}
-use Rattle.payload.specs.Code.{codeOf, codePlace}
 use Rattle.payload.specs.Kinds.{packetAt}
 use Rattle.connection.specs.declared.Step.{Step}
 use Rattle.payload.specs.declared.packet.Part.{Part}
 use Rattle.payload.specs.declared.packet.Packet.{Packet}
 use Rattle.payload.specs.declared.packet.PacketRead.{PacketRead}
 use Rattle.reader.specs.declared.short.PartRead.{PartRead}
-use Rattle.reader.specs.declared.frame.FrameRead.{FrameRead}
-use Rattle.reader.specs.Frame.{frameAt}
 use Rattle.reader.specs.Meaning.{Meaning, needs, refused, accepted, placesNeeded}
 use Rattle.reader.specs.Reading.{parseWhole, readAsBody, accepting, judging, withRoom, placesOf, filled}
 use Rattle.reader.specs.Short.{PartMeans}
@@ -52,29 +42,6 @@ wholeOf direction c s room = withRoom room (judging c (parseWhole direction (rea
 unfoldable pub tableWhole : Direction → Connection → List ℕ → List ℕ → List ℕ
 tableWhole direction c s table = filled (wholeOf direction c s (length table)) (placesOf (parseWhole direction (readAsBody direction c) s)) table
 
--- how many bytes a packet has where it is whole, else 0
-abbrev pub wholeSize : FrameRead → ℕ
-wholeSize (FrameRead.Needs n) = 0
-wholeSize (FrameRead.Refused n) = 0
-wholeSize (FrameRead.Whole n) = n
-
--- a code as read is the one of a Send Body Chunk
-abbrev pub isChunk : NumberRead → Bool
-isChunk (NumberRead.Refused n) = false
-isChunk (NumberRead.Number code next) = eqb code (codeOf Kind.BodyChunk)
-
--- how many bytes the first packet has where it goes a short way, else 0: a body packet that is due, at the container's end
-unfoldable pub bodySize : Connection → List ℕ → ℕ
-bodySize c s = pick (inState c Kind.Body) (wholeSize (frameAt Direction.ToContainer s)) 0
-
--- so many bytes of a packet with the code of a Send Body Chunk, else 0
-abbrev pub chunkFirst : List ℕ → ℕ → ℕ
-chunkFirst s n = pick (isChunk (byteAt (part s 0 n) codePlace)) n 0
-
--- and at the server's end a Send Body Chunk that is allowed
-unfoldable pub chunkSize : Connection → List ℕ → ℕ
-chunkSize c s = pick (inState c Kind.BodyChunk) (chunkFirst s (wholeSize (frameAt Direction.ToServer s))) 0
-
 -- a part of no bytes, and the part of a packet: this one unless it is a body packet or a chunk
 abbrev pub noPart : Part
 noPart = record { start = record { 0 = 0 }; len = 0 }
@@ -94,6 +61,6 @@ abbrev pub steppedPart : Part → ℕ → Step → PartRead
 steppedPart part taken (Step.Refused n) = PartRead.Refused n
 steppedPart part taken (Step.Next after) = PartRead.Part part taken after
 
--- a short way's answer to a packet that was read so: what acceptance says
+-- a short way's answer to a packet that was read so: what acceptance says, and never that it is another packet
 abbrev pub PartAccepted : Kind → Connection → ℕ → PacketRead → PartRead → Type 0
-PartAccepted kind c taken found r = PartMeans kind (λ (m : Meaning). m ≡ accepting c taken found) r
+PartAccepted kind c taken found r = PartMeans kind ⊥ (λ (m : Meaning). m ≡ accepting c taken found) r

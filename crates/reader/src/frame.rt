@@ -2,7 +2,7 @@
 ghost use mathlib.Core.Path.{_≡_};
 ghost use Rattle.wire.specs.declared.read.NumberRead.{NumberRead};
 ghost use Rattle.reader.specs.Frame.{leadingDiffers, differs, frameAt, lengthAt};
-ghost use Rattle.reader.specs.Private.{wholeSize};
+ghost use Rattle.reader.specs.Short.{wholeSize};
 use crate::LENGTH_PLACE;
 use connection::Connection;
 use wire::Direction;

@@ -1,7 +1,7 @@
 -- `reader::frame::whole_size` meets its contract, by the frame.
 -- Assumes nothing.
 use mathlib.Core.Path.{sym, ap, _∙_}
-use Rattle.reader.specs.Private.{wholeSize}
+use Rattle.reader.specs.Short.{wholeSize}
 use borrow.Author.Needs.{needs}
 use Rattle.reader.proofs.frame.whole_size.Statement.{statement}
 use Rattle.reader.proofs.frame.whole_size.Tie as tie

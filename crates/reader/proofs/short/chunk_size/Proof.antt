@@ -8,7 +8,7 @@ use borrow.Author.Tests.{not-true, not-false}
 use Rattle.wire.specs.Pick.{pick}
 use Rattle.wire.specs.Field.{byteAt}
 use Rattle.payload.specs.Code.{codePlace}
-use Rattle.reader.specs.Private.{isChunk, chunkSize}
+use Rattle.reader.specs.Short.{isChunk, chunkSize}
 use Rattle.reader.proofs.ShortWays.{chunk-size-by}
 use borrow.Author.Needs.{needs}
 use Rattle.reader.proofs.short.chunk_size.Statement.{statement}

@@ -1,7 +1,7 @@
 -- `reader::short::is_chunk` meets its contract, by the code as read.
 -- Assumes nothing.
 use mathlib.Core.Path.{sym, ap, _∙_}
-use Rattle.reader.specs.Private.{isChunk}
+use Rattle.reader.specs.Short.{isChunk}
 use borrow.Author.Needs.{needs}
 use Rattle.reader.proofs.short.is_chunk.Statement.{statement}
 use Rattle.reader.proofs.short.is_chunk.Tie as tie

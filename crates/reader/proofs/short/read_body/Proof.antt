@@ -1,6 +1,6 @@
 -- `reader::short::read_body` meets its contract: a due body packet is answered as reading says.
 -- Assumes nothing.
-use mathlib.Core.Path.{refl}
+use mathlib.Core.Path.{refl, sym, _∙_}
 use Rattle.wire.specs.declared.Direction.{Direction}
 use Rattle.connection.specs.declared.Kind.{Kind}
 use Rattle.reader.proofs.ShortWays.{short-body, part-right}
@@ -12,7 +12,7 @@ body-size-requires : tie.Need-body-size-requires
 body-size-requires c κs = search needs
 
 returns : tie.Need-returns
-returns c = search needs
+returns c = sym (c .before .body-size .ensures) ∙ c .if1 .taken
 
 part-of-requires : tie.Need-part-of-requires
 part-of-requires c κs = search needs

@@ -1,6 +1,6 @@
 -- `reader::short::read_body_chunk` meets its contract: an allowed Send Body Chunk is answered as reading says.
 -- Assumes nothing.
-use mathlib.Core.Path.{refl}
+use mathlib.Core.Path.{refl, sym, _∙_}
 use Rattle.wire.specs.declared.Direction.{Direction}
 use Rattle.connection.specs.declared.Kind.{Kind}
 use Rattle.reader.proofs.ShortWays.{short-chunk, part-right}
@@ -12,7 +12,7 @@ chunk-size-requires : tie.Need-chunk-size-requires
 chunk-size-requires c κs = search needs
 
 returns : tie.Need-returns
-returns c = search needs
+returns c = sym (c .before .chunk-size .ensures) ∙ c .if1 .taken
 
 part-of-requires : tie.Need-part-of-requires
 part-of-requires c κs = search needs
