@@ -1,12 +1,13 @@
 //! Timing: the three ways of a row take turns, round by round, and the median of the rounds counts.
 
-use std::time::Instant;
+use std::hint::black_box;
+use std::time::{Duration, Instant};
 
 /// How many rounds the three ways of a row take in turn.
-pub const ROUNDS: usize = 41;
+pub const ROUNDS: usize = 101;
 
 /// How long one way runs in a round, about.
-const NANOSECONDS_A_ROUND: f64 = 400_000.0;
+const NANOSECONDS_A_ROUND: f64 = 1_000_000.0;
 
 /// A row of the table: what was measured, over how many bytes, and the medians in nanoseconds.
 pub struct Row {
@@ -15,6 +16,15 @@ pub struct Row {
     pub library: f64,
     pub plain: f64,
     pub copy: f64,
+}
+
+/// Keeps the processor busy for a while, so that it runs at its full speed when the first row is measured.
+pub fn warm_up() {
+    let start = Instant::now();
+    let mut sum = 0u64;
+    while start.elapsed() < Duration::from_secs(2) {
+        sum = black_box(sum.wrapping_mul(31).wrapping_add(7));
+    }
 }
 
 /// Nanoseconds a call, over so many calls.

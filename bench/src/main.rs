@@ -9,7 +9,7 @@ mod table;
 mod plain;
 
 use ajp13::{Connection, ForwardHead, Method, Packet, Places, Received, State};
-use harness::{measure, Row};
+use harness::{measure, warm_up, Row};
 use requests::{Request, Value};
 use std::hint::black_box;
 use std::path::Path;
@@ -299,6 +299,7 @@ fn body_rows(rows: &mut Vec<Row>) {
 }
 
 fn main() {
+    warm_up();
     let mut rows = Vec::new();
     let requests = [
         ("a small GET", requests::small()),
