@@ -7,14 +7,14 @@ use mathlib.Core.List.{List}
 use Prim.Native.Nat.{ℕ, _≤_}
 use lib.Dec.{leb, eqb}
 use lib.ListN.{length}
-use Rattle.wire.specs.declared.Direction.{Direction}
+use Rattle.packet.specs.declared.Direction.{Direction}
 use Rattle.connection.specs.declared.Connection.{Connection}
 use Rattle.connection.specs.declared.Kind.{Kind}
 use Rattle.fields.specs.Fault.{orElse}
 use Rattle.fields.specs.Call.{Call, Outcome, outcome, bufferAfter}
 use Rattle.fields.proofs.Sizes.{or-first, or-second, unless-none}
-use Rattle.pieces.specs.declared.Building.{Building}
-use Rattle.pieces.specs.Record.{kindIn}
+use Rattle.building_record.specs.declared.Building.{Building}
+use Rattle.building_record.specs.Record.{kindIn}
 use Rattle.reader.specs.Meaning.{Meaning}
 use Rattle.reader.specs.Reading.{reading, tableAfter}
 use Rattle.writer.specs.Meaning.{Written}

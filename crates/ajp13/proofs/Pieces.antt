@@ -13,8 +13,8 @@ use Rattle.wire.specs.Bytes.{over}
 use Rattle.fields.specs.Fault.{firstFault}
 use Rattle.fields.specs.Call.{Call, Outcome, refused, done, refusalOf, outcome, bufferAfter}
 use Rattle.fields.proofs.Sizes.{unless-none}
-use Rattle.pieces.specs.Record.{isPossible}
-use Rattle.pieces.specs.declared.Building.{Building}
+use Rattle.building_record.specs.Record.{isPossible}
+use Rattle.building_record.specs.declared.Building.{Building}
 use Rattle.pieces.proofs.Possible.{possible-yes}
 use Rattle.ajp13.specs.Status as status
 use Rattle.ajp13.specs.Words.{buildingRoom, buildingFault, buildingIn, buildingWords}

@@ -15,9 +15,9 @@ use Rattle.connection.specs.declared.Connection.{Connection}
 use Rattle.payload.specs.Sequence.{booleanNumber}
 use Rattle.fields.specs.Fault.{unless}
 use Rattle.fields.proofs.Sizes.{unless-none}
-use Rattle.pieces.specs.Record as building
-use Rattle.pieces.specs.declared.BuildingKind.{BuildingKind}
-use Rattle.pieces.specs.declared.Building.{Building}
+use Rattle.building_record.specs.Record as building
+use Rattle.building_record.specs.declared.BuildingKind.{BuildingKind}
+use Rattle.building_record.specs.declared.Building.{Building}
 use Rattle.ajp13.specs.Status as status
 use Rattle.ajp13.specs.Words.{word, areConnection, stateWord, stateIn, flagIn, connectionFault, connectionIn, connectionWords, areBuilding, kindWord, isForward, isSendHeaders, buildingKindIn, buildingFault, buildingIn, buildingWords}
 use Rattle.ajp13.specs.Private.{ConnectionFits, BuildingFits}

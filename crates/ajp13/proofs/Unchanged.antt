@@ -10,14 +10,14 @@ use lib.Dec.{eqb}
 use lib.ListN.{length}
 use Rattle.wire.specs.Pick.{pick}
 use Rattle.wire.specs.Bytes.{over}
-use Rattle.wire.specs.declared.Direction.{Direction}
+use Rattle.packet.specs.declared.Direction.{Direction}
 use Rattle.connection.specs.declared.Connection.{Connection}
 use Rattle.connection.specs.declared.Kind.{Kind}
 use Rattle.fields.specs.Call.{Call, Outcome, refused, done, refusalOf, outcome, bufferAfter}
-use Rattle.pieces.specs.declared.Building.{Building}
+use Rattle.building_record.specs.declared.Building.{Building}
 use Rattle.reader.specs.Meaning as read
 use Rattle.reader.specs.Reading.{reading, tableAfter}
-use Rattle.reader.proofs.Acceptance.{refused-keeps, needs-keeps}
+use Rattle.reading_laws.proofs.Acceptance.{refused-keeps, needs-keeps}
 use Rattle.writer.specs.Meaning.{Written}
 use Rattle.closing.specs.Closing.{closeOutcome, closeBuffer}
 use Rattle.closing.proofs.Laws.{close-refused}

@@ -16,7 +16,7 @@ use Rattle.wire.proofs.Parts.{part-zero}
 use Rattle.payload.specs.Sequence.{booleanNumber}
 use Rattle.fields.specs.Fault.{unless}
 use Rattle.fields.proofs.Sizes.{unless-none, or-first, or-second}
-use Rattle.reader.specs.View.{integerView, nullView, textView}
+use Rattle.views.specs.View.{integerView, nullView, textView}
 use Rattle.ajp13.specs.Status as status
 use Rattle.ajp13.specs.Words.{word, flagIn, numberFault}
 use Rattle.ajp13.specs.View.{startPlace, lengthPlace, nullPlace, textStart, textWords, textFault}

@@ -9,18 +9,18 @@ use Prim.Native.Nat.{ℕ, _≤_}
 use lib.Dec.{eqb}
 use lib.ListN.{length}
 use Rattle.wire.specs.Pick.{pick}
-use Rattle.wire.specs.declared.Direction.{Direction}
+use Rattle.packet.specs.declared.Direction.{Direction}
 use Rattle.connection.specs.declared.Connection.{Connection}
 use Rattle.connection.specs.declared.Move.{Move}
 use Rattle.fields.specs.Field.{Fits}
 use Rattle.fields.specs.Call.{Call, Outcome, refused, done, refusalOf, outcome}
 use Rattle.fields.proofs.Calls.{done-fits}
-use Rattle.pieces.specs.declared.Building.{Building}
+use Rattle.building_record.specs.declared.Building.{Building}
 use Rattle.reader.specs.declared.frame.FrameRead.{FrameRead}
 use Rattle.reader.specs.Meaning as read
 use Rattle.reader.specs.Reading.{reading}
 use Rattle.reader.proofs.Framing.{frame-inside}
-use Rattle.reader.proofs.Acceptance.{accepted-is, needs-more}
+use Rattle.reading_laws.proofs.Acceptance.{accepted-is, needs-more}
 use Rattle.writer.specs.Meaning.{Written}
 use Rattle.writer.specs.Sending.{packetOf, sending}
 use Rattle.closing.specs.Closing.{closedLength, closeOutcome}

@@ -13,7 +13,7 @@ use Rattle.fields.specs.Call.{Call, Outcome, refused, done, outcome, bufferAfte
 use Rattle.pieces.specs.Fixed.{forwardCall, sendHeadersCall}
 use Rattle.pieces.specs.Header.{codedCall, spelledCall, namedCall}
 use Rattle.pieces.specs.Attribute.{textCall, integerCall, pairCall}
-use Rattle.pieces.specs.declared.Building.{Building}
+use Rattle.building_record.specs.declared.Building.{Building}
 use Rattle.ajp13.specs.Status as status
 use Rattle.ajp13.specs.Words.{flagIn, flagFault, numberFault, buildingRoom, buildingFault, buildingIn, buildingWords}
 use Rattle.ajp13.specs.Fixed.{fixedFault, numbersIn, nullsIn}

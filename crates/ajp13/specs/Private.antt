@@ -4,7 +4,7 @@ use mathlib.Core.Path.{_≡_}
 use mathlib.Core.List.{List}
 use Prim.Native.Nat.{ℕ, _≤_}
 use lib.ListN.{length}
-use Rattle.wire.specs.declared.Direction.{Direction}
+use Rattle.packet.specs.declared.Direction.{Direction}
 use Rattle.connection.specs.Connection.{maxPacket}
 use Rattle.fields.specs.Call as call
 use Rattle.reader.specs.Meaning as read
@@ -41,7 +41,7 @@ ReadWithin (read.accepted t taken after) = taken ≤ maxPacket
 -- and so is the length that sending tells
 abbrev pub SentWithin : call.Outcome Written → Type 0
 SentWithin (call.refused n) = Unit
-SentWithin (call.done w) = w .length ≤ maxPacket
+SentWithin (call.done w) = w .size ≤ maxPacket
 
 -- what reading leaves where the call has no fault
 abbrev pub soundReading : Direction → List ℕ → List ℕ → List ℕ → List ℕ → Effect

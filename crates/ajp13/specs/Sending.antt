@@ -7,7 +7,7 @@ use lib.ListN.{length}
 use Rattle.connection.specs.declared.Kind.{Kind}
 use Rattle.fields.specs.Fault.{orElse, firstFault}
 use Rattle.fields.specs.Call.{Call, Outcome, refused, done, outcome, bufferAfter}
-use Rattle.pieces.specs.Record.{kindIn}
+use Rattle.building_record.specs.Record.{kindIn}
 use Rattle.writer.specs.Meaning.{Written}
 use Rattle.writer.specs.Sending.{cpingCall, cpongCall, bodyCall, chunkCall, getCall, endCall}
 use Rattle.closing.specs.Closing.{closeOutcome, closeBuffer}
@@ -20,7 +20,7 @@ use Rattle.ajp13.specs.Effect.{Effect, leaves, checked, callFault}
 abbrev pub afterSending : Kind → Outcome Written → List ℕ → List ℕ → List ℕ → Effect
 afterSending kind (refused n) connection buffer answer = leaves n connection buffer answer
 afterSending kind (done w) connection buffer answer =
-    leaves status.done (connectionWords (w .connection)) buffer (writtenWords kind (w .length))
+    leaves status.done (connectionWords (w .connection)) buffer (writtenWords kind (w .size))
 
 -- a packet that one call builds
 abbrev pub sendEffect : ℕ → Kind → Call Written → List ℕ → List ℕ → List ℕ → Effect

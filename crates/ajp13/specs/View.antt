@@ -6,10 +6,10 @@ use Prim.Native.Nat.{ℕ, _+_}
 use lib.Dec.{leb, eqb}
 use lib.ListN.{length}
 use Rattle.wire.specs.Pick.{pick}
-use Rattle.names.specs.declared.AttributeKind.{AttributeKind}
+use Rattle.packet.specs.declared.AttributeKind.{AttributeKind}
 use Rattle.fields.specs.Fault.{unless, orElse}
-use Rattle.reader.specs.View.{nullView, textView}
-use Rattle.reader.specs.declared.view.HeaderName.{HeaderName}
+use Rattle.views.specs.View.{nullView, textView}
+use Rattle.packet.specs.declared.HeaderName.{HeaderName}
 use Rattle.payload.specs.Sequence.{booleanNumber}
 use Rattle.ajp13.specs.Status as status
 use Rattle.ajp13.specs.Words.{numberFault}

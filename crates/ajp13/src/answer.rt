@@ -3,7 +3,7 @@ ghost use mathlib.Core.Path.{_≡_};
 ghost use mathlib.Core.Bool.{true};
 ghost use Prim.Native.Nat.{_≤_};
 ghost use Rattle.connection.specs.Connection.{maxPacket};
-ghost use Rattle.payload.specs.declared.packet.Packet.{Packet};
+ghost use Rattle.packet.specs.declared.Packet.{Packet};
 ghost use Rattle.reader.specs.Meaning.{parted, told};
 ghost use Rattle.ajp13.specs.Answer.{answerFault, row, needsWords, writtenWords, hasPart, toldWords};
 ghost use Rattle.ajp13.specs.Effect.{callFault};
@@ -14,9 +14,9 @@ use crate::words::connection_fault;
 use crate::words::flag_word;
 use crate::words::kind_word;
 use connection::Kind;
-use payload::packet::Forward;
-use payload::packet::Packet;
-use payload::packet::Part;
+use packet::Forward;
+use packet::Packet;
+use packet::Part;
 
 // How many words an answer has.
 const ANSWER_SIZE: usize = 13;

@@ -13,9 +13,9 @@ use crate::status::unless;
 use crate::words::number_fault;
 use crate::words::number_in;
 use names::CodeFound;
-use names::NAME_ROOM;
 use names::NameList;
 use names::table;
+use packet::NAME_ROOM;
 use wire::write;
 
 // The lists of names, each by its number.
@@ -64,12 +64,12 @@ fn put_name(name: &mut [u8], list: NameList, code: u16) -> u32
 {
     let told = table::name_of(list, code);
     let bytes = told.bytes;
-    let length = told.length as u32;
+    let size = told.len as u32;
     if table::is_listed(list, code) {
         write::bytes(name, 0, &bytes);
-        return length;
+        return size;
     }
-    length
+    size
 }
 
 // The name for a code, and how long it is; 0 where no such code is listed, and nothing is written then.

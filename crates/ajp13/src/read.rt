@@ -4,7 +4,7 @@ ghost use mathlib.Core.Path.{_≡_};
 ghost use mathlib.Core.Bool.{true};
 ghost use mathlib.Core.List.{List};
 ghost use Prim.Native.Nat.{ℕ, _≤_};
-ghost use Rattle.wire.specs.declared.Direction.{Direction};
+ghost use Rattle.packet.specs.declared.Direction.{Direction};
 ghost use Rattle.connection.specs.Connection.{maxPacket};
 ghost use Rattle.reader.specs.Meaning.{accepted, parted, meaning};
 ghost use Rattle.ajp13.specs.Answer.{hasPart};
@@ -22,13 +22,13 @@ use crate::words::fill;
 use crate::words::put_connection;
 use connection::Connection;
 use connection::Kind;
-use payload::packet::Part;
+use packet::Direction;
+use packet::Part;
 use reader::Received;
 use reader::read;
 use reader::short::PartRead;
 use reader::short::read_body;
 use reader::short::read_body_chunk;
-use wire::Direction;
 
 // Tells what the reader answered: the status, the connection after it and the answer's words.
 fn tell(received: Received, connection: &mut [u32], answer: &mut [u32]) -> u32

@@ -31,11 +31,11 @@ pub fn tell(kind: Kind, sent: Sent, connection: &mut [u32], answer: &mut [u32]) 
     match sent {
         Sent::Refused(n) => n as u32,
         Sent::Written {
-            length,
+            size,
             connection: after,
         } => {
             put_connection(connection, after);
-            let words = written_words(kind, bytes_word(length));
+            let words = written_words(kind, bytes_word(size));
             fill(answer, &words);
             status::DONE
         }

@@ -4,7 +4,7 @@ ghost use Prim.Native.Nat.{_+_, _≤_};
 ghost use lib.ListN.{getD};
 ghost use Rattle.names.specs.Attribute.{attributeKind};
 ghost use Rattle.fields.specs.Fault.{orElse};
-ghost use Rattle.reader.specs.View.{integerView, textView, nameView};
+ghost use Rattle.views.specs.View.{integerView, textView, nameView};
 ghost use Rattle.ajp13.specs.Words.{numberFault, lastNumber};
 ghost use Rattle.ajp13.specs.View.{textStart, textWords, textFault, textAfter, nameNumber, kindNumber};
 use crate::name::NO_CODE;
@@ -15,12 +15,11 @@ use crate::words::fill;
 use crate::words::flag_word;
 use crate::words::number_fault;
 use crate::words::number_in;
-use connection::Place;
 use fields::size::BYTE;
 use fields::size::INTEGER;
-use names::AttributeKind;
-use reader::view;
-use reader::view::HeaderName;
+use packet::AttributeKind;
+use packet::HeaderName;
+use packet::Place;
 use wire::NULL_LENGTH;
 use wire::has_room;
 use wire::read;
@@ -98,7 +97,7 @@ pub extern "C" fn ajp13_text_at(packet: &[u8], place: u32, text: &mut [u32]) -> 
         return found;
     }
     let at = place_in(place);
-    let told = text_words(packet, at.index(), view::text_at(packet, at));
+    let told = text_words(packet, at.index(), views::text_at(packet, at));
     fill(text, &told);
     status::DONE
 }
@@ -117,7 +116,7 @@ pub extern "C" fn ajp13_attribute_name_at(packet: &[u8], place: u32, text: &mut 
     let told = text_words(
         packet,
         at.index() + BYTE,
-        view::attribute_name_at(packet, at),
+        views::attribute_name_at(packet, at),
     );
     fill(text, &told);
     status::DONE
@@ -132,7 +131,7 @@ pub extern "C" fn ajp13_integer_at(packet: &[u8], place: u32) -> u32
     if found != status::DONE {
         return found;
     }
-    view::integer_at(packet, place_in(place)) as u32
+    views::integer_at(packet, place_in(place)) as u32
 }
 
 // The code of the header's name at a place, 0 where the name is spelled.
@@ -144,7 +143,7 @@ pub extern "C" fn ajp13_header_code_at(packet: &[u8], place: u32) -> u32
     if found != status::DONE {
         return found;
     }
-    match view::name_at(packet, place_in(place)) {
+    match views::name_at(packet, place_in(place)) {
         HeaderName::Code(code) => code as u32,
         HeaderName::Spelled => NO_CODE,
     }
@@ -159,7 +158,7 @@ pub extern "C" fn ajp13_attribute_code_at(packet: &[u8], place: u32) -> u32
     if found != status::DONE {
         return found;
     }
-    view::attribute_code_at(packet, place_in(place)) as u32
+    views::attribute_code_at(packet, place_in(place)) as u32
 }
 
 // The number of a kind of value.
@@ -183,5 +182,5 @@ pub extern "C" fn ajp13_attribute_kind_at(packet: &[u8], place: u32) -> u32
     if found != status::DONE {
         return found;
     }
-    kind_number(view::attribute_kind_at(packet, place_in(place)))
+    kind_number(views::attribute_kind_at(packet, place_in(place)))
 }

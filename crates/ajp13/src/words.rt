@@ -7,13 +7,13 @@ ghost use Rattle.ajp13.specs.Words.{lastNumber, flagIn, flagFault, numbe
 ghost use Rattle.ajp13.specs.Private.{ConnectionFits, BuildingFits};
 use crate::status;
 use crate::status::unless;
-use connection::BodyLeft;
+use building_record::Building;
+use building_record::BuildingKind;
 use connection::Connection;
 use connection::Kind;
-use connection::Place;
 use connection::State;
-use pieces::Building;
-use pieces::BuildingKind;
+use packet::BodyLeft;
+use packet::Place;
 
 // The words of a connection: how many, and where each stands.
 const CONNECTION_SIZE: usize = 5;

@@ -18,7 +18,7 @@ use Rattle.wire.specs.declared.read.NumberRead.{NumberRead}
 use Rattle.wire.specs.declared.read.StringRead.{StringRead}
 use Rattle.wire.proofs.Field.{StringInside, string-inside, NumberInside, integer-inside}
 use Rattle.names.specs.Attribute.{attributeKind, attributeFault}
-use Rattle.names.specs.declared.AttributeKind.{AttributeKind}
+use Rattle.packet.specs.declared.AttributeKind.{AttributeKind}
 use Rattle.places.specs.Entries.{Entries, ended, front}
 use Rattle.places.proofs.Filling.{Filling, filling-start, filling-turn, filling-stop, filling-end}
 use Rattle.attributes.specs.Seen.{bit, withBit}

@@ -1,6 +1,7 @@
 // The command `attribute`: attribute RECORD BUFFER CODE VALUE, where VALUE is str:STRING, int:N or pair:STRING:STRING.
 use crate::built;
 use crate::record;
+use building_record::Building;
 use cases::commands;
 use cases::parse;
 use cases::put;
@@ -8,7 +9,6 @@ use cases::string;
 use cases::string::Stored;
 use cases::text;
 use pieces::Added;
-use pieces::Building;
 use pieces::attribute;
 use wire::part_of;
 

@@ -9,8 +9,8 @@ use writer::Sent;
 pub fn sent(out: &mut [u8], answer: Sent, buffer: &[u8], listed: &[u8]) -> usize {
     match answer {
         Sent::Refused(n) => refused(out, n, buffer, listed),
-        Sent::Written { length, connection } => {
-            let at = put::named(out, 0, b"ok len=", length as u64);
+        Sent::Written { size, connection } => {
+            let at = put::named(out, 0, b"ok len=", size as u64);
             let at = put::text(out, at, b" conn=");
             let at = put::connection(out, at, connection);
             put::named_bytes(out, at, b" buf=", buffer)

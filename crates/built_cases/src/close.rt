@@ -1,12 +1,12 @@
 // The command `close`: close CONNECTION RECORD BUFFER.
 use crate::built;
 use crate::record;
+use building_record::Building;
 use cases::commands;
 use cases::parse;
 use cases::put;
 use cases::text;
 use connection::Connection;
-use pieces::Building;
 use wire::part_of;
 
 // The words of a case.

@@ -1,11 +1,11 @@
 // A building record, such as F,32,30,1,0: the packet's letter, where the next piece goes, where the count stands, how many headers there
 // are, and whether an attribute was added.
+use building_record::Building;
+use building_record::BuildingKind;
 use cases::parse;
 use cases::put;
 use cases::text;
-use connection::Place;
-use pieces::Building;
-use pieces::BuildingKind;
+use packet::Place;
 
 // The record that a word says.
 pub fn parse(word: &[u8]) -> Building {

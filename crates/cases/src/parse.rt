@@ -2,9 +2,9 @@
 // written anew and compared with its words.
 ghost use Prim.Native.Nat.{_<_, _≤_};
 use crate::text;
-use connection::BodyLeft;
 use connection::Connection;
 use connection::State;
+use packet::BodyLeft;
 
 // A number above this is too large for any case.
 const MANY: u64 = 4294967296;

@@ -12,7 +12,7 @@ use lib.ListN.{length, drop}
 use Rattle.wire.specs.Pick.{pick}
 use Rattle.wire.specs.Bytes.{part, integerIn}
 use Rattle.wire.specs.Field.{integerAt}
-use Rattle.wire.specs.declared.Direction.{Direction}
+use Rattle.packet.specs.declared.Direction.{Direction}
 use Rattle.wire.specs.declared.read.NumberRead.{NumberRead}
 use Rattle.wire.proofs.Field.{number-read}
 use Rattle.connection.specs.Cycle.{inState}
@@ -21,12 +21,12 @@ use Rattle.connection.specs.declared.Kind.{Kind}
 use Rattle.payload.specs.Code.{kindAt}
 use Rattle.payload.specs.Kinds.{packetAt}
 use Rattle.payload.specs.declared.KindRead.{KindRead}
-use Rattle.payload.specs.declared.packet.PacketRead.{PacketRead}
+use Rattle.payload.specs.declared.found.PacketRead.{PacketRead}
 use Rattle.fields.specs.Fault.{unless, orElse, fitFault}
 use Rattle.fields.specs.Call.{Outcome, refused, done}
 use Rattle.fields.proofs.Sizes.{or-first, or-second, unless-none, fit-none, fit-by}
-use Rattle.pieces.specs.declared.Building.{Building}
-use Rattle.pieces.specs.Record.{kindIn, directionIn, isPossible}
+use Rattle.building_record.specs.declared.Building.{Building}
+use Rattle.building_record.specs.Record.{kindIn, directionIn, isPossible}
 use Rattle.pieces.proofs.Possible.{possible-yes}
 use Rattle.writer.specs.declared.Sent.{Sent}
 use Rattle.writer.specs.Meaning.{Written, meaning, isWritten}
@@ -35,9 +35,9 @@ use Rattle.reader.specs.Frame.{leadingDiffers, lengthAt, frameOf, frameAt}
 use Rattle.reader.specs.Meaning as read
 use Rattle.reader.specs.Reading.{parsedOf, parseWhole, parseFrame, parse, readAsBody, accepting, judging, reading}
 use Rattle.reader.proofs.Framing.{length-is}
-use Rattle.reader.proofs.Later.{Answered}
-use Rattle.reader.proofs.Acceptance.{accepted-is, accepting-answers}
-use Rattle.reader.proofs.Aside.{aside}
+use Rattle.reading_laws.proofs.Later.{Answered}
+use Rattle.reading_laws.proofs.Acceptance.{accepted-is, accepting-answers}
+use Rattle.reading_laws.proofs.Aside.{aside}
 use Rattle.closing.specs.Closing.{closedLength, closingFault, closed, closedPacket, judgement, verdict, closeOutcome, whereDone, closeBuffer}
 use Rattle.closing.specs.Private.{Closable}
 use Rattle.closing.proofs.Setting.{set-length, packet-length, packet-payload, set-behind}
@@ -217,16 +217,16 @@ module _ (c : Connection) (r : Building) (buffer : List ℕ) where
   -- it goes accepts it, all of it, with every table of 328 places or more, and has the same connection after it
   pub record CloseDone (w : Written) : Type 0 where
     pub ready : Ready c r buffer
-    pub length-is : w .length ≡ closedLength r
+    pub length-is : w .size ≡ closedLength r
     pub buffer-is : closeBuffer c r buffer ≡ closed r buffer
-    pub packet-is : part (closeBuffer c r buffer) 0 (w .length) ≡ closedPacket r buffer
+    pub packet-is : part (closeBuffer c r buffer) 0 (w .size) ≡ closedPacket r buffer
     pub packet-size : length (closedPacket r buffer) ≡ closedLength r
     pub told : read.Told
     pub judged-is : judgement c r (closedPacket r buffer) ≡ read.accepted told (closedLength r) (w .connection)
     pub reads : (room : ℕ) → 328 ≤ room → reading (directionIn r) c (closedPacket r buffer) room ≡ read.accepted told (closedLength r) (w .connection)
 
   -- the record that holds where the judge accepts
-  done-by : Ready c r buffer → (t : read.Told) (taken : ℕ) (w : Written) → closeOutcome c r buffer ≡ done w → w .length ≡ closedLength r
+  done-by : Ready c r buffer → (t : read.Told) (taken : ℕ) (w : Written) → closeOutcome c r buffer ≡ done w → w .size ≡ closedLength r
       → judgement c r (closedPacket r buffer) ≡ read.accepted t taken (w .connection) → CloseDone w
   unfolding judgement closedPacket
   done-by ready t taken w o size e =
@@ -237,7 +237,7 @@ module _ (c : Connection) (r : Building) (buffer : List ℕ) where
         ready = ready;
         length-is = size;
         buffer-is = stands;
-        packet-is = ap (λ (l : List ℕ). part l 0 (w .length)) stands ∙ ap (part (closed r buffer) 0) size;
+        packet-is = ap (λ (l : List ℕ). part l 0 (w .size)) stands ∙ ap (part (closed r buffer) 0) size;
         packet-size = packet-length r buffer (ready-closable c r buffer ready);
         told = t;
         judged-is = all;
@@ -253,8 +253,8 @@ module _ (c : Connection) (r : Building) (buffer : List ℕ) where
       by-judge ready (read.needs n) j q = absurd (let z : _≡_ {A = ℕ} 0 1 = cc in omega arith)
       by-judge ready (read.refused n) j q = absurd (let z : _≡_ {A = ℕ} 0 1 = cc in omega arith)
       by-judge ready (read.accepted t taken next) j q =
-          let is : record { length = closedLength r; connection = next } ≡ w = cc in
-          done-by ready t taken w e (ap (λ (x : Written). x .length) (sym is)) (j ∙ ap (λ (x : Written). read.accepted t taken (x .connection)) is)
+          let is : record { size = closedLength r; connection = next } ≡ w = cc in
+          done-by ready t taken w e (ap (λ (x : Written). x .size) (sym is)) (j ∙ ap (λ (x : Written). read.accepted t taken (x .connection)) is)
 
       by-fault : (none : Bool) → eqb (closingFault c r buffer) 0 ≡ none
           → pick none (verdict (closedLength r) (judgement c r (closedPacket r buffer))) (refused (closingFault c r buffer)) ≡ done w → CloseDone w
@@ -264,9 +264,9 @@ module _ (c : Connection) (r : Building) (buffer : List ℕ) where
   -- and the other way: where nothing is found before and the judge accepts, closing is done
   pub done-close : Ready c r buffer → (t : read.Told) (taken : ℕ) (next : Connection)
       → judgement c r (closedPacket r buffer) ≡ read.accepted t taken next
-      → (closeOutcome c r buffer ≡ done (record { length = closedLength r; connection = next })) × (closeBuffer c r buffer ≡ closed r buffer)
+      → (closeOutcome c r buffer ≡ done (record { size = closedLength r; connection = next })) × (closeBuffer c r buffer ≡ closed r buffer)
   done-close ready t taken next e =
-      let w : Written = record { length = closedLength r; connection = next } in
+      let w : Written = record { size = closedLength r; connection = next } in
       let o : done w ≡ closeOutcome c r buffer =
       ap (verdict (closedLength r)) (sym e) ∙ found-judged (closingFault c r buffer) refl (ready-fault c r buffer ready) in
       (sym o, sym (outcome-buffer (done w) o))

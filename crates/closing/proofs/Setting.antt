@@ -11,10 +11,10 @@ use lib.Seq.{getD-take, length-take-le, drop-drop}
 use Rattle.wire.specs.Bytes.{part, over, integerIn, integerBytes}
 use Rattle.wire.proofs.Bytes.{length-part, part-one, length-over, over-before, over-behind, over-again, over-same}
 use Rattle.wire.proofs.RoundTrip.{Bytes, integer-back, integer-kept}
-use Rattle.connection.specs.declared.Place.{Place}
-use Rattle.pieces.specs.declared.BuildingKind.{BuildingKind}
-use Rattle.pieces.specs.declared.Building.{Building}
-use Rattle.reader.specs.View.{integerView}
+use Rattle.packet.specs.declared.Place.{Place}
+use Rattle.building_record.specs.declared.BuildingKind.{BuildingKind}
+use Rattle.building_record.specs.declared.Building.{Building}
+use Rattle.views.specs.View.{integerView}
 use Rattle.closing.specs.declared.Old.{Old}
 use Rattle.closing.specs.Closing.{lastBytes, closedLength, withCount, withLength, closed, closedPacket}
 use Rattle.closing.specs.Private.{lastWith, Closable, putBack}
@@ -140,21 +140,21 @@ module _ (r : Building) (buffer : List ℕ) (can : Closable r buffer) where
       (integer-laid (withCount r buffer) 2 (closedLength r - 4) (omega (arith, length-fits)) (omega (arith, can .within)))
 
   -- what stood there, put back
-  set-back : (old : Old) → integerBytes (old .count) ≡ part buffer (r .count .0) 2 → integerBytes (old .length) ≡ part (withCount r buffer) 2 2
+  set-back : (old : Old) → integerBytes (old .count) ≡ part buffer (r .count .0) 2 → integerBytes (old .payload) ≡ part (withCount r buffer) 2 2
       → lastWith (r .kind) (old .last) ≡ part (withLength r buffer) (r .next .0) (length (lastBytes (r .kind))) → putBack r old (closed r buffer) ≡ buffer
   unfolding closed
   set-back old count size last =
-      ap (λ (l : List ℕ). over (over l 2 (integerBytes (old .length))) (r .count .0) (integerBytes (old .count)))
+      ap (λ (l : List ℕ). over (over l 2 (integerBytes (old .payload))) (r .count .0) (integerBytes (old .count)))
       (undone (withLength r buffer) (r .next .0) (length (lastBytes (r .kind))) (lastBytes (r .kind)) (lastWith (r .kind) (old .last)) refl last-fits last)
       ∙ ap (λ (l : List ℕ). over l (r .count .0) (integerBytes (old .count)))
-      (undone (withCount r buffer) 2 2 (integerBytes (closedLength r - 4)) (integerBytes (old .length)) refl length-fits size)
+      (undone (withCount r buffer) 2 2 (integerBytes (closedLength r - 4)) (integerBytes (old .payload)) refl length-fits size)
       ∙ undone buffer (r .count .0) 2 (integerBytes (r .headers)) (integerBytes (old .count)) refl count-fits count
 
   -- so it is with what is saved just before each write
   pub set-by : (old : Old) {place spot : Place} {at headers size next : ℕ} {x y z : List ℕ}
       → place ≡ r .count → at ≡ place .0 → headers ≡ r .headers → size ≡ closedLength r
       → Bytes buffer → old .count ≡ integerView buffer (place .0) → x ≡ over buffer at (integerBytes headers)
-      → Bytes x → old .length ≡ integerView x 2 → y ≡ over x 2 (integerBytes (size - 4))
+      → Bytes x → old .payload ≡ integerView x 2 → y ≡ over x 2 (integerBytes (size - 4))
       → spot ≡ r .next → next ≡ spot .0 → old .last ≡ getD y next 0 → z ≡ over y (r .next .0) (lastWith (r .kind) 255)
       → (putBack r old (closed r buffer) ≡ buffer) × (z ≡ closed r buffer)
   unfolding closed
@@ -169,8 +169,8 @@ module _ (r : Building) (buffer : List ℕ) (can : Closable r buffer) where
       e3 ∙ ap (λ (l : List ℕ). over l (r .next .0) (lastWith (r .kind) 255)) second ∙ ap (over (withLength r buffer) (r .next .0)) (last-mark (r .kind)) in
       let count-back : integerBytes (old .count) ≡ part buffer (r .count .0) 2 =
       integer-saved buffer (r .count .0) (old .count) bytes count-fits (c1 ∙ ap (integerView buffer) here) in
-      let length-back : integerBytes (old .length) ≡ part (withCount r buffer) 2 2 =
-      integer-saved x 2 (old .length) bytes2 (omega (arith, ap length first, length-fits)) c2 ∙ ap (λ (l : List ℕ). part l 2 2) first in
+      let length-back : integerBytes (old .payload) ≡ part (withCount r buffer) 2 2 =
+      integer-saved x 2 (old .payload) bytes2 (omega (arith, ap length first, length-fits)) c2 ∙ ap (λ (l : List ℕ). part l 2 2) first in
       let last-back : lastWith (r .kind) (old .last) ≡ part (withLength r buffer) (r .next .0) (length (lastBytes (r .kind))) =
       last-saved (withLength r buffer) (r .next .0) (old .last) (r .kind) last-fits
       (c3 ∙ ap (λ (l : List ℕ). getD l next 0) second ∙ ap (λ (i : ℕ). getD (withLength r buffer) i 0) behind-last) in
@@ -178,9 +178,9 @@ module _ (r : Building) (buffer : List ℕ) (can : Closable r buffer) where
 
 -- what is put back, write by write
 pub back-by : (r : Building) (old : Old) (buffer : List ℕ) {place : Place} {at : ℕ} {x y z : List ℕ} → place ≡ r .count → at ≡ place .0
-    → x ≡ over buffer (r .next .0) (lastWith (r .kind) (old .last)) → y ≡ over x 2 (integerBytes (old .length))
+    → x ≡ over buffer (r .next .0) (lastWith (r .kind) (old .last)) → y ≡ over x 2 (integerBytes (old .payload))
     → z ≡ over y at (integerBytes (old .count)) → z ≡ putBack r old buffer
 back-by r old buffer {place} {at} {x} {y} {z} p a e1 e2 e3 =
-    e3 ∙ ap (λ (l : List ℕ). over l at (integerBytes (old .count))) (e2 ∙ ap (λ (l : List ℕ). over l 2 (integerBytes (old .length))) e1)
-    ∙ ap (λ (i : ℕ). over (over (over buffer (r .next .0) (lastWith (r .kind) (old .last))) 2 (integerBytes (old .length))) i (integerBytes (old .count)))
+    e3 ∙ ap (λ (l : List ℕ). over l at (integerBytes (old .count))) (e2 ∙ ap (λ (l : List ℕ). over l 2 (integerBytes (old .payload))) e1)
+    ∙ ap (λ (i : ℕ). over (over (over buffer (r .next .0) (lastWith (r .kind) (old .last))) 2 (integerBytes (old .payload))) i (integerBytes (old .count)))
     (place-seen (r .count) p a)

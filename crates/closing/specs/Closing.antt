@@ -15,9 +15,9 @@ use Rattle.connection.specs.declared.Connection.{Connection}
 use Rattle.payload.specs.Code.{payloadPlace}
 use Rattle.fields.specs.Fault.{unless, firstFault, fitFault}
 use Rattle.fields.specs.Call.{Outcome, refused, done}
-use Rattle.pieces.specs.declared.BuildingKind.{BuildingKind}
-use Rattle.pieces.specs.declared.Building.{Building}
-use Rattle.pieces.specs.Record.{kindIn, directionIn, isPossible}
+use Rattle.building_record.specs.declared.BuildingKind.{BuildingKind}
+use Rattle.building_record.specs.declared.Building.{Building}
+use Rattle.building_record.specs.Record.{kindIn, directionIn, isPossible}
 use Rattle.writer.specs.Meaning.{Written}
 use Rattle.reader.specs.Frame.{lengthPlace}
 use Rattle.reader.specs.Meaning as read
@@ -66,7 +66,7 @@ judgement c r packet = judging c (parse (directionIn r) (readAsBody (directionIn
 abbrev pub verdict : ℕ → read.Meaning → Outcome Written
 verdict length (read.needs n) = refused cutShort
 verdict length (read.refused n) = refused n
-verdict length (read.accepted told taken after) = done (record { length = length; connection = after })
+verdict length (read.accepted told taken after) = done (record { size = length; connection = after })
 
 -- what closing comes to
 unfoldable pub closeOutcome : Connection → Building → List ℕ → Outcome Written

@@ -6,9 +6,9 @@ use lib.ListN.{length}
 use Rattle.wire.specs.Bytes.{over, integerBytes}
 use Rattle.connection.specs.Connection.{maxPacket}
 use Rattle.payload.specs.Code.{payloadPlace}
-use Rattle.pieces.specs.declared.BuildingKind.{BuildingKind}
-use Rattle.pieces.specs.declared.Building.{Building}
-use Rattle.pieces.specs.Record.{countSize}
+use Rattle.building_record.specs.declared.BuildingKind.{BuildingKind}
+use Rattle.building_record.specs.declared.Building.{Building}
+use Rattle.building_record.specs.Record.{countSize}
 use Rattle.reader.specs.Frame.{lengthPlace}
 use Rattle.closing.specs.declared.Old.{Old}
 use Rattle.closing.specs.Closing.{closedLength}
@@ -30,6 +30,6 @@ pub record Closable (r : Building) (buffer : List ℕ) : Type 0 where
 abbrev pub putBack : Building → Old → List ℕ → List ℕ
 putBack r old buffer =
     over
-    (over (over buffer (r .next .0) (lastWith (r .kind) (old .last))) lengthPlace (integerBytes (old .length)))
+    (over (over buffer (r .next .0) (lastWith (r .kind) (old .last))) lengthPlace (integerBytes (old .payload)))
     (r .count .0)
     (integerBytes (old .count))

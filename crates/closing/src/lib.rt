@@ -10,19 +10,18 @@ ghost use Rattle.writer.specs.Meaning.{meaning};
 ghost use Rattle.closing.specs.Closing.{closedLength, closingFault, closed, verdict, judgement, closeOutcome, closeBuffer};
 ghost use Rattle.closing.specs.Private.{lastWith, Closable, putBack};
 use attributes::LAST_MARK;
+use building_record::Building;
+use building_record::BuildingKind;
 use connection::Connection;
-use connection::Place;
 use fields::fault;
 use fields::put;
 use fields::size::BYTE;
+use packet::Place;
 use payload::PAYLOAD_PLACE;
-use pieces::Building;
-use pieces::BuildingKind;
 use places::MAX_PLACES;
 use reader::LENGTH_PLACE;
 use reader::Received;
 use reader::read;
-use reader::view;
 use wire::part_of;
 use wire::refusal;
 use writer::Sent;
@@ -32,7 +31,7 @@ use writer::is_written;
 // the last piece.
 struct Old {
     count: u16,
-    length: u16,
+    payload: u16,
     last: u8,
 }
 
@@ -93,15 +92,15 @@ fn set(buffer: &mut [u8], building: Building) -> Old
     let place = building.count_place();
     let headers = building.headers();
     let payload = (needs(building) - PAYLOAD_PLACE) as u16;
-    let count = view::integer_at(buffer, place);
+    let count = views::integer_at(buffer, place);
     put::integer(buffer, place.index(), headers);
-    let length = view::integer_at(buffer, Place(LENGTH_PLACE as u16));
+    let stood = views::integer_at(buffer, Place(LENGTH_PLACE as u16));
     put::integer(buffer, LENGTH_PLACE, payload);
     let last = byte_at(buffer, building.next().index());
     put_last(buffer, building, LAST_MARK);
     Old {
         count,
-        length,
+        payload: stood,
         last,
     }
 }
@@ -113,7 +112,7 @@ fn put_back(buffer: &mut [u8], building: Building, old: Old)
 {
     let at = building.count_place().index();
     put_last(buffer, building, old.last);
-    put::integer(buffer, LENGTH_PLACE, old.length);
+    put::integer(buffer, LENGTH_PLACE, old.payload);
     put::integer(buffer, at, old.count);
 }
 
@@ -138,10 +137,7 @@ fn judge(connection: Connection, building: Building, packet: &[u8]) -> Sent
             packet,
             taken,
             connection,
-        } => Sent::Written {
-            length: size,
-            connection,
-        },
+        } => Sent::Written { size, connection },
     }
 }
 
@@ -154,9 +150,9 @@ pub fn close(connection: Connection, building: Building, buffer: &mut [u8]) -> S
     if found != refusal::NONE {
         return Sent::Refused(found);
     }
-    let length = needs(building);
+    let size = needs(building);
     let old = set(buffer, building);
-    let sent = judge(connection, building, part_of(buffer, 0, length));
+    let sent = judge(connection, building, part_of(buffer, 0, size));
     if !is_written(sent) {
         put_back(buffer, building, old);
     }

@@ -7,7 +7,7 @@ ghost use Rattle.wire.specs.Refusal.{notNow};
 ghost use Prim.Native.Nat.{_-_};
 ghost use lib.Dec.{leb};
 ghost use Rattle.wire.specs.Pick.{pick};
-use wire::Direction;
+use packet::Direction;
 use wire::refusal;
 
 // Where a connection stands.
@@ -17,12 +17,6 @@ pub enum State {
     Busy,
     Closed,
 }
-
-// Bytes of a request's body that are still left. No place in a packet can be passed for it.
-pub struct BodyLeft(pub u32);
-
-// A place in a packet, counted from its first byte. No number of body bytes can be passed for it.
-pub struct Place(pub u16);
 
 // A connection. All but the state counts only in Busy, and asked only where a body packet is due.
 // The short fields come first: the compiler then loads each by itself, and not the state together with what lies behind it.
@@ -62,15 +56,6 @@ pub enum Move {
 pub enum Step {
     Refused(u8),
     Next(Connection),
-}
-
-impl Place {
-    // The place as an index.
-    pub fn index(self) -> usize
-        ensures { λ r. ⌜ r ≡ self .0 ⌝ }
-    {
-        self.0 as usize
-    }
 }
 
 impl State {
@@ -160,17 +145,17 @@ impl Connection {
     }
 
     // Whether a payload of so many bytes fits a packet, else it is refused with 2.
-    pub fn fits_payload(length: usize) -> bool
-        ensures { λ r. ⌜ r ≡ leb length maxPayload ⌝ }
+    pub fn fits_payload(size: usize) -> bool
+        ensures { λ r. ⌜ r ≡ leb size maxPayload ⌝ }
     {
-        length <= Self::MAX_PAYLOAD
+        size <= Self::MAX_PAYLOAD
     }
 
     // Whether so many bytes are no more than a packet may have.
-    pub fn fits_packet(length: usize) -> bool
-        ensures { λ r. ⌜ r ≡ leb length maxPacket ⌝ }
+    pub fn fits_packet(size: usize) -> bool
+        ensures { λ r. ⌜ r ≡ leb size maxPacket ⌝ }
     {
-        length <= Self::MAX_PACKET
+        size <= Self::MAX_PACKET
     }
 
     // A connection with these fields as they stand, whether they count or not.

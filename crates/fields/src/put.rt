@@ -10,9 +10,9 @@ ghost use Rattle.fields.specs.Field.{opening, Fits};
 use crate::size::BYTE;
 use crate::size::INTEGER;
 use connection::Kind;
+use packet::Direction;
 use payload::PAYLOAD_PLACE;
 use payload::code_of;
-use wire::Direction;
 use wire::write;
 
 // A byte.

@@ -1,10 +1,10 @@
 // A ping, and a request of 9000 bytes, move by move.
 use crate::print;
-use connection::BodyLeft;
 use connection::Connection;
 use connection::Move;
 use connection::State;
 use connection::Step;
+use packet::BodyLeft;
 
 pub fn show() {
     print::text(b"Cycle\n");

@@ -36,7 +36,7 @@ fn code(list: NameList, text: &[u8]) {
 fn name(list: NameList, code: u16) {
     let found = names::table::name_of(list, code);
     let bytes = found.bytes;
-    let n = found.length;
+    let n = found.len;
     print::text(b"  ");
     print::hex(code as u64, 2);
     if n == 0 {

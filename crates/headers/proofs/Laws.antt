@@ -13,7 +13,7 @@ use Rattle.wire.specs.Pick.{pick, both, either, all}
 use Rattle.wire.specs.Refusal.{none, cutShort, stringWrong}
 use Rattle.wire.specs.Bytes.{part, over, put}
 use Rattle.wire.specs.Field.{integerAt, nullLength, isOptional, holdsBarred, textAt, afterLength, stringOf, stringAt}
-use Rattle.wire.specs.declared.Direction.{Direction}
+use Rattle.packet.specs.declared.Direction.{Direction}
 use Rattle.wire.specs.declared.StringField.{StringField}
 use Rattle.wire.specs.declared.read.NumberRead.{NumberRead}
 use Rattle.wire.specs.declared.read.StringRead.{StringRead}

@@ -10,7 +10,7 @@ use Rattle.wire.specs.Pick.{pick, both}
 use Rattle.wire.specs.Refusal.{none, cutShort, stringWrong}
 use Rattle.wire.specs.Bytes.{part}
 use Rattle.wire.specs.Field.{integerAt, stringAt, isOptional}
-use Rattle.wire.specs.declared.Direction.{Direction}
+use Rattle.packet.specs.declared.Direction.{Direction}
 use Rattle.wire.specs.declared.StringField.{StringField}
 use Rattle.wire.specs.declared.read.NumberRead.{NumberRead}
 use Rattle.wire.specs.declared.read.StringRead.{StringRead}

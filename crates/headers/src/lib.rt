@@ -17,8 +17,8 @@ use names::length::Declared;
 use names::length::Declaring;
 use names::token;
 use names::token::BYTES;
+use packet::Direction;
 use places::put_pair;
-use wire::Direction;
 use wire::NULL_LENGTH;
 use wire::StringField;
 use wire::has_room;
@@ -106,20 +106,20 @@ fn spelled_name(packet: &[u8], at: usize, direction: Direction, flags: &[bool; B
 fn name_text(
     packet: &[u8],
     start: usize,
-    length: u16,
+    size: u16,
     direction: Direction,
     flags: &[bool; BYTES],
 ) -> NameRead
     requires { ⌜ TokenFlags (now flags) ⌝ }
-    ensures { λ r. ⌜ r ≡ spelledOf direction (now (packet .entry)) (afterLength (now (packet .entry)) (isOptional StringField.HeaderName) length start) ⌝ }
+    ensures { λ r. ⌜ r ≡ spelledOf direction (now (packet .entry)) (afterLength (now (packet .entry)) (isOptional StringField.HeaderName) size start) ⌝ }
 {
-    if length == NULL_LENGTH {
+    if size == NULL_LENGTH {
         return NameRead::Refused(refusal::STRING_WRONG);
     }
-    if length == 0 {
+    if size == 0 {
         return NameRead::Refused(refusal::STRING_WRONG);
     }
-    let len = length as usize;
+    let len = size as usize;
     if !has_room(packet.len(), start, len + 1) {
         return NameRead::Refused(refusal::CUT_SHORT);
     }

@@ -13,7 +13,7 @@ use Rattle.wire.specs.Pick.{pick}
 use Rattle.wire.specs.Refusal.{none, cutShort}
 use Rattle.wire.specs.Bytes.{part, integerIn, integerBytes}
 use Rattle.wire.specs.Field.{integerAt, stringAt, isOptional, stringAllowed}
-use Rattle.wire.specs.declared.Direction.{Direction}
+use Rattle.packet.specs.declared.Direction.{Direction}
 use Rattle.wire.specs.declared.StringField.{StringField}
 use Rattle.wire.specs.declared.read.NumberRead.{NumberRead}
 use Rattle.wire.specs.declared.read.StringRead.{StringRead}
@@ -23,7 +23,7 @@ use Rattle.wire.proofs.RoundTrip.{Bytes, integer-kept, text-kept, null-kept}
 use Rattle.wire.proofs.Parts.{part-join}
 use Rattle.names.specs.Header.{beginsCode, codeFault, spelledFault}
 use Rattle.names.specs.Attribute.{attributeKind}
-use Rattle.names.specs.declared.AttributeKind.{AttributeKind}
+use Rattle.packet.specs.declared.AttributeKind.{AttributeKind}
 use Rattle.names.specs.declared.length.Declared.{Declared}
 use Rattle.names.specs.declared.length.Declaring.{Declaring}
 use Rattle.headers.specs.Headers.{codeNameOf, spelledAt, spelledOf, nameAt, declares, declaredBy, valued, valueOf, valueAt, headerOf, headerAt, andThen as headerThen, headersAt}
@@ -35,9 +35,9 @@ use Rattle.fields.specs.Fault.{orElse, stringFault, faultAfter}
 use Rattle.fields.specs.Field.{Field, plain, stringField, faultsOf, bytesOf}
 use Rattle.pieces.specs.Header.{codedName, spelledName, declaringFault, valueFault, headerValue}
 use Rattle.pieces.specs.Attribute.{isText, isInteger, isPair, codeField}
-use Rattle.reader.specs.View.{integerView, textView}
-use Rattle.reader.proofs.Handed.{StringEnds, NumberEnds, StringThere, ValueThere, AttributesHanded}
-use Rattle.reader.proofs.Shown.{integer-shown, text-shown, code-shown, spelled-shown}
+use Rattle.views.specs.View.{integerView, textView}
+use Rattle.reading_laws.proofs.Handed.{StringEnds, NumberEnds, StringThere, ValueThere, AttributesHanded}
+use Rattle.reading_laws.proofs.Shown.{integer-shown, text-shown, code-shown, spelled-shown}
 use Rattle.messages.specs.Message.{Text, null, text, Name, coded, spelled, isNull, bytesIn, NameFits, HeadersFit, ValueFits, AttributesFit}
 use Rattle.messages.specs.Bytes.{fieldsBy, headersBytes, fieldsOf, attributesBytes}
 use Rattle.messages.specs.Shown.{textShown, nameBy, nameShown, headersShown, valueBy, attributesShown}

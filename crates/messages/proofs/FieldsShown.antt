@@ -11,7 +11,7 @@ use lib.Seq.{getD-append-seam}
 use Rattle.wire.specs.Pick.{pick}
 use Rattle.wire.specs.Bytes.{part, integerBytes}
 use Rattle.wire.specs.Field.{integerAt, stringAt, isOptional, stringBytes}
-use Rattle.wire.specs.declared.Direction.{Direction}
+use Rattle.packet.specs.declared.Direction.{Direction}
 use Rattle.wire.specs.declared.StringField.{StringField}
 use Rattle.wire.specs.declared.read.NumberRead.{NumberRead}
 use Rattle.wire.specs.declared.read.StringRead.{StringRead}
@@ -19,7 +19,7 @@ use Rattle.wire.proofs.Field.{size-text}
 use Rattle.wire.proofs.RoundTrip.{integer-written}
 use Rattle.names.specs.Header.{codeFault}
 use Rattle.names.specs.Attribute.{attributeKind}
-use Rattle.names.specs.declared.AttributeKind.{AttributeKind}
+use Rattle.packet.specs.declared.AttributeKind.{AttributeKind}
 use Rattle.headers.specs.Headers.{declares, nameAt}
 use Rattle.headers.specs.declared.NameRead.{NameRead}
 use Rattle.attributes.specs.Attributes.{lastMark}
@@ -28,9 +28,9 @@ use Rattle.fields.specs.Field.{faultsOf, bytesOf}
 use Rattle.fields.proofs.Faults.{faultless}
 use Rattle.pieces.specs.Header.{spelledName}
 use Rattle.pieces.specs.Attribute.{isText, isInteger, isPair}
-use Rattle.reader.specs.View.{nullView, textView}
-use Rattle.reader.proofs.Handed.{StringThere, NameEnds, HeadersHanded, ValueThere, AttributesHanded}
-use Rattle.reader.proofs.Shown.{integer-shown, text-shown, code-shown, spelled-shown}
+use Rattle.views.specs.View.{nullView, textView}
+use Rattle.reading_laws.proofs.Handed.{StringThere, NameEnds, HeadersHanded, ValueThere, AttributesHanded}
+use Rattle.reading_laws.proofs.Shown.{integer-shown, text-shown, code-shown, spelled-shown}
 use Rattle.messages.specs.Message.{Text, null, text, Name, coded, spelled, Header, Value, string, integer, pair, Attribute, isNull, bytesIn, ValueFits, AttributesFit}
 use Rattle.messages.specs.Bytes.{fieldsBy, headerFields, headersBytes, fieldsOf, attributesBytes}
 use Rattle.messages.specs.Shown.{textShown, nameShown, headersShown, valueBy, attributesShown}

@@ -2,7 +2,7 @@
 -- Assumes nothing.
 use mathlib.Core.Path.{_≡_}
 use mathlib.Core.List.{List, [], _∷_}
-use Rattle.wire.specs.declared.Direction.{Direction}
+use Rattle.packet.specs.declared.Direction.{Direction}
 use Rattle.fields.specs.Fault.{firstFault}
 use Rattle.fields.specs.Field.{Field, faultsOf}
 use Rattle.messages.specs.Message.{Header, Attribute}

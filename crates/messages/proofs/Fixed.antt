@@ -12,7 +12,7 @@ use lib.ListN.{length, length-append}
 use Rattle.wire.specs.Pick.{pick, between}
 use Rattle.wire.specs.Bytes.{integerBytes}
 use Rattle.wire.specs.Field.{byteAt, integerAt, booleanAt, booleanBytes, stringAt, stringBytes, isOptional}
-use Rattle.wire.specs.declared.Direction.{Direction}
+use Rattle.packet.specs.declared.Direction.{Direction}
 use Rattle.wire.specs.declared.StringField.{StringField}
 use Rattle.wire.specs.declared.read.NumberRead.{NumberRead}
 use Rattle.wire.specs.declared.read.StringRead.{StringRead}
@@ -23,14 +23,14 @@ use Rattle.payload.specs.Lists.{headersAfter, listsAt}
 use Rattle.payload.specs.Forward.{forwardOf, forwardAt}
 use Rattle.payload.specs.SendHeaders.{sendHeadersOf, sendHeadersAt}
 use Rattle.payload.specs.declared.field.FieldRead.{FieldRead}
-use Rattle.payload.specs.declared.packet.PacketRead.{PacketRead}
+use Rattle.payload.specs.declared.found.PacketRead.{PacketRead}
 use Rattle.fields.specs.Fault.{unless, orElse, firstFault, stringFault, rangeFault}
 use Rattle.fields.specs.Field.{opening, faultsOf}
 use Rattle.fields.proofs.Sizes.{boolean-one}
 use Rattle.fields.proofs.Faults.{faultless}
-use Rattle.pieces.specs.Record.{kindIn}
+use Rattle.building_record.specs.Record.{kindIn}
 use Rattle.pieces.specs.Fixed.{fixed, sendHeadersFields, forwardFields}
-use Rattle.pieces.specs.declared.BuildingKind.{BuildingKind}
+use Rattle.building_record.specs.declared.BuildingKind.{BuildingKind}
 use Rattle.pieces.specs.declared.forward.Numbers.{Numbers}
 use Rattle.pieces.specs.declared.forward.Nulls.{Nulls}
 use Rattle.messages.proofs.Judged.{stood, string-stood, among}

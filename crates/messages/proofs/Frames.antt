@@ -14,7 +14,7 @@ use Rattle.wire.specs.Pick.{pick, either}
 use Rattle.wire.specs.Bytes.{part, integerIn}
 use Rattle.wire.specs.Field.{integerAt}
 use Rattle.wire.specs.Packet.{leading, head, packet}
-use Rattle.wire.specs.declared.Direction.{Direction}
+use Rattle.packet.specs.declared.Direction.{Direction}
 use Rattle.wire.specs.declared.read.NumberRead.{NumberRead}
 use Rattle.wire.proofs.Field.{number-read}
 use Rattle.wire.proofs.Bytes.{length-part, part-add, part-one}

@@ -10,7 +10,7 @@ use Prim.Native.Nat.{ℕ, _≤_}
 use lib.ListN.{length, drop}
 use Rattle.wire.specs.Bytes.{part}
 use Rattle.wire.specs.Packet.{packet}
-use Rattle.wire.specs.declared.Direction.{Direction}
+use Rattle.packet.specs.declared.Direction.{Direction}
 use Rattle.wire.proofs.Tests.{both-first}
 use Rattle.wire.proofs.Parts.{stands-there}
 use Rattle.connection.specs.Cycle.{directionOf, inState, allowed, after}
@@ -19,18 +19,18 @@ use Rattle.connection.specs.declared.Connection.{Connection}
 use Rattle.payload.specs.Code.{codeOf, kindAt}
 use Rattle.payload.specs.Kinds.{kindIn, moveIn}
 use Rattle.payload.specs.declared.KindRead.{KindRead}
-use Rattle.payload.specs.declared.packet.Part.{Part}
-use Rattle.payload.specs.declared.packet.Forward.{Forward}
-use Rattle.payload.specs.declared.packet.SendHeaders.{SendHeaders}
-use Rattle.payload.specs.declared.packet.Packet.{Packet}
+use Rattle.packet.specs.declared.Part.{Part}
+use Rattle.packet.specs.declared.Forward.{Forward}
+use Rattle.packet.specs.declared.SendHeaders.{SendHeaders}
+use Rattle.packet.specs.declared.Packet.{Packet}
 use Rattle.fields.specs.Field.{Field}
-use Rattle.pieces.specs.Record as building
-use Rattle.pieces.specs.declared.BuildingKind.{BuildingKind}
+use Rattle.building_record.specs.Record as building
+use Rattle.building_record.specs.declared.BuildingKind.{BuildingKind}
 use Rattle.writer.specs.Meaning.{Written}
 use Rattle.reader.specs.Meaning.{accepted, told}
 use Rattle.reader.specs.Reading.{parse, readAsBody, judging, reading}
-use Rattle.reader.proofs.Handed.{forward-handed}
-use Rattle.reader.proofs.Aside.{aside}
+use Rattle.reading_laws.proofs.Handed.{forward-handed}
+use Rattle.reading_laws.proofs.Aside.{aside}
 use Rattle.messages.specs.Message.{Request, Response, Message, forward, sendHeaders, Header, Attribute, wayOf}
 use Rattle.messages.specs.Bytes.{payloadOf, messageBytes}
 use Rattle.messages.specs.Writing.{writing}
@@ -97,11 +97,11 @@ pieces-stand {c} {buffer = buffer} {left = left} {w = w} kind m rest bytes way k
     let is : kindIn p ≡ building.kindIn kind = kind-found c kind rest p (subst (λ (s : List ℕ). Parses d s p) bytes r) (a .allows) (k .state) in
     let Showing : Packet → Type 0 = λ q. Parses d whole q → Shows q whole m in
     let shows : Shows p whole m = of-kind Showing p (subst (OfKind Showing) (sym is) each) r in
-    let there : whole ≡ part left 0 (w .length) = sym (stands-there whole buffer left (w .length) (k .size) (k .is) (k .fits)) in
+    let there : whole ≡ part left 0 (w .size) = sym (stands-there whole buffer left (w .size) (k .size) (k .is) (k .fits)) in
     record {
       packet = p;
       size = ap length (sym there) ∙ sym (k .size);
-      parses = subst (λ (x : Direction). Parses x (part left 0 (w .length)) p) way (subst (λ (s : List ℕ). Parses d s p) there r);
+      parses = subst (λ (x : Direction). Parses x (part left 0 (w .size)) p) way (subst (λ (s : List ℕ). Parses d s p) there r);
       allows = a .allows;
       steps = sym (a .steps);
       shows = subst (λ (s : List ℕ). Shows p s m) there shows;

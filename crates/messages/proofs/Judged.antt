@@ -15,7 +15,7 @@ use Rattle.wire.specs.Pick.{pick, both, between}
 use Rattle.wire.specs.Refusal.{none}
 use Rattle.wire.specs.Bytes.{part, integerBytes}
 use Rattle.wire.specs.Field.{integerAt, stringAt, isOptional, stringBytes, stringAllowed}
-use Rattle.wire.specs.declared.Direction.{Direction}
+use Rattle.packet.specs.declared.Direction.{Direction}
 use Rattle.wire.specs.declared.StringField.{StringField}
 use Rattle.wire.specs.declared.read.NumberRead.{NumberRead}
 use Rattle.wire.specs.declared.read.StringRead.{StringRead}
@@ -26,7 +26,7 @@ use Rattle.names.specs.Names.{requestNames, responseNames, isListed}
 use Rattle.names.specs.Header.{beginsCode, codeFault, spelledFault}
 use Rattle.names.specs.Length.{decimalOf, asDeclared}
 use Rattle.names.specs.Attribute.{attributeKind, mayRepeat, isServed, attributeFault}
-use Rattle.names.specs.declared.AttributeKind.{AttributeKind}
+use Rattle.packet.specs.declared.AttributeKind.{AttributeKind}
 use Rattle.names.specs.declared.length.Decimal.{Decimal}
 use Rattle.names.specs.declared.length.Declared.{Declared}
 use Rattle.names.specs.declared.length.Declaring.{Declaring}

@@ -7,9 +7,9 @@ use Prim.Native.Nat.{ℕ}
 use Rattle.names.specs.declared.CodeFound.{CodeFound}
 use Rattle.names.specs.Header.{headerNames}
 use Rattle.names.specs.Names.{codeIn}
-use Rattle.pieces.specs.declared.Building.{Building}
+use Rattle.building_record.specs.declared.Building.{Building}
 use Rattle.pieces.specs.Header.{namedBy, namedCall}
-use Rattle.pieces.specs.Record.{directionIn}
+use Rattle.building_record.specs.Record.{directionIn}
 use Rattle.messages.specs.Message.{Text, Name, coded, spelled, isNull, bytesIn}
 use Rattle.messages.specs.Writing.{headerCallBy}
 

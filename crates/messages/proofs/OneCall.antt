@@ -15,7 +15,7 @@ use Rattle.wire.specs.Pick.{pick}
 use Rattle.wire.specs.Bytes.{part, over, integerIn, integerBytes}
 use Rattle.wire.specs.Field.{byteAt, integerAt, booleanAt, booleanBytes}
 use Rattle.wire.specs.Packet.{head, packet}
-use Rattle.wire.specs.declared.Direction.{Direction}
+use Rattle.packet.specs.declared.Direction.{Direction}
 use Rattle.wire.specs.declared.read.NumberRead.{NumberRead}
 use Rattle.wire.specs.declared.read.BooleanRead.{BooleanRead}
 use Rattle.wire.proofs.Tests.{both-first, both-second}
@@ -35,9 +35,9 @@ use Rattle.payload.specs.End.{endOf, endAt}
 use Rattle.payload.specs.GetBody.{getOf, getAt}
 use Rattle.payload.specs.Body.{bodyStart, sizedAt, sizedOf, bodyAt}
 use Rattle.payload.specs.BodyChunk.{chunkStart, chunkOf, chunkBy, chunkAt}
-use Rattle.payload.specs.declared.packet.Part.{Part}
-use Rattle.payload.specs.declared.packet.Packet.{Packet}
-use Rattle.payload.specs.declared.packet.PacketRead.{PacketRead}
+use Rattle.packet.specs.declared.Part.{Part}
+use Rattle.packet.specs.declared.Packet.{Packet}
+use Rattle.payload.specs.declared.found.PacketRead.{PacketRead}
 use Rattle.payload.proofs.Laws.{get-is, chunk-is, chunk-closed, body-is, sized-by}
 use Rattle.fields.specs.Field.{opening}
 use Rattle.fields.specs.Call.{Call, refused, done, refusalOf, answered, outcome, bufferAfter}
@@ -71,10 +71,10 @@ pub record OneWritten (c : Connection) (m : Move) (payload buffer : List ℕ) (w
   pub allows : allowed c m ≡ true
   pub most : length (packetOf m payload) ≤ 8192
   pub room : length (packetOf m payload) ≤ length buffer
-  pub size : w .length ≡ length (packetOf m payload)
+  pub size : w .size ≡ length (packetOf m payload)
   pub steps : w .connection ≡ after c m
   pub buffer-is : left ≡ over buffer 0 (packetOf m payload)
-  pub stands : part left 0 (w .length) ≡ packetOf m payload
+  pub stands : part left 0 (w .size) ≡ packetOf m payload
 
 module _ (c : Connection) (m : Move) (payload buffer : List ℕ) where
   -- by what the call comes to
@@ -89,7 +89,7 @@ module _ (c : Connection) (m : Move) (payload buffer : List ℕ) where
       let size : inSize c m ≡ true = unless-none (inSize c m) 14 (omega arith) (fine .1 .0) in
       let fits = done-fits call buffer (refusalOf call (length buffer)) refl (d .0) in
       let own : List ℕ = packetOf m payload in
-      let length-is : w .length ≡ length own = ap (λ (v : Written). v .length) (sym (d .1)) in
+      let length-is : w .size ≡ length own = ap (λ (v : Written). v .size) (sym (d .1)) in
       let buffer-is : bufferAfter call buffer ≡ over buffer 0 own = after-written call buffer (d .0) in
       record {
         allows = rw (state, size);
@@ -98,7 +98,7 @@ module _ (c : Connection) (m : Move) (payload buffer : List ℕ) where
         size = length-is;
         steps = ap (λ (v : Written). v .connection) (sym (d .1));
         buffer-is = buffer-is;
-        stands = stands-there own buffer (bufferAfter call buffer) (w .length) length-is buffer-is (omega (arith, fits .0));
+        stands = stands-there own buffer (bufferAfter call buffer) (w .size) length-is buffer-is (omega (arith, fits .0));
       }
 
   -- and by what it leaves
@@ -111,7 +111,7 @@ module _ (c : Connection) (m : Move) (payload buffer : List ℕ) where
   -- the call is done where the connection allows its move and the packet fits, and then it leaves the packet at the start of the buffer
   one-done : allowed c m ≡ true → length (packetOf m payload) ≤ 8192 → length (packetOf m payload) ≤ length buffer
       → oneCall (sending c m payload) buffer
-      ≡ wrote (record { length = length (packetOf m payload); connection = after c m }) (over buffer 0 (packetOf m payload))
+      ≡ wrote (record { size = length (packetOf m payload); connection = after c m }) (over buffer 0 (packetOf m payload))
   one-done a most room =
       let call : Call Written = sending c m payload in
       let state : inState c (kindOf m) ≡ true = both-first (inState c (kindOf m)) (inSize c m) a in
@@ -348,7 +348,7 @@ one-packet (end reuse) one fit = record {
 one-stands : {m : Message} (k : OnePacket m) {c : Connection} {buffer left : List ℕ} {w : Written}
     → OneWritten c (moveIn (k .packet)) (payloadOf m) buffer w left → Stands m c w left
 one-stands {m} k {c} {buffer} {left} {w} o =
-    let own : messageBytes m ≡ part left 0 (w .length) = sym (o .stands ∙ k .calls .bytes-are) in
+    let own : messageBytes m ≡ part left 0 (w .size) = sym (o .stands ∙ k .calls .bytes-are) in
     record {
       packet = k .packet;
       size = ap length (o .stands) ∙ sym (o .size);
@@ -574,7 +574,7 @@ one-back p one d c s table bytes r a places buffer room =
     let fits : length (packetOf (moveIn p) (payloadOf m)) ≤ length buffer = rw same room in
     record {
       written = k .calls .call-is c buffer ∙ one-done c (moveIn p) (payloadOf m) buffer a most fits
-          ∙ ap (λ (l : List ℕ). wrote (record { length = length l; connection = after c (moveIn p) }) (over buffer 0 l)) same;
+          ∙ ap (λ (l : List ℕ). wrote (record { size = length l; connection = after c (moveIn p) }) (over buffer 0 l)) same;
       fit = k .fit;
       way = k .way;
     }

@@ -17,7 +17,7 @@ use Rattle.wire.specs.Refusal.{leftOver}
 use Rattle.wire.specs.Bytes.{part}
 use Rattle.wire.specs.Field.{byteAt}
 use Rattle.wire.specs.Packet.{head, packet}
-use Rattle.wire.specs.declared.Direction.{Direction}
+use Rattle.packet.specs.declared.Direction.{Direction}
 use Rattle.wire.specs.declared.read.NumberRead.{NumberRead}
 use Rattle.wire.proofs.Tests.{both-first}
 use Rattle.wire.proofs.Field.{head-four}
@@ -33,20 +33,20 @@ use Rattle.payload.specs.Code.{codeOf, codeKind, kindOfCode, kindAt}
 use Rattle.payload.specs.Kinds.{packetAt, kindIn, moveIn}
 use Rattle.payload.specs.Packet.{finished}
 use Rattle.payload.specs.declared.KindRead.{KindRead}
-use Rattle.payload.specs.declared.packet.Packet.{Packet}
-use Rattle.payload.specs.declared.packet.PacketRead.{PacketRead}
+use Rattle.packet.specs.declared.Packet.{Packet}
+use Rattle.payload.specs.declared.found.PacketRead.{PacketRead}
 use Rattle.payload.proofs.Laws.{kind-is, code-found, kind-direction}
 use Rattle.payload.proofs.Parsed.{parsed-kind, move-kind}
-use Rattle.pieces.specs.Record as building
-use Rattle.pieces.specs.declared.BuildingKind.{BuildingKind}
+use Rattle.building_record.specs.Record as building
+use Rattle.building_record.specs.declared.BuildingKind.{BuildingKind}
 use Rattle.reader.specs.Frame.{frameAt}
 use Rattle.reader.specs.Meaning.{Told, accepted, told, placesNeeded}
 use Rattle.reader.specs.Reading.{readAsBody, reading}
 use Rattle.reader.specs.declared.frame.FrameRead.{FrameRead}
 use Rattle.reader.proofs.Framing.{frame-inside}
-use Rattle.reader.proofs.Acceptance.{accepted-by, accepted-is}
-use Rattle.reader.proofs.Later.{Answered, later-answer}
-use Rattle.reader.proofs.Inside.{told-inside}
+use Rattle.reading_laws.proofs.Acceptance.{accepted-by, accepted-is}
+use Rattle.reading_laws.proofs.Later.{Answered, later-answer}
+use Rattle.reading_laws.proofs.Inside.{told-inside}
 use Rattle.messages.proofs.Frames.{part-whole, frame-written, head-kept}
 
 -- a body packet's kind

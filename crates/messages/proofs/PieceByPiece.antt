@@ -11,7 +11,7 @@ use Prim.Native.Nat.{ℕ, _+_, _-_, _≤_, _<_}
 use lib.Dec.{eqb}
 use lib.ListN.{length, length-append}
 use Rattle.wire.specs.Bytes.{over}
-use Rattle.wire.specs.declared.Direction.{Direction}
+use Rattle.packet.specs.declared.Direction.{Direction}
 use Rattle.wire.proofs.Bytes.{length-over, over-none, over-over}
 use Rattle.connection.specs.Cycle.{directionOf}
 use Rattle.fields.specs.Fault.{orElse, faultAfter, firstFault, fitFault}
@@ -20,12 +20,12 @@ use Rattle.fields.specs.Call.{Call, done, refusalOf, outcome, bufferAfter}
 use Rattle.fields.proofs.Sizes.{or-none, or-first, first-none, fit-by}
 use Rattle.fields.proofs.Calls.{refused-answer, done-answer, done-own, done-fits, after-written}
 use Rattle.fields.proofs.Faults.{faults-append, faults-more}
-use Rattle.pieces.specs.Record.{kindIn, isForward, fields, directionIn, isPossible, headerNow, attributeNow, countFault}
+use Rattle.building_record.specs.Record.{kindIn, isForward, fields, directionIn, isPossible, headerNow, attributeNow, countFault}
 use Rattle.pieces.specs.Fixed.{unset, fixed, fixedCall}
 use Rattle.pieces.specs.Header.{headerCall, codedCall, spelledCall}
 use Rattle.pieces.specs.Attribute.{attributeCall, textCall, integerCall, pairCall}
-use Rattle.pieces.specs.declared.BuildingKind.{BuildingKind}
-use Rattle.pieces.specs.declared.Building.{Building}
+use Rattle.building_record.specs.declared.BuildingKind.{BuildingKind}
+use Rattle.building_record.specs.declared.Building.{Building}
 use Rattle.pieces.proofs.Possible.{header-possible, attribute-possible, begun-possible}
 use Rattle.messages.specs.Message.{Text, Name, coded, spelled, Header, Value, string, integer, pair, Attribute}
 use Rattle.messages.specs.Bytes.{fieldsBy, headerFields, headersBytes, fieldsOf, attributeFields, attributesBytes}

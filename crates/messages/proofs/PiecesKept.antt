@@ -14,7 +14,7 @@ use Rattle.wire.specs.Refusal.{outOfRange, cutShort, tooMany, leftOver}
 use Rattle.wire.specs.Bytes.{part, integerBytes}
 use Rattle.wire.specs.Field.{byteAt, integerAt, booleanAt, booleanBytes, stringAt, isOptional}
 use Rattle.wire.specs.Packet.{packet}
-use Rattle.wire.specs.declared.Direction.{Direction}
+use Rattle.packet.specs.declared.Direction.{Direction}
 use Rattle.wire.specs.declared.StringField.{StringField}
 use Rattle.wire.specs.declared.read.NumberRead.{NumberRead}
 use Rattle.wire.specs.declared.read.BooleanRead.{BooleanRead}
@@ -38,17 +38,17 @@ use Rattle.payload.specs.Forward.{firstMethod, lastMethod, forwardOf, forwardAt
 use Rattle.payload.specs.SendHeaders.{leastStatus, greatestStatus, sendHeadersOf, sendHeadersAt}
 use Rattle.payload.specs.declared.field.FieldRead.{FieldRead}
 use Rattle.payload.specs.declared.lists.ListsRead.{ListsRead}
-use Rattle.payload.specs.declared.packet.Forward.{Forward}
-use Rattle.payload.specs.declared.packet.SendHeaders.{SendHeaders}
-use Rattle.payload.specs.declared.packet.Packet.{Packet}
-use Rattle.payload.specs.declared.packet.PacketRead.{PacketRead}
+use Rattle.packet.specs.declared.Forward.{Forward}
+use Rattle.packet.specs.declared.SendHeaders.{SendHeaders}
+use Rattle.packet.specs.declared.Packet.{Packet}
+use Rattle.payload.specs.declared.found.PacketRead.{PacketRead}
 use Rattle.fields.specs.Fault.{rangeFault}
 use Rattle.fields.specs.Field.{Field, plain, byteWithin, integerWithin, bytesOf}
 use Rattle.fields.proofs.Faults.{range-most}
-use Rattle.pieces.specs.Record.{kindIn}
-use Rattle.pieces.specs.declared.BuildingKind.{BuildingKind}
+use Rattle.building_record.specs.Record.{kindIn}
+use Rattle.building_record.specs.declared.BuildingKind.{BuildingKind}
 use Rattle.reader.specs.Meaning.{told}
-use Rattle.reader.proofs.Handed.{FieldEnds, forward-same, head-same, StringEnds, attributes-handed}
+use Rattle.reading_laws.proofs.Handed.{FieldEnds, forward-same, head-same, StringEnds, attributes-handed}
 use Rattle.closing.specs.Closing.{lastBytes}
 use Rattle.messages.specs.Message.{Header, Attribute, Request, Response, Message, forward, sendHeaders, wayOf, Fit}
 use Rattle.messages.specs.Bytes.{attributesBytes, requestFields, responseFields, piecesPayload, payloadOf, messageBytes}

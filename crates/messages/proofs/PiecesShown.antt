@@ -10,7 +10,7 @@ use lib.Dec.{eqb}
 use lib.ListN.{length}
 use Rattle.wire.specs.Bytes.{integerBytes}
 use Rattle.wire.specs.Field.{booleanBytes}
-use Rattle.wire.specs.declared.Direction.{Direction}
+use Rattle.packet.specs.declared.Direction.{Direction}
 use Rattle.wire.specs.declared.StringField.{StringField}
 use Rattle.connection.specs.declared.Kind.{Kind}
 use Rattle.places.specs.Entries.{Entries}
@@ -22,16 +22,16 @@ use Rattle.payload.specs.SendHeaders.{sendHeadersOf, sendHeadersAt}
 use Rattle.payload.specs.Lists.{headersAfter, listsAt}
 use Rattle.payload.specs.declared.field.FieldRead.{FieldRead}
 use Rattle.payload.specs.declared.lists.ListsRead.{ListsRead}
-use Rattle.payload.specs.declared.packet.Forward.{Forward}
-use Rattle.payload.specs.declared.packet.SendHeaders.{SendHeaders}
-use Rattle.payload.specs.declared.packet.Packet.{Packet}
-use Rattle.payload.specs.declared.packet.PacketRead.{PacketRead}
+use Rattle.packet.specs.declared.Forward.{Forward}
+use Rattle.packet.specs.declared.SendHeaders.{SendHeaders}
+use Rattle.packet.specs.declared.Packet.{Packet}
+use Rattle.payload.specs.declared.found.PacketRead.{PacketRead}
 use Rattle.payload.proofs.Parsed.{send-headers-places}
 use Rattle.fields.specs.Field.{opening, faultsOf, bytesOf}
 use Rattle.fields.proofs.Sizes.{boolean-one}
 use Rattle.fields.proofs.Faults.{faultless, range-most}
 use Rattle.reader.specs.Meaning.{told}
-use Rattle.reader.proofs.Handed.{forward-handed, head-handed}
+use Rattle.reading_laws.proofs.Handed.{forward-handed, head-handed}
 use Rattle.messages.specs.Message.{Request, Response, forward, sendHeaders, isNull, bytesIn, AttributesFit}
 use Rattle.messages.specs.Bytes.{headersBytes, attributesBytes, numbersOf, nullsOf, requestFields, responseFields, payloadOf, messageBytes}
 use Rattle.messages.specs.Shown.{headersShown, attributesShown, shownBy, messageShown}

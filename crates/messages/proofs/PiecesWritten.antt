@@ -10,7 +10,7 @@ use Prim.Native.Nat.{ℕ, _+_, _-_, _≤_}
 use lib.ListN.{length, length-append}
 use Rattle.wire.specs.Bytes.{over, part, integerBytes}
 use Rattle.wire.specs.Packet.{leading, head, packet}
-use Rattle.wire.specs.declared.Direction.{Direction}
+use Rattle.packet.specs.declared.Direction.{Direction}
 use Rattle.wire.proofs.Bytes.{length-over, over-over, over-there}
 use Rattle.wire.proofs.Field.{length-leading, head-four}
 use Rattle.wire.proofs.Parts.{over-inside}
@@ -19,10 +19,10 @@ use Rattle.connection.specs.declared.Connection.{Connection}
 use Rattle.payload.specs.Code.{codeOf}
 use Rattle.fields.specs.Field.{Field, opening, bytesOf}
 use Rattle.fields.proofs.Rows.{bytes-append}
-use Rattle.pieces.specs.Record.{kindIn, fields}
+use Rattle.building_record.specs.Record.{kindIn, fields}
 use Rattle.pieces.specs.Fixed.{unset, fixed, fixedCall, forwardCall, sendHeadersCall}
-use Rattle.pieces.specs.declared.BuildingKind.{BuildingKind}
-use Rattle.pieces.specs.declared.Building.{Building}
+use Rattle.building_record.specs.declared.BuildingKind.{BuildingKind}
+use Rattle.building_record.specs.declared.Building.{Building}
 use Rattle.pieces.proofs.Possible.{possible-yes}
 use Rattle.writer.specs.Meaning.{Written}
 use Rattle.reader.specs.Meaning.{Told, accepted}
@@ -184,7 +184,7 @@ pub record PiecesWritten (c : Connection) (kind : BuildingKind) (own : List Fiel
   pub few : length headers ≤ 100
   pub within : length whole ≤ 8192
   pub fits : length whole ≤ length buffer
-  pub size : w .length ≡ length whole
+  pub size : w .size ≡ length whole
   pub is : after ≡ over buffer 0 whole
   pub state : inState c (kindIn kind) ≡ true
   pub tells : Told
@@ -197,7 +197,7 @@ Writes c kind own headers attributes whole buffer answer = (t : Told) (taken : �
     → HeadersFine (directionOf (kindIn kind)) headers → AttributesFine attributes → length headers ≤ 100 → length whole ≤ 8192
     → length whole ≤ length buffer → inState c (kindIn kind) ≡ true
     → judging c (parse (directionOf (kindIn kind)) (readAsBody (directionOf (kindIn kind)) c) whole) ≡ accepted t taken next
-    → answer ≡ wrote (record { length = length whole; connection = next }) (over buffer 0 whole)
+    → answer ≡ wrote (record { size = length whole; connection = next }) (over buffer 0 whole)
 
 module _ (c : Connection) (kind : BuildingKind) (own : List Field) (headers : List Header) (attributes : List Attribute) (buffer : List ℕ) where
   -- all pieces, as the specification adds them
@@ -285,7 +285,7 @@ module _ (c : Connection) (kind : BuildingKind) (own : List Field) (headers : Li
       let here : Reached allPieces kind (countPlace kind own) (length headers) came buffer (piecesBytes kind own headers attributes) =
       all-fit own-fine headers-fine attributes-fine takes few (omega arith) (omega arith) in
       let same : length x ≡ length buffer = length-over buffer 0 (piecesBytes kind own headers attributes) (omega (arith, here .room)) in
-      let w : Written = record { length = closedLength r; connection = next } in
+      let w : Written = record { size = closedLength r; connection = next } in
       let ready : Ready c r x = record {
         possible = here .possible;
         allowed = state;
@@ -298,7 +298,7 @@ module _ (c : Connection) (kind : BuildingKind) (own : List Field) (headers : Li
       ap (closeBuilt c) (here .is)
       ∙ ap (wroteBy (closeBuffer c r x)) (closes .0)
       ∙ ap (wrote w) (closes .1 ∙ closed-bytes kind own headers attributes buffer came (here .room))
-      ∙ ap (λ (n : ℕ). wrote (record { length = n; connection = next }) (over buffer 0 whole)) size
+      ∙ ap (λ (n : ℕ). wrote (record { size = n; connection = next }) (over buffer 0 whole)) size
 
 -- a Forward
 module _ (c : Connection) (request : Request) (buffer : List ℕ) where

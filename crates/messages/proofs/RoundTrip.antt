@@ -9,18 +9,18 @@ use Prim.Native.Nat.{ℕ, _≤_}
 use lib.ListN.{length}
 use lib.Seq.{take-append-seam}
 use Rattle.wire.specs.Bytes.{part, over}
-use Rattle.wire.specs.declared.Direction.{Direction}
+use Rattle.packet.specs.declared.Direction.{Direction}
 use Rattle.wire.proofs.RoundTrip.{Bytes}
 use Rattle.wire.proofs.Parts.{bytes-part}
 use Rattle.connection.specs.Cycle.{directionOf, allowed, after}
 use Rattle.connection.specs.declared.Connection.{Connection}
 use Rattle.payload.specs.Kinds.{kindIn, moveIn}
-use Rattle.payload.specs.declared.packet.Packet.{Packet}
+use Rattle.packet.specs.declared.Packet.{Packet}
 use Rattle.fields.specs.Call.{Outcome, refused, done}
 use Rattle.writer.specs.Meaning.{Written}
 use Rattle.reader.specs.Meaning.{Told, accepted, told, placesNeeded}
 use Rattle.reader.specs.Reading.{reading, tableAfter}
-use Rattle.reader.proofs.Acceptance.{accepted-is}
+use Rattle.reading_laws.proofs.Acceptance.{accepted-is}
 use Rattle.messages.specs.Message.{Message, wayOf, placesFor, Fit}
 use Rattle.messages.specs.Writing.{unwritten, wrote, wroteBy, writing}
 use Rattle.messages.specs.Shown.{messageShown}
@@ -37,11 +37,11 @@ pub record ReadBack (d : Direction) (c : Connection) (s table : List ℕ) (m : M
 abbrev pub Forth : Message → Type 0
 Forth m = (c : Connection) (buffer : List ℕ) (w : Written) (left : List ℕ) → Fit m → writing c m buffer ≡ wrote w left
     → (rest table : List ℕ) → placesFor m ≤ length table
-    → ReadBack (wayOf m) c (part left 0 (w .length) ++ rest) table m (w .length) (w .connection)
+    → ReadBack (wayOf m) c (part left 0 (w .size) ++ rest) table m (w .size) (w .connection)
 
 -- a message is written as these bytes, goes this way and steps to this connection
 pub record WrittenBack (d : Direction) (c : Connection) (s buffer : List ℕ) (m : Message) (n : ℕ) (next : Connection) : Type 0 where
-  pub written : writing c m buffer ≡ wrote (record { length = n; connection = next }) (over buffer 0 s)
+  pub written : writing c m buffer ≡ wrote (record { size = n; connection = next }) (over buffer 0 s)
   pub fit : Fit m
   pub way : wayOf m ≡ d
 
@@ -84,16 +84,16 @@ pub record Shows (p : Packet) (s : List ℕ) (m : Message) : Type 0 where
 -- a call that writes a message left its packet at the start of the buffer: the packet parses, its move is allowed, and it shows the message
 pub record Stands (m : Message) (c : Connection) (w : Written) (left : List ℕ) : Type 0 where
   pub packet : Packet
-  pub size : length (part left 0 (w .length)) ≡ w .length
-  pub parses : Parses (wayOf m) (part left 0 (w .length)) packet
+  pub size : length (part left 0 (w .size)) ≡ w .size
+  pub parses : Parses (wayOf m) (part left 0 (w .size)) packet
   pub allows : allowed c (moveIn packet) ≡ true
   pub steps : after c (moveIn packet) ≡ w .connection
-  pub shows : Shows packet (part left 0 (w .length)) m
+  pub shows : Shows packet (part left 0 (w .size)) m
 
 -- such a packet reads back, whatever stands behind it
 pub stands-back : {m : Message} {c : Connection} {w : Written} {left : List ℕ} → Stands m c w left → (rest table : List ℕ)
     → placesFor m ≤ length table
-    → ReadBack (wayOf m) c (part left 0 (w .length) ++ rest) table m (w .length) (w .connection)
+    → ReadBack (wayOf m) c (part left 0 (w .size) ++ rest) table m (w .size) (w .connection)
 stands-back {m} {c} {w} {left} k rest table h =
     rw (k .size, k .steps) at (read-back (k .parses) c (k .allows) rest table (omega (arith, k .shows .asks)) m (k .shows .shown table))
 

@@ -7,11 +7,11 @@ use mathlib.Core.List.{List, _++_}
 use Prim.Native.Nat.{ℕ, _≤_}
 use lib.ListN.{length}
 use Rattle.wire.specs.Bytes.{part, over}
-use Rattle.wire.specs.declared.Direction.{Direction}
+use Rattle.packet.specs.declared.Direction.{Direction}
 use Rattle.wire.proofs.RoundTrip.{Bytes}
 use Rattle.connection.specs.declared.Connection.{Connection}
 use Rattle.payload.specs.Kinds.{moveIn}
-use Rattle.payload.specs.declared.packet.Packet.{Packet}
+use Rattle.packet.specs.declared.Packet.{Packet}
 use Rattle.writer.specs.Meaning.{Written}
 use Rattle.reader.specs.Meaning.{Told, accepted}
 use Rattle.reader.specs.Reading.{reading, tableAfter}
@@ -27,7 +27,7 @@ use Rattle.messages.proofs.InPieces.{forward-forth, send-headers-forth,
 -- what was written for a message: its bytes from the buffer's first place on, all else as it was, and their number is answered
 pub record WrittenBytes (m : Message) (buffer : List ℕ) (w : Written) (left : List ℕ) : Type 0 where
   pub buffer-is : left ≡ over buffer 0 (messageBytes m)
-  pub size : w .length ≡ length (messageBytes m)
+  pub size : w .size ≡ length (messageBytes m)
   pub fits : length (messageBytes m) ≤ length buffer
 
 -- by one call
@@ -73,7 +73,7 @@ forth (end reuse) = one-forth (end reuse) tt
 -- connection after it is the writer's, and the message that it shows is the one that was written
 pub written-reads : (c : Connection) (m : Message) (buffer : List ℕ) (w : Written) (left : List ℕ) → Fit m → writing c m buffer ≡ wrote w left
     → (rest table : List ℕ) → placesFor m ≤ length table
-    → ReadBack (wayOf m) c (part left 0 (w .length) ++ rest) table m (w .length) (w .connection)
+    → ReadBack (wayOf m) c (part left 0 (w .size) ++ rest) table m (w .size) (w .connection)
 written-reads c m buffer w left fit e = forth m c buffer w left fit e
 
 -- back, for each kind of packet

@@ -7,22 +7,22 @@ use mathlib.Core.List.{List, [], _++_, append-nil}
 use Prim.Native.Nat.{ℕ, _*_}
 use lib.ListN.{length, length-append}
 use Rattle.wire.specs.Bytes.{part, over}
-use Rattle.wire.specs.declared.Direction.{Direction}
+use Rattle.packet.specs.declared.Direction.{Direction}
 use Rattle.wire.proofs.Parts.{over-first, over-second}
 use Rattle.connection.specs.declared.Connection.{Connection}
 use Rattle.connection.specs.declared.Kind.{Kind}
 use Rattle.payload.specs.Forward.{forwardAt}
 use Rattle.payload.specs.SendHeaders.{sendHeadersAt}
 use Rattle.payload.specs.Kinds.{packetAt, kindIn}
-use Rattle.payload.specs.declared.packet.Forward.{Forward}
-use Rattle.payload.specs.declared.packet.SendHeaders.{SendHeaders}
-use Rattle.payload.specs.declared.packet.Packet.{Packet}
-use Rattle.payload.specs.declared.packet.PacketRead.{PacketRead}
+use Rattle.packet.specs.declared.Forward.{Forward}
+use Rattle.packet.specs.declared.SendHeaders.{SendHeaders}
+use Rattle.packet.specs.declared.Packet.{Packet}
+use Rattle.payload.specs.declared.found.PacketRead.{PacketRead}
 use Rattle.payload.proofs.Parsed.{parsed-kind, forward-places, send-headers-places}
 use Rattle.reader.specs.Meaning.{Told, accepted, told}
 use Rattle.reader.specs.Reading.{reading, tableAfter}
-use Rattle.reader.proofs.Acceptance.{accepted-is, accepted-fills}
-use Rattle.reader.proofs.Handed.{forward-handed}
+use Rattle.reading_laws.proofs.Acceptance.{accepted-is, accepted-fills}
+use Rattle.reading_laws.proofs.Handed.{forward-handed}
 use Rattle.messages.specs.Shown.{headerPlaces, attributePlaces}
 
 -- the table with a packet's places

@@ -9,8 +9,8 @@ use Rattle.wire.specs.Field.{stringAt, stringBytes}
 use Rattle.wire.specs.declared.StringField.{StringField}
 use Rattle.wire.specs.declared.read.StringRead.{StringRead}
 use Rattle.fields.specs.Field.{Field, stringField}
-use Rattle.reader.specs.View.{textView}
-use Rattle.reader.proofs.Shown.{text-shown, null-shown}
+use Rattle.views.specs.View.{textView}
+use Rattle.reading_laws.proofs.Shown.{text-shown, null-shown}
 use Rattle.messages.specs.Message.{Text, null, text, isNull, bytesIn}
 use Rattle.messages.specs.Shown.{textShown}
 

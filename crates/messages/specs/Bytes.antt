@@ -7,15 +7,15 @@ use Prim.Native.Nat.{ℕ}
 use lib.ListN.{length}
 use Rattle.wire.specs.Bytes.{integerBytes}
 use Rattle.wire.specs.Packet.{packet}
-use Rattle.wire.specs.declared.Direction.{Direction}
+use Rattle.packet.specs.declared.Direction.{Direction}
 use Rattle.connection.specs.Cycle.{directionOf}
 use Rattle.connection.specs.declared.Move.{Move}
 use Rattle.payload.specs.Code.{codeOf}
 use Rattle.fields.specs.Field.{Field, bytesOf}
-use Rattle.pieces.specs.declared.BuildingKind.{BuildingKind}
+use Rattle.building_record.specs.declared.BuildingKind.{BuildingKind}
 use Rattle.pieces.specs.declared.forward.Numbers.{Numbers}
 use Rattle.pieces.specs.declared.forward.Nulls.{Nulls}
-use Rattle.pieces.specs.Record.{kindIn}
+use Rattle.building_record.specs.Record.{kindIn}
 use Rattle.pieces.specs.Fixed.{forwardFields, sendHeadersFields}
 use Rattle.pieces.specs.Header.{codedFields, spelledFields}
 use Rattle.pieces.specs.Attribute.{textFields, integerFields, pairFields}

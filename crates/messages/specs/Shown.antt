@@ -10,11 +10,11 @@ use lib.ListN.{getD}
 use Rattle.wire.specs.Pick.{pick}
 use Rattle.wire.specs.Bytes.{part}
 use Rattle.names.specs.Attribute.{attributeKind}
-use Rattle.names.specs.declared.AttributeKind.{AttributeKind}
+use Rattle.packet.specs.declared.AttributeKind.{AttributeKind}
 use Rattle.connection.specs.declared.Kind.{Kind}
-use Rattle.reader.specs.declared.view.HeaderName.{HeaderName}
+use Rattle.packet.specs.declared.HeaderName.{HeaderName}
 use Rattle.reader.specs.Meaning.{Told}
-use Rattle.reader.specs.View.{integerView, nullView, textView, nameView}
+use Rattle.views.specs.View.{integerView, nullView, textView, nameView}
 use Rattle.messages.specs.Message.{Text, null, text, Name, coded, spelled, Header, Value, string, integer, pair, Attribute, Message, cping, cpong, forward, body, getBody, sendHeaders, bodyChunk, end}
 
 -- the string at a place

@@ -7,7 +7,7 @@ use Prim.Native.Nat.{ℕ}
 use lib.ListN.{length}
 use Rattle.connection.specs.declared.Connection.{Connection}
 use Rattle.fields.specs.Call.{Call, Outcome, refused, done, outcome, bufferAfter}
-use Rattle.pieces.specs.declared.Building.{Building}
+use Rattle.building_record.specs.declared.Building.{Building}
 use Rattle.pieces.specs.Fixed.{forwardCall, sendHeadersCall}
 use Rattle.pieces.specs.Header.{codedCall, spelledCall}
 use Rattle.pieces.specs.Attribute.{textCall, integerCall, pairCall}

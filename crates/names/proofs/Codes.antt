@@ -12,7 +12,7 @@ use lib.ListN.{length, getD}
 use Rattle.wire.specs.Pick.{pick, both, between, all, any}
 use Rattle.wire.specs.Refusal.{none, nameWrong}
 use Rattle.wire.specs.Field.{barred, holdsBarred}
-use Rattle.wire.specs.declared.Direction.{Direction}
+use Rattle.packet.specs.declared.Direction.{Direction}
 use Rattle.wire.proofs.Tests.{both-first, both-second}
 use Rattle.names.specs.declared.NameList.{NameList}
 use Rattle.names.specs.declared.CodeFound.{CodeFound}

@@ -13,7 +13,7 @@ use lib.ListN.{length, getD, take, drop, replicate}
 use lib.Seq.{drop-cons, drop-length, take-all, take-append-seam}
 use Rattle.wire.specs.Pick.{pick, both}
 use Rattle.wire.proofs.Tests.{both-assoc, both-true}
-use Rattle.names.specs.declared.Name.{Name}
+use Rattle.packet.specs.declared.Name.{Name}
 use Rattle.names.specs.declared.NameList.{NameList}
 use Rattle.names.specs.declared.CodeFound.{CodeFound}
 use Rattle.names.specs.Names.{methodNames, requestNames, responseNames, attributeNames, namesIn, firstCode, ignoresCase, isListed, nameFor, letter, sameName, codeFrom, codeIn}
@@ -24,7 +24,7 @@ pub bytes-padded : (name : List ℕ) → bytesOf (padded name) ≡ name
 bytes-padded name = take-append-seam name (replicate (nameRoom - length name) 0)
 
 -- a name that is handed out, from its row and its length
-pub as-padded : (name bytes : List ℕ) (n : ℕ) → bytes ≡ rowOf name → n ≡ length name → record { bytes = bytes; length = n } ≡ padded name
+pub as-padded : (name bytes : List ℕ) (n : ℕ) → bytes ≡ rowOf name → n ≡ length name → record { bytes = bytes; len = n } ≡ padded name
 as-padded name bytes n p q = rw (p, q)
 
 -- a loop that compares a name and a text keeps the answer so far in a flag

@@ -7,7 +7,7 @@ use Prim.Native.Nat.{ℕ}
 use lib.Dec.{eqb}
 use Rattle.wire.specs.Pick.{pick, both, between}
 use Rattle.wire.specs.Refusal.{none, attributeWrong}
-use Rattle.names.specs.declared.AttributeKind.{AttributeKind}
+use Rattle.packet.specs.declared.AttributeKind.{AttributeKind}
 
 -- 03 to 09, 0C and 0D have a string; 0A a name string and a value string; 0B an integer; 01, 02 and the rest are not served
 unfoldable pub attributeKind : ℕ → AttributeKind

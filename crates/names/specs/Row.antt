@@ -5,7 +5,7 @@ use mathlib.Core.List.{List, _++_, map}
 use Prim.Native.Nat.{ℕ, _-_}
 use lib.ListN.{length, getD, take, replicate}
 use Rattle.names.specs.declared.NameList.{NameList}
-use Rattle.names.specs.declared.Name.{Name}
+use Rattle.packet.specs.declared.Name.{Name}
 use Rattle.names.specs.Names.{namesIn, ignoresCase, letter}
 
 -- room for the longest name, transfer-encoding
@@ -18,11 +18,11 @@ rowOf name = name ++ replicate (nameRoom - length name) 0
 
 -- a name as it is handed out: its bytes with zeros behind them, and how many it has
 abbrev pub padded : List ℕ → Name
-padded name = record { bytes = rowOf name; length = length name }
+padded name = record { bytes = rowOf name; len = length name }
 
 -- the bytes of a name that was handed out
 abbrev pub bytesOf : Name → List ℕ
-bytesOf name = take (name .length) (name .bytes)
+bytesOf name = take (name .len) (name .bytes)
 
 -- as many names as the longest list has
 abbrev pub mostNames : ℕ

@@ -1,7 +1,7 @@
 // Attribute codes: what value each has, and which may repeat.
 ghost use mathlib.Core.Path.{_≡_};
 ghost use Rattle.names.specs.Attribute.{attributeKind, mayRepeat, isServed, attributeFault};
-use crate::AttributeKind;
+use packet::AttributeKind;
 use wire::refusal;
 
 // What value the attribute with a code has.

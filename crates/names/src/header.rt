@@ -9,13 +9,13 @@ ghost use Rattle.names.specs.Names.{namesIn, codeIn};
 ghost use Rattle.names.specs.Sets.{inSet, hasAll, placeOf};
 ghost use Rattle.names.specs.Header.{beginsCode, headerNames, codeFault, isFound, isTransferEncoding, unlistedFault, spelledFault};
 use crate::CodeFound;
-use crate::NAME_ROOM;
-use crate::Name;
 use crate::NameList;
 use crate::table;
 use crate::token;
 use crate::token::BYTES;
-use wire::Direction;
+use packet::Direction;
+use packet::NAME_ROOM;
+use packet::Name;
 use wire::refusal;
 
 // Whether a name that begins with this byte is a code, and no string.
@@ -51,7 +51,7 @@ pub fn is_transfer_encoding(text: &[u8]) -> bool
 {
     let name = Name {
         bytes: *b"transfer-encoding",
-        length: NAME_ROOM,
+        len: NAME_ROOM,
     };
     table::spells(name, text, true)
 }

@@ -15,25 +15,8 @@ pub enum NameList {
     Attributes,
 }
 
-// Room for the longest name, transfer-encoding.
-pub const NAME_ROOM: usize = 17;
-
-// A name that is handed out: its bytes, zeros behind them, and how many bytes it has. Where there is no such name it has 0.
-pub struct Name {
-    pub bytes: [u8; NAME_ROOM],
-    pub length: usize,
-}
-
 // The code for a name.
 pub enum CodeFound {
     Code(u16),
     NotListed,
-}
-
-// What value an attribute has.
-pub enum AttributeKind {
-    NotServed,
-    Text,
-    Integer,
-    Pair,
 }

@@ -7,9 +7,9 @@ ghost use lib.ListN.{getD, length};
 ghost use Rattle.names.specs.Names.{methodNames, requestNames, responseNames, attributeNames, namesIn, firstCode, ignoresCase, isListed, nameFor, letter, sameName, codeIn};
 ghost use Rattle.names.specs.Row.{lengthsIn, firstOf, firstsIn, mostNames, rowOf, padded, bytesOf};
 use crate::CodeFound;
-use crate::NAME_ROOM;
-use crate::Name;
 use crate::NameList;
+use packet::NAME_ROOM;
+use packet::Name;
 
 // How many names each list has.
 const METHODS: usize = 27;
@@ -254,8 +254,8 @@ pub fn name_of(list: NameList, code: u16) -> Name
     }
     let k = (code - first) as usize;
     let bytes = row(list, k);
-    let length = length_at(list, k);
-    Name { bytes, length }
+    let len = length_at(list, k);
+    Name { bytes, len }
 }
 
 fn no_name() -> Name
@@ -263,7 +263,7 @@ fn no_name() -> Name
 {
     Name {
         bytes: [0; NAME_ROOM],
-        length: 0,
+        len: 0,
     }
 }
 
@@ -288,7 +288,7 @@ pub fn spells(name: Name, text: &[u8], ignoring: bool) -> bool
     ensures { λ r. ⌜ r ≡ sameName ignoring (bytesOf name) (now (text .entry)) ⌝ }
 {
     let bytes = name.bytes;
-    let mut n = name.length;
+    let mut n = name.len;
     if NAME_ROOM < n {
         n = NAME_ROOM;
     }
@@ -328,8 +328,8 @@ fn spells_at(
     requires { ⌜ now firsts ≡ firstsIn list ⌝ }
     ensures { λ r. ⌜ r ≡ sameName (ignoresCase list) (getD (namesIn list) k []) (now (text .entry)) ⌝ }
 {
-    let length = lengths[k] as usize;
-    if length != text.len() {
+    let len = lengths[k] as usize;
+    if len != text.len() {
         return false;
     }
     let ignoring = ignores_case(list);
@@ -337,7 +337,7 @@ fn spells_at(
         return false;
     }
     let bytes = row(list, k);
-    spells(Name { bytes, length }, text, ignoring)
+    spells(Name { bytes, len }, text, ignoring)
 }
 
 // The code of the name of a list that a text spells, by the list's lengths and first letters.

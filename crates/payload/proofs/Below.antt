@@ -5,7 +5,7 @@ use mathlib.Core.List.{List, []}
 use Prim.Native.Nat.{ℕ, _+_, _≤_}
 use native.Mathlib.Omega.{arith}
 use lib.ListN.{length}
-use Rattle.wire.specs.declared.Direction.{Direction}
+use Rattle.packet.specs.declared.Direction.{Direction}
 use Rattle.names.specs.declared.length.Declared.{Declared}
 use Rattle.places.specs.Entries.{maxAttributes}
 use Rattle.headers.specs.Headers.{headersAt}

@@ -10,7 +10,7 @@ use lib.ListN.{length}
 use Rattle.wire.specs.Pick.{pick}
 use Rattle.wire.specs.Refusal.{outOfRange, tooMany, leftOver}
 use Rattle.wire.specs.Bytes.{over}
-use Rattle.wire.specs.declared.Direction.{Direction}
+use Rattle.packet.specs.declared.Direction.{Direction}
 use Rattle.wire.specs.declared.StringField.{StringField}
 use Rattle.wire.proofs.Bytes.{over-none, over-over}
 use Rattle.names.specs.Length.{declaredLength}

@@ -10,7 +10,7 @@ use lib.ListN.{length, getD, length-append}
 use Rattle.wire.specs.Pick.{pick}
 use Rattle.wire.specs.Refusal.{outOfRange, tooMany, leftOver, cutShort, stringWrong, sizeWrong}
 use Rattle.wire.specs.Field.{integerAt, booleanAt}
-use Rattle.wire.specs.declared.Direction.{Direction}
+use Rattle.packet.specs.declared.Direction.{Direction}
 use Rattle.wire.specs.declared.StringField.{StringField}
 use Rattle.wire.specs.declared.read.NumberRead.{NumberRead}
 use Rattle.wire.specs.declared.read.BooleanRead.{BooleanRead}
@@ -24,10 +24,10 @@ use Rattle.attributes.specs.Attributes.{attributesAt}
 use Rattle.attributes.specs.declared.AttributesRead.{AttributesRead}
 use Rattle.payload.specs.declared.field.FieldRead.{FieldRead}
 use Rattle.payload.specs.declared.lists.ListsRead.{ListsRead}
-use Rattle.payload.specs.declared.packet.Forward.{Forward}
-use Rattle.payload.specs.declared.packet.SendHeaders.{SendHeaders}
-use Rattle.payload.specs.declared.packet.Packet.{Packet}
-use Rattle.payload.specs.declared.packet.PacketRead.{PacketRead}
+use Rattle.packet.specs.declared.Forward.{Forward}
+use Rattle.packet.specs.declared.SendHeaders.{SendHeaders}
+use Rattle.packet.specs.declared.Packet.{Packet}
+use Rattle.payload.specs.declared.found.PacketRead.{PacketRead}
 use Rattle.payload.specs.Code.{payloadPlace, afterCodePlace}
 use Rattle.payload.specs.Sequence.{afterCode, stringAfter, booleanAfter, byteAfter, anyIntegerAfter, integerAfter, valueOf}
 use Rattle.payload.specs.Packet.{partFrom, finished}

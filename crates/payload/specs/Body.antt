@@ -9,8 +9,8 @@ use Rattle.wire.specs.Pick.{pick}
 use Rattle.wire.specs.Refusal.{cutShort, leftOver, sizeWrong}
 use Rattle.wire.specs.Field.{integerAt}
 use Rattle.wire.specs.declared.read.NumberRead.{NumberRead}
-use Rattle.payload.specs.declared.packet.Packet.{Packet}
-use Rattle.payload.specs.declared.packet.PacketRead.{PacketRead}
+use Rattle.packet.specs.declared.Packet.{Packet}
+use Rattle.payload.specs.declared.found.PacketRead.{PacketRead}
 use Rattle.payload.specs.Code.{payloadPlace}
 use Rattle.payload.specs.Packet.{partFrom}
 

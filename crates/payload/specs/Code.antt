@@ -8,7 +8,7 @@ use lib.Dec.{eqb}
 use Rattle.wire.specs.Pick.{pick, either}
 use Rattle.wire.specs.Refusal.{codeWrong, codeNotServed}
 use Rattle.wire.specs.Field.{byteAt}
-use Rattle.wire.specs.declared.Direction.{Direction}
+use Rattle.packet.specs.declared.Direction.{Direction}
 use Rattle.wire.specs.declared.read.NumberRead.{NumberRead}
 use Rattle.connection.specs.declared.Kind.{Kind}
 use Rattle.payload.specs.declared.KindRead.{KindRead}

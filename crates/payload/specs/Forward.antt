@@ -10,8 +10,8 @@ use Rattle.wire.specs.declared.StringField.{StringField}
 use Rattle.places.specs.Entries.{Entries, ending, maxHeaders}
 use Rattle.payload.specs.declared.field.FieldRead.{FieldRead}
 use Rattle.payload.specs.declared.lists.ListsRead.{ListsRead}
-use Rattle.payload.specs.declared.packet.Packet.{Packet}
-use Rattle.payload.specs.declared.packet.PacketRead.{PacketRead}
+use Rattle.packet.specs.declared.Packet.{Packet}
+use Rattle.payload.specs.declared.found.PacketRead.{PacketRead}
 use Rattle.payload.specs.Sequence.{afterCode, stringAfter, booleanNumber, booleanAfter, byteAfter, anyIntegerAfter, integerAfter, placeOf, valueOf}
 use Rattle.payload.specs.Lists.{listsAt}
 

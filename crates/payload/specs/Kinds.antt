@@ -6,8 +6,8 @@ use Prim.Native.Nat.{ℕ}
 use Rattle.places.specs.Entries.{Entries, ended}
 use Rattle.connection.specs.declared.Kind.{Kind}
 use Rattle.connection.specs.declared.Move.{Move}
-use Rattle.payload.specs.declared.packet.Packet.{Packet}
-use Rattle.payload.specs.declared.packet.PacketRead.{PacketRead}
+use Rattle.packet.specs.declared.Packet.{Packet}
+use Rattle.payload.specs.declared.found.PacketRead.{PacketRead}
 use Rattle.payload.specs.Bare.{bareAt}
 use Rattle.payload.specs.End.{endAt}
 use Rattle.payload.specs.GetBody.{getAt}

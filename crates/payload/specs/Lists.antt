@@ -7,7 +7,7 @@ use lib.Dec.{eqb}
 use lib.ListN.{length}
 use Rattle.wire.specs.Pick.{pick}
 use Rattle.wire.specs.Refusal.{leftOver}
-use Rattle.wire.specs.declared.Direction.{Direction}
+use Rattle.packet.specs.declared.Direction.{Direction}
 use Rattle.names.specs.Length.{declaredLength}
 use Rattle.names.specs.declared.length.Declared.{Declared}
 use Rattle.places.specs.Entries.{Entries, ended, followed, ending, maxAttributes}

@@ -5,9 +5,9 @@ use Prim.Native.Nat.{ℕ}
 use lib.Dec.{eqb}
 use Rattle.wire.specs.Pick.{pick}
 use Rattle.wire.specs.Refusal.{leftOver}
-use Rattle.payload.specs.declared.packet.Part.{Part}
-use Rattle.payload.specs.declared.packet.Packet.{Packet}
-use Rattle.payload.specs.declared.packet.PacketRead.{PacketRead}
+use Rattle.packet.specs.declared.Part.{Part}
+use Rattle.packet.specs.declared.Packet.{Packet}
+use Rattle.payload.specs.declared.found.PacketRead.{PacketRead}
 
 -- a part of a packet, by where it starts and how many bytes it has
 abbrev pub partFrom : ℕ → ℕ → Part

@@ -5,13 +5,13 @@ use mathlib.Core.List.{List}
 use Prim.Native.Nat.{ℕ}
 use lib.ListN.{length}
 use Rattle.wire.specs.Refusal.{outOfRange, tooMany}
-use Rattle.wire.specs.declared.Direction.{Direction}
+use Rattle.packet.specs.declared.Direction.{Direction}
 use Rattle.wire.specs.declared.StringField.{StringField}
 use Rattle.places.specs.Entries.{Entries, ending, maxHeaders}
 use Rattle.headers.specs.declared.HeadersRead.{HeadersRead}
 use Rattle.payload.specs.declared.field.FieldRead.{FieldRead}
-use Rattle.payload.specs.declared.packet.Packet.{Packet}
-use Rattle.payload.specs.declared.packet.PacketRead.{PacketRead}
+use Rattle.packet.specs.declared.Packet.{Packet}
+use Rattle.payload.specs.declared.found.PacketRead.{PacketRead}
 use Rattle.payload.specs.Sequence.{afterCode, stringAfter, integerAfter, placeOf, valueOf}
 use Rattle.payload.specs.Packet.{finished}
 use Rattle.payload.specs.Lists.{headersAfter}

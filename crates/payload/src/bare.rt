@@ -2,9 +2,9 @@
 ghost use mathlib.Core.Path.{_≡_};
 ghost use Rattle.payload.specs.Bare.{bareAt};
 use crate::AFTER_CODE;
-use crate::packet::Packet;
-use crate::packet::PacketRead;
-use crate::packet::finished;
+use crate::found::PacketRead;
+use crate::found::finished;
+use packet::Packet;
 
 // Reads a packet that is its code alone.
 pub fn read(packet: &[u8], found: Packet) -> PacketRead

@@ -2,10 +2,10 @@
 ghost use mathlib.Core.Path.{_≡_};
 ghost use Rattle.payload.specs.Body.{bodyAt, sizedAt};
 use crate::PAYLOAD_PLACE;
-use crate::packet::Packet;
-use crate::packet::PacketRead;
-use crate::packet::Part;
-use connection::Place;
+use crate::found::PacketRead;
+use packet::Packet;
+use packet::Part;
+use packet::Place;
 use wire::read::NumberRead;
 use wire::read::integer;
 use wire::refusal;

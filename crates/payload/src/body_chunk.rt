@@ -2,11 +2,11 @@
 ghost use mathlib.Core.Path.{_≡_};
 ghost use Rattle.payload.specs.BodyChunk.{chunkAt, chunkOf};
 use crate::AFTER_CODE;
-use crate::packet::Packet;
-use crate::packet::PacketRead;
-use crate::packet::Part;
-use crate::packet::finished;
-use connection::Place;
+use crate::found::PacketRead;
+use crate::found::finished;
+use packet::Packet;
+use packet::Part;
+use packet::Place;
 use wire::has_room;
 use wire::read::NumberRead;
 use wire::read::integer;

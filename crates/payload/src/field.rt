@@ -4,7 +4,7 @@ ghost use Rattle.connection.specs.Connection.{maxPacket};
 ghost use Rattle.payload.specs.Sequence.{afterCode, bounded, stringFieldAt, stringAfter, booleanFieldAt, booleanAfter, byteAfter, numberField, anyIntegerAfter, integerAfter, placeOf, valueOf, Within};
 use crate::AFTER_CODE;
 use crate::CODE_PLACE;
-use connection::Place;
+use packet::Place;
 use wire::StringField;
 use wire::is_optional;
 use wire::read;

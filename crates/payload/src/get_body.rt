@@ -2,9 +2,9 @@
 ghost use mathlib.Core.Path.{_≡_};
 ghost use Rattle.payload.specs.GetBody.{getAt};
 use crate::AFTER_CODE;
-use crate::packet::Packet;
-use crate::packet::PacketRead;
-use crate::packet::finished;
+use crate::found::PacketRead;
+use crate::found::finished;
+use packet::Packet;
 use wire::read::NumberRead;
 use wire::read::integer;
 

@@ -3,7 +3,7 @@
 ghost use mathlib.Core.Path.{_≡_};
 ghost use Rattle.payload.specs.Code.{codeOf, codeKind, kindOfCode, kindAt};
 use connection::Kind;
-use wire::Direction;
+use packet::Direction;
 use wire::read;
 use wire::read::NumberRead;
 use wire::refusal;
@@ -14,9 +14,9 @@ pub mod body_chunk;
 pub mod end;
 pub mod field;
 pub mod forward;
+pub mod found;
 pub mod get_body;
 pub mod lists;
-pub mod packet;
 pub mod send_headers;
 
 // The place of a packet's payload: behind the leading bytes and the length.

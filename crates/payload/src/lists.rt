@@ -11,11 +11,11 @@ ghost use Rattle.payload.specs.Lists.{headersAfter, attributesBehind, li
 use crate::field::FieldRead;
 use crate::field::value_of;
 use attributes::AttributesRead;
-use connection::BodyLeft;
 use headers::HeadersRead;
 use names::length::Declared;
 use names::length::length_of;
-use wire::Direction;
+use packet::BodyLeft;
+use packet::Direction;
 use wire::refusal;
 
 // What follows a Forward's fixed fields: refused, or the declared length of the body and how many attributes there are.

@@ -1,4 +1,4 @@
--- What a building record and the fixed fields come to, by the values of their tests.
+-- What the fixed fields come to, and a header by its name.
 -- Assumes nothing.
 use native.Mathlib.Omega.{arith}
 use borrow.Author.Tests.{leb-true}
@@ -22,21 +22,14 @@ use Rattle.fields.specs.Call.{Outcome, outcome, bufferAfter}
 use Rattle.fields.specs.Field.{Field, opening, faultsOf, bytesOf}
 use Rattle.fields.proofs.Sizes.{or-none, first-none, unless-none, boolean-one}
 use Rattle.fields.proofs.Rows.{bytes-append}
-use Rattle.pieces.specs.declared.BuildingKind.{BuildingKind}
+use Rattle.building_record.specs.declared.BuildingKind.{BuildingKind}
 use Rattle.pieces.specs.declared.forward.Numbers.{Numbers}
 use Rattle.pieces.specs.declared.forward.Nulls.{Nulls}
-use Rattle.pieces.specs.declared.Building.{Building}
-use Rattle.pieces.specs.Record.{kindIn, directionIn, isPossible}
+use Rattle.building_record.specs.declared.Building.{Building}
+use Rattle.building_record.specs.Record.{kindIn, directionIn, isPossible}
 use Rattle.pieces.specs.Fixed.{fixed, forwardFields, sendHeadersFields}
 use Rattle.pieces.specs.Header.{namedBy, namedCall}
 use Rattle.pieces.specs.Private.{forwardStrings, forwardTail}
-
--- a record that can be, by its tests; a proof that does not reach a test says `refl`
-pub possible-by : (r : Building) (buffer : List ℕ) (a b c d e f : Bool) → leb (r .next .0) 8192 ≡ a → leb (r .next .0) (length buffer) ≡ b
-    → leb 4 (r .count .0) ≡ c → leb (r .count .0 + 2) (r .next .0) ≡ d → leb (r .headers) 100 ≡ e
-    → eqb (getD buffer 4 0) (codeOf (kindIn (r .kind))) ≡ f → both a (both b (both c (both d (both e f)))) ≡ isPossible r buffer
-unfolding isPossible
-possible-by r buffer a b c d e f p q s t u v = rw (← p, ← q, ← s, ← t, ← u, ← v)
 
 -- how many bytes the fixed fields of a Send Headers are
 pub send-headers-size : (status : ℕ) (null : Bool) (message : List ℕ)

@@ -11,15 +11,15 @@ use lib.Dec.{ltb, leb}
 use lib.ListN.{length, length-append}
 use Rattle.wire.specs.Bytes.{over}
 use Rattle.names.specs.Attribute.{attributeKind}
-use Rattle.names.specs.declared.AttributeKind.{AttributeKind}
+use Rattle.packet.specs.declared.AttributeKind.{AttributeKind}
 use Rattle.attributes.proofs.Laws.{high-unserved}
 use Rattle.fields.specs.Fault.{unless, orElse, faultAfter, firstFault, fitFault}
 use Rattle.fields.specs.Field.{Field, faultsOf, sizeTold, Fits}
 use Rattle.fields.specs.Call.{Call, refused, done, refusalOf, outcome, bufferAfter}
 use Rattle.fields.proofs.Sizes.{or-second, first-none, told-exact, told-behind, unless-none}
 use Rattle.fields.proofs.Calls.{found-by, refused-answer, refused-buffer, done-answer, done-buffer, done-own, done-fits}
-use Rattle.pieces.specs.declared.Building.{Building}
-use Rattle.pieces.specs.Record.{headerNow, attributeNow, countFault}
+use Rattle.building_record.specs.declared.Building.{Building}
+use Rattle.building_record.specs.Record.{headerNow, attributeNow, countFault}
 use Rattle.pieces.specs.Header.{headerCall}
 use Rattle.pieces.specs.Attribute.{codeField, attributeCall}
 

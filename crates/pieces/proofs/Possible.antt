@@ -21,13 +21,13 @@ use Rattle.fields.specs.Call.{Call, refusalOf, bufferAfter}
 use Rattle.fields.proofs.Sizes.{first-none, unless-none}
 use Rattle.fields.proofs.Rows.{bytes-append}
 use Rattle.fields.proofs.Calls.{done-own, done-fits, after-length, after-written, after-before}
-use Rattle.pieces.specs.declared.Building.{Building}
-use Rattle.pieces.specs.declared.BuildingKind.{BuildingKind}
-use Rattle.pieces.specs.Record.{kindIn, isPossible, headerNow, attributeNow, countFault, withHeader, withAttribute, isForward}
+use Rattle.building_record.specs.declared.Building.{Building}
+use Rattle.building_record.specs.declared.BuildingKind.{BuildingKind}
+use Rattle.building_record.specs.Record.{kindIn, isPossible, headerNow, attributeNow, countFault, withHeader, withAttribute, isForward}
 use Rattle.pieces.specs.Fixed.{unset, fixed, fixedCall}
 use Rattle.pieces.specs.Header.{headerCall}
 use Rattle.pieces.specs.Attribute.{attributeCall}
-use Rattle.pieces.proofs.Laws.{possible-by}
+use Rattle.building_record.proofs.Laws.{possible-by}
 use Rattle.pieces.proofs.Pieces.{Checked, header-room}
 
 -- what a record that can be says of itself

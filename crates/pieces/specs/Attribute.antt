@@ -10,12 +10,12 @@ use Rattle.wire.specs.Refusal.{attributeWrong}
 use Rattle.wire.specs.Bytes.{integerBytes}
 use Rattle.wire.specs.declared.StringField.{StringField}
 use Rattle.names.specs.Attribute.{attributeKind}
-use Rattle.names.specs.declared.AttributeKind.{AttributeKind}
+use Rattle.packet.specs.declared.AttributeKind.{AttributeKind}
 use Rattle.fields.specs.Fault.{unless}
 use Rattle.fields.specs.Field.{Field, plain, stringField, faultsOf, bytesOf}
 use Rattle.fields.specs.Call.{Call}
-use Rattle.pieces.specs.declared.Building.{Building}
-use Rattle.pieces.specs.Record.{attributeNow, withAttribute}
+use Rattle.building_record.specs.declared.Building.{Building}
+use Rattle.building_record.specs.Record.{attributeNow, withAttribute}
 
 -- which kind of value it is
 abbrev pub isText : AttributeKind → Bool

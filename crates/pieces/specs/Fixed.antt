@@ -13,11 +13,11 @@ use Rattle.payload.specs.Forward.{firstMethod, lastMethod}
 use Rattle.payload.specs.SendHeaders.{leastStatus, greatestStatus}
 use Rattle.fields.specs.Field.{Field, plain, opening, byteWithin, integerWithin, stringField, faultsOf, bytesOf}
 use Rattle.fields.specs.Call.{Call}
-use Rattle.pieces.specs.declared.BuildingKind.{BuildingKind}
-use Rattle.pieces.specs.declared.Building.{Building}
+use Rattle.building_record.specs.declared.BuildingKind.{BuildingKind}
+use Rattle.building_record.specs.declared.Building.{Building}
 use Rattle.pieces.specs.declared.forward.Numbers.{Numbers}
 use Rattle.pieces.specs.declared.forward.Nulls.{Nulls}
-use Rattle.pieces.specs.Record.{kindIn, opened}
+use Rattle.building_record.specs.Record.{kindIn, opened}
 
 -- a count that closing will set
 abbrev pub unset : Field

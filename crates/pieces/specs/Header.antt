@@ -8,7 +8,7 @@ use lib.ListN.{length}
 use Rattle.wire.specs.Refusal.{none}
 use Rattle.wire.specs.Bytes.{integerBytes}
 use Rattle.wire.specs.Field.{stringBytes}
-use Rattle.wire.specs.declared.Direction.{Direction}
+use Rattle.packet.specs.declared.Direction.{Direction}
 use Rattle.wire.specs.declared.StringField.{StringField}
 use Rattle.names.specs.Header.{headerNames, codeFault, spelledFault}
 use Rattle.names.specs.Names.{codeIn}
@@ -19,8 +19,8 @@ use Rattle.headers.specs.Headers.{declares, declaredBy}
 use Rattle.fields.specs.Fault.{orElse, stringFault}
 use Rattle.fields.specs.Field.{Field, faultsOf, bytesOf, neededAt}
 use Rattle.fields.specs.Call.{Call}
-use Rattle.pieces.specs.declared.Building.{Building}
-use Rattle.pieces.specs.Record.{directionIn, headerNow, countFault, withHeader}
+use Rattle.building_record.specs.declared.Building.{Building}
+use Rattle.building_record.specs.Record.{directionIn, headerNow, countFault, withHeader}
 
 -- a name by its code
 abbrev pub codedName : Direction → ℕ → Field

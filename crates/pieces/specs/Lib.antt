@@ -1,4 +1,3 @@
-pub mod Record
 pub mod Meaning
 pub mod Fixed
 pub mod Header

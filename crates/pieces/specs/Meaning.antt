@@ -2,7 +2,7 @@
 -- Document 01, 'Building'.
 -- Assumes nothing.
 use Rattle.fields.specs.Call.{Outcome, refused, done}
-use Rattle.pieces.specs.declared.Building.{Building}
+use Rattle.building_record.specs.declared.Building.{Building}
 use Rattle.pieces.specs.declared.Added.{Added}
 
 -- what each case of the answer says

@@ -10,16 +10,17 @@ ghost use Rattle.names.specs.Attribute.{attributeKind};
 ghost use Rattle.fields.specs.Fault.{unless, orElse, firstFault};
 ghost use Rattle.fields.specs.Field.{neededAt, Fits};
 ghost use Rattle.fields.specs.Call.{outcome, bufferAfter};
-ghost use Rattle.pieces.specs.Record.{attributeNow};
+ghost use Rattle.building_record.specs.Record.{attributeNow};
 ghost use Rattle.pieces.specs.Meaning.{meaning};
 ghost use Rattle.pieces.specs.Attribute.{isText, isInteger, isPair, textFields, integerFields, pairFields, textCall, integerCall, pairCall};
 use crate::Added;
-use crate::Building;
+use crate::with_attribute;
+use building_record::Building;
 use fields::fault;
 use fields::put;
 use fields::size;
-use names::AttributeKind;
 use names::attribute::kind_of;
+use packet::AttributeKind;
 use wire::StringField;
 use wire::refusal;
 
@@ -198,7 +199,7 @@ pub fn text(building: Building, buffer: &mut [u8], code: u16, value: &[u8], null
         return Added::Refused(found);
     }
     write_text(buffer, building.next.index(), code, value, null);
-    Added::Next(building.with_attribute(end))
+    Added::Next(with_attribute(building, end))
 }
 
 // Adds an attribute with an integer.
@@ -213,7 +214,7 @@ pub fn integer(building: Building, buffer: &mut [u8], code: u16, value: u16) -> 
         return Added::Refused(found);
     }
     write_integer(buffer, building.next.index(), code, value);
-    Added::Next(building.with_attribute(end))
+    Added::Next(with_attribute(building, end))
 }
 
 // Adds an attribute with a name and a value. `noname` and `novalue` say that the string is null; the text given for it then does not
@@ -245,5 +246,5 @@ pub fn pair(
         value,
         novalue,
     );
-    Added::Next(building.with_attribute(end))
+    Added::Next(with_attribute(building, end))
 }

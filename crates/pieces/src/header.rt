@@ -9,12 +9,13 @@ ghost use Rattle.names.specs.Names.{codeIn};
 ghost use Rattle.fields.specs.Fault.{firstFault};
 ghost use Rattle.fields.specs.Field.{neededAt, Fits};
 ghost use Rattle.fields.specs.Call.{outcome, bufferAfter};
-ghost use Rattle.pieces.specs.Record.{directionIn};
+ghost use Rattle.building_record.specs.Record.{directionIn};
 ghost use Rattle.pieces.specs.Meaning.{meaning};
 ghost use Rattle.pieces.specs.Header.{declaringFault, valueFault, spelledName, codedFields, spelledFields, codedCall, spelledCall, namedCall, namedNeeds};
 use crate::Added;
-use crate::Building;
 use crate::code::of_header;
+use crate::with_header;
+use building_record::Building;
 use fields::fault;
 use fields::put;
 use fields::size;
@@ -26,7 +27,7 @@ use names::header::spelled_fault;
 use names::length::Declared;
 use names::length::Declaring;
 use names::token;
-use wire::Direction;
+use packet::Direction;
 use wire::StringField;
 use wire::refusal;
 
@@ -153,7 +154,7 @@ pub fn coded(building: Building, buffer: &mut [u8], code: u16, value: &[u8], nul
         return Added::Refused(found);
     }
     write_coded(buffer, building.next.index(), code, value, null);
-    Added::Next(building.with_header(end))
+    Added::Next(with_header(building, end))
 }
 
 // Adds a header with a spelled name. `noname` and `novalue` say that the string is null; the text given for it then does not matter.
@@ -175,7 +176,7 @@ pub fn spelled(
         return Added::Refused(found);
     }
     put::two_strings(buffer, building.next.index(), name, noname, value, novalue);
-    Added::Next(building.with_header(end))
+    Added::Next(with_header(building, end))
 }
 
 // Adds a header whose name is given as a text: by its code where the name is listed, else spelled out.

@@ -8,7 +8,7 @@ use mathlib.Core.List.{List, [], _∷_}
 use Prim.Native.Nat.{ℕ, _+_, _-_, _≤_}
 use lib.ListN.{length, length-append}
 use Rattle.wire.specs.Pick.{both}
-use Rattle.wire.specs.declared.Direction.{Direction}
+use Rattle.packet.specs.declared.Direction.{Direction}
 use Rattle.connection.specs.Connection.{isBusy}
 use Rattle.connection.specs.Cycle.{kindOf, directionOf, inSize, allowed, after}
 use Rattle.connection.specs.declared.State.{State}

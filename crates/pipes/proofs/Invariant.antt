@@ -7,7 +7,7 @@ use mathlib.Core.List.{List, [], _∷_, _++_, append-assoc, append-nil}
 use Prim.Native.Nat.{ℕ}
 use lib.ListN.{length, take}
 use Rattle.wire.specs.Bytes.{part}
-use Rattle.wire.specs.declared.Direction.{Direction}
+use Rattle.packet.specs.declared.Direction.{Direction}
 use Rattle.connection.specs.Cycle.{allowed, after}
 use Rattle.connection.specs.declared.Connection.{Connection}
 use Rattle.connection.specs.declared.Move.{Move}
@@ -127,11 +127,11 @@ module _ (call : Send) (w : World) (kept : Kept w) where
       })
 
   -- a send that is done
-  done-keeps : (written : Written) → Made given call (part (bufferOf given call) 0 (written .length)) (written .connection)
+  done-keeps : (written : Written) → Made given call (part (bufferOf given call) 0 (written .size)) (written .connection)
       → Kept (sentWorld (done written))
   done-keeps written made =
       let direction : Direction = wayOf call in
-      let packet : Packet = packetBy call (part (bufferOf given call) 0 (written .length)) in
+      let packet : Packet = packetBy call (part (bufferOf given call) 0 (written .size)) in
       let m : Move = made .move in
       subst (λ (c : Connection). Kept (record {
         ends = withSent direction c (pipeOf direction (w .ends) ++ packet ∷ []) (w .ends);

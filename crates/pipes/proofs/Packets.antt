@@ -9,20 +9,20 @@ use Prim.Native.Nat.{ℕ, _+_}
 use lib.ListN.{length, drop, length-drop, drop-of-length-le}
 use Rattle.wire.specs.Pick.{pick}
 use Rattle.wire.specs.Bytes.{part}
-use Rattle.wire.specs.declared.Direction.{Direction}
+use Rattle.packet.specs.declared.Direction.{Direction}
 use Rattle.wire.proofs.Bytes.{part-middle}
 use Rattle.wire.proofs.Parts.{rest-part}
 use Rattle.connection.specs.Cycle.{directionOf}
 use Rattle.places.specs.Entries.{maxPlaces}
 use Rattle.payload.specs.Body.{bodyStart, bodyAt}
 use Rattle.payload.specs.Kinds.{packetAt, kindIn, moveIn}
-use Rattle.payload.specs.declared.packet.Packet as payload
-use Rattle.payload.specs.declared.packet.PacketRead.{PacketRead}
-use Rattle.payload.specs.declared.packet.Part.{Part}
+use Rattle.packet.specs.declared.Packet as payload
+use Rattle.payload.specs.declared.found.PacketRead.{PacketRead}
+use Rattle.packet.specs.declared.Part.{Part}
 use Rattle.payload.proofs.Laws.{body-inside}
 use Rattle.payload.proofs.Parsed.{move-kind}
 use Rattle.reader.specs.Meaning.{told}
-use Rattle.reader.proofs.Shown.{bytes-lent}
+use Rattle.reading_laws.proofs.Shown.{bytes-lent}
 use Rattle.messages.proofs.Parses.{isBody, Parses, parses-accepted, parses-places}
 use Rattle.messages.proofs.OneCall.{BodyRead, empty, sized, body-read}
 use Rattle.pipes.specs.Past.{bodyPart, Request, gets, countKind}

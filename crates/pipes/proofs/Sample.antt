@@ -9,7 +9,7 @@ use lib.ListN.{replicate}
 use Rattle.wire.specs.Pick.{all, any}
 use Rattle.wire.specs.Bytes.{part, over, integerIn}
 use Rattle.wire.specs.Field.{byteAt, integerAt, booleanAt, textAt, afterLength, stringAt}
-use Rattle.wire.specs.declared.Direction.{Direction}
+use Rattle.packet.specs.declared.Direction.{Direction}
 use Rattle.names.specs.Header.{codeFault}
 use Rattle.names.specs.Names.{isListed, requestNames, responseNames}
 use Rattle.names.specs.Length.{digits, decimalOf}
@@ -27,7 +27,7 @@ use Rattle.payload.specs.Forward.{forwardAt}
 use Rattle.payload.specs.SendHeaders.{sendHeadersAt}
 use Rattle.fields.specs.Fault.{fitFault}
 use Rattle.fields.specs.Call.{refusalOf, outcome, bufferAfter}
-use Rattle.pieces.specs.Record.{isPossible}
+use Rattle.building_record.specs.Record.{isPossible}
 use Rattle.writer.specs.Sending.{bareCall, bodyCall, endCall}
 use Rattle.closing.specs.Closing.{closingFault, closed, closedPacket, judgement, closeOutcome, closeBuffer}
 use Rattle.reader.specs.Frame.{leadingDiffers, lengthAt, frameAt}

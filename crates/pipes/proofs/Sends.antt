@@ -12,7 +12,7 @@ use lib.Dec.{eqb}
 use lib.ListN.{length, drop, length-append}
 use Rattle.wire.specs.Pick.{pick}
 use Rattle.wire.specs.Bytes.{part}
-use Rattle.wire.specs.declared.Direction.{Direction}
+use Rattle.packet.specs.declared.Direction.{Direction}
 use Rattle.connection.specs.Cycle.{allowed, after}
 use Rattle.connection.specs.declared.Connection.{Connection}
 use Rattle.connection.specs.declared.Move.{Move}
@@ -20,11 +20,11 @@ use Rattle.connection.proofs.Commute.{body-within}
 use Rattle.places.specs.Entries.{maxPlaces}
 use Rattle.payload.specs.Body.{bodyStart}
 use Rattle.payload.specs.Kinds.{kindIn, moveIn}
-use Rattle.payload.specs.declared.packet.Packet as payload
+use Rattle.packet.specs.declared.Packet as payload
 use Rattle.fields.specs.Call.{done}
-use Rattle.pieces.specs.Record as pieces
-use Rattle.pieces.specs.declared.BuildingKind.{BuildingKind}
-use Rattle.pieces.specs.declared.Building.{Building}
+use Rattle.building_record.specs.Record as pieces
+use Rattle.building_record.specs.declared.BuildingKind.{BuildingKind}
+use Rattle.building_record.specs.declared.Building.{Building}
 use Rattle.writer.specs.Meaning.{Written}
 use Rattle.writer.specs.Sending.{packetOf, barePayload, bodyPayload, chunkPayload, getPayload, endPayload, bareCall, bodyCall, chunkCall, getCall, endCall}
 use Rattle.reader.specs.Meaning.{Told, accepted}
@@ -67,7 +67,7 @@ made c call bytes next p parses same holds allows steps = record {
 -- a packet that one call wrote
 one-made : {c : Connection} {m : Move} {own buffer left : List ℕ} {w : Written} (call : Send) (p : payload.Packet)
     → OneWritten c m own buffer w left → moveIn p ≡ m → Parses (wayOf call) (packetOf m own) p → isBody (kindIn p) ≡ isBodyCall call
-    → heldIn (packetBy call (packetOf m own)) ≡ bodyGiven call → Made c call (part left 0 (w .length)) (w .connection)
+    → heldIn (packetBy call (packetOf m own)) ≡ bodyGiven call → Made c call (part left 0 (w .size)) (w .connection)
 one-made {c} {w = w} call p wrote e parses same holds =
     subst (λ (bytes : List ℕ). Made c call bytes (w .connection)) (sym (wrote .stands))
     (made c call _ (w .connection) p parses same holds (ap (allowed c) e ∙ wrote .allows) (wrote .steps ∙ ap (after c) (sym e)))
@@ -94,7 +94,7 @@ judged-made c call bytes t next e same holds =
 -- a packet that was closed
 close-made : (c : Connection) (call : Send) (r : Building) (buffer : List ℕ) (w : Written) → closeOutcome c r buffer ≡ done w
     → wayOf call ≡ pieces.directionIn r → isBodyCall call ≡ false → bodyGiven call ≡ []
-    → Made c call (part (closeBuffer c r buffer) 0 (w .length)) (w .connection)
+    → Made c call (part (closeBuffer c r buffer) 0 (w .size)) (w .connection)
 close-made c call r buffer w e way other none =
     let d : CloseDone c r buffer w = close-done c r buffer w e in
     let bytes : List ℕ = closedPacket r buffer in
@@ -108,7 +108,7 @@ close-made c call r buffer w e way other none =
 
 -- what every send owes
 pub send-made : (c : Connection) (call : Send) (w : Written) → outcomeOf c call ≡ done w
-    → Made c call (part (bufferOf c call) 0 (w .length)) (w .connection)
+    → Made c call (part (bufferOf c call) 0 (w .size)) (w .connection)
 unfolding bareCall bodyCall chunkCall getCall endCall messageBytes
 send-made c (cping buffer) w e =
     one-made (cping buffer) payload.Packet.CPing (done-written c Move.CPing (barePayload Move.CPing) buffer w e) refl cping-parses refl refl

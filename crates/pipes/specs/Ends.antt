@@ -8,14 +8,14 @@ use mathlib.Core.List.{List, [], _∷_, _++_}
 use Prim.Native.Nat.{ℕ, _<_}
 use lib.ListN.{length, take}
 use Rattle.wire.specs.Bytes.{part}
-use Rattle.wire.specs.declared.Direction.{Direction}
+use Rattle.packet.specs.declared.Direction.{Direction}
 use Rattle.places.specs.Entries.{maxPlaces}
 use Rattle.connection.specs.Connection.{fresh}
 use Rattle.connection.specs.declared.Connection.{Connection}
 use Rattle.fields.specs.Call.{Outcome, refused, done, outcome, bufferAfter}
-use Rattle.pieces.specs.declared.BuildingKind.{BuildingKind}
-use Rattle.pieces.specs.declared.Building.{Building}
-use Rattle.pieces.specs.Record.{fields}
+use Rattle.building_record.specs.declared.BuildingKind.{BuildingKind}
+use Rattle.building_record.specs.declared.Building.{Building}
+use Rattle.building_record.specs.Record.{fields}
 use Rattle.writer.specs.Meaning.{Written}
 use Rattle.writer.specs.Sending.{cpingCall, cpongCall, bodyCall, chunkCall, getCall, endCall}
 use Rattle.closing.specs.Closing.{closeOutcome, closeBuffer}
@@ -149,7 +149,7 @@ connectionAfter c (done written) = written .connection
 
 abbrev pub packetsOf : List ℕ → Bool → Outcome Written → List Packet
 packetsOf buffer ofBody (refused n) = []
-packetsOf buffer ofBody (done written) = record { bytes = part buffer 0 (written .length); ofBody = ofBody } ∷ []
+packetsOf buffer ofBody (done written) = record { bytes = part buffer 0 (written .size); ofBody = ofBody } ∷ []
 
 -- a send: the packet goes last into its pipe
 abbrev pub sendFrom : Connection → Direction → Send → Ends → Ends

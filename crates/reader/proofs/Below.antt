@@ -7,8 +7,8 @@ use native.Mathlib.Omega.{arith}
 use lib.ListN.{length}
 use Rattle.connection.specs.declared.Kind.{Kind}
 use Rattle.payload.specs.Kinds.{packetAt, kindIn}
-use Rattle.payload.specs.declared.packet.Packet.{Packet}
-use Rattle.payload.specs.declared.packet.PacketRead.{PacketRead}
+use Rattle.packet.specs.declared.Packet.{Packet}
+use Rattle.payload.specs.declared.found.PacketRead.{PacketRead}
 use Rattle.payload.proofs.Parsed.{forward-places, send-headers-places, parsed-kind}
 use Rattle.reader.specs.Meaning.{told, placesNeeded}
 

@@ -13,7 +13,7 @@ use Rattle.wire.specs.Pick.{pick, both}
 use Rattle.wire.specs.Bytes.{part, integerIn}
 use Rattle.wire.specs.Field.{integerAt}
 use Rattle.wire.proofs.Bytes.{length-part}
-use Rattle.wire.specs.declared.Direction.{Direction}
+use Rattle.packet.specs.declared.Direction.{Direction}
 use Rattle.wire.specs.declared.read.NumberRead.{NumberRead}
 use Rattle.reader.specs.declared.frame.FrameRead.{FrameRead}
 use Rattle.reader.specs.Frame.{differs, leadingDiffers, lengthAt, frameOf, frameAt}

@@ -2,11 +2,3 @@ pub mod Framing
 pub mod Below
 pub mod Laws
 pub mod ShortWays
-pub mod Views
-pub mod Later
-pub mod Acceptance
-pub mod Inside
-pub mod Shown
-pub mod Handed
-pub mod StarredSet
-pub mod Aside

@@ -8,7 +8,7 @@ use lib.ListN.{length}
 use Rattle.wire.specs.Pick.{pick}
 use Rattle.wire.specs.Bytes.{part}
 use Rattle.wire.specs.Field.{byteAt}
-use Rattle.wire.specs.declared.Direction.{Direction}
+use Rattle.packet.specs.declared.Direction.{Direction}
 use Rattle.wire.specs.declared.read.NumberRead.{NumberRead}
 use Rattle.places.specs.Entries.{ended}
 use Rattle.connection.specs.Connection.{bodyDue}
@@ -20,9 +20,9 @@ use Rattle.connection.specs.declared.Step.{Step}
 use Rattle.payload.specs.Code.{codePlace, codeKind, kindOfCode, kindAt}
 use Rattle.payload.specs.Kinds.{packetAt, kindIn, moveIn}
 use Rattle.payload.specs.declared.KindRead.{KindRead}
-use Rattle.payload.specs.declared.packet.Part.{Part}
-use Rattle.payload.specs.declared.packet.Packet.{Packet}
-use Rattle.payload.specs.declared.packet.PacketRead.{PacketRead}
+use Rattle.packet.specs.declared.Part.{Part}
+use Rattle.packet.specs.declared.Packet.{Packet}
+use Rattle.payload.specs.declared.found.PacketRead.{PacketRead}
 use Rattle.payload.proofs.Laws.{kind-is}
 use Rattle.payload.proofs.Parsed.{parsed-kind}
 use Rattle.reader.specs.declared.frame.FrameRead.{FrameRead}

@@ -10,7 +10,7 @@ use Rattle.wire.specs.Pick.{pick, both, either}
 use Rattle.wire.specs.Refusal.{leadingWrong, tooLong}
 use Rattle.wire.specs.Field.{integerAt}
 use Rattle.wire.specs.Packet.{leading}
-use Rattle.wire.specs.declared.Direction.{Direction}
+use Rattle.packet.specs.declared.Direction.{Direction}
 use Rattle.wire.specs.declared.read.NumberRead.{NumberRead}
 use Rattle.connection.specs.Connection.{maxPayload}
 use Rattle.reader.specs.declared.frame.FrameRead.{FrameRead}

@@ -2,6 +2,4 @@ pub mod Frame
 pub mod Meaning
 pub mod Reading
 pub mod Short
-pub mod View
-pub mod Starred
 pub mod Private

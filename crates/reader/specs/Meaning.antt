@@ -6,7 +6,7 @@ use Prim.Native.Nat.{ℕ, _+_, _*_}
 use Rattle.connection.specs.declared.Kind.{Kind}
 use Rattle.connection.specs.declared.Connection.{Connection}
 use Rattle.payload.specs.Sequence.{booleanNumber}
-use Rattle.payload.specs.declared.packet.Packet.{Packet}
+use Rattle.packet.specs.declared.Packet.{Packet}
 use Rattle.reader.specs.declared.Received.{Received}
 
 -- what a packet tells: its kind, each fixed number and each fixed string's place in the packet's order, how many headers and attributes,

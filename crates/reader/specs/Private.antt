@@ -5,14 +5,14 @@ use mathlib.Core.Path.{_≡_}
 use mathlib.Core.List.{List}
 use Prim.Native.Nat.{ℕ}
 use lib.ListN.{length, take}
-use Rattle.wire.specs.declared.Direction.{Direction}
+use Rattle.packet.specs.declared.Direction.{Direction}
 use Rattle.connection.specs.declared.Kind.{Kind}
 use Rattle.connection.specs.declared.Connection.{Connection}
 use Rattle.payload.specs.Kinds.{packetAt}
 use Rattle.connection.specs.declared.Step.{Step}
-use Rattle.payload.specs.declared.packet.Part.{Part}
-use Rattle.payload.specs.declared.packet.Packet.{Packet}
-use Rattle.payload.specs.declared.packet.PacketRead.{PacketRead}
+use Rattle.packet.specs.declared.Part.{Part}
+use Rattle.packet.specs.declared.Packet.{Packet}
+use Rattle.payload.specs.declared.found.PacketRead.{PacketRead}
 use Rattle.reader.specs.declared.short.PartRead.{PartRead}
 use Rattle.reader.specs.Meaning.{Meaning, needs, refused, accepted, placesNeeded}
 use Rattle.reader.specs.Reading.{parseWhole, readAsBody, accepting, judging, withRoom, placesOf, filled}

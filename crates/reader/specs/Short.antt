@@ -9,7 +9,7 @@ use lib.ListN.{length}
 use Rattle.wire.specs.Pick.{pick}
 use Rattle.wire.specs.Bytes.{part}
 use Rattle.wire.specs.Field.{byteAt}
-use Rattle.wire.specs.declared.Direction.{Direction}
+use Rattle.packet.specs.declared.Direction.{Direction}
 use Rattle.wire.specs.declared.read.NumberRead.{NumberRead}
 use Rattle.connection.specs.Cycle.{inState}
 use Rattle.connection.specs.declared.Kind.{Kind}

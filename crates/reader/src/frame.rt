@@ -5,7 +5,7 @@ ghost use Rattle.reader.specs.Frame.{leadingDiffers, differs, frameAt, l
 ghost use Rattle.reader.specs.Short.{wholeSize};
 use crate::LENGTH_PLACE;
 use connection::Connection;
-use wire::Direction;
+use packet::Direction;
 use wire::has_room;
 use wire::leading_bytes;
 use wire::read;

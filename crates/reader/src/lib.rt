@@ -1,6 +1,5 @@
 // Reading at both ends: takes a packet out of lent bytes, checks it, tells what it is, fills the lent table and steps the connection.
-// `read_at_container` and `read_at_server` answer for any connection, any bytes and any table. `view` shows the fields of what was read;
-// `short` reads the packets of a body by themselves, for a caller that reads many of them.
+// `read_at_container` and `read_at_server` answer for any connection, any bytes and any table. `short` reads the packets of a body by themselves, for a caller that reads many of them.
 ghost use mathlib.Core.Path.{_≡_};
 ghost use Prim.Native.Nat.{_≤_};
 ghost use lib.ListN.{length};
@@ -13,19 +12,18 @@ use connection::Connection;
 use connection::Kind;
 use connection::Move;
 use connection::Step;
+use packet::Direction;
+use packet::Packet;
 use payload::KindRead;
-use payload::packet::Packet;
-use payload::packet::PacketRead;
+use payload::found::PacketRead;
 use places::MAX_PLACES;
 use places::fill;
 use places::first;
-use wire::Direction;
 use wire::part_of;
 use wire::refusal;
 
 mod frame;
 pub mod short;
-pub mod view;
 
 use crate::frame::FrameRead;
 

@@ -3,7 +3,7 @@
 ghost use mathlib.Core.Path.{_≡_};
 ghost use lib.ListN.{length};
 ghost use Rattle.wire.specs.Field.{byteAt};
-ghost use Rattle.wire.specs.declared.Direction.{Direction};
+ghost use Rattle.packet.specs.declared.Direction.{Direction};
 ghost use Rattle.connection.specs.declared.Kind.{Kind};
 ghost use Rattle.payload.specs.Code.{codePlace};
 ghost use Rattle.payload.specs.Body.{bodyAt};
@@ -13,14 +13,14 @@ ghost use Rattle.reader.specs.Short.{isChunk, bodySize, chunkSize, PartR
 use crate::frame;
 use connection::Connection;
 use connection::Kind;
-use connection::Place;
 use connection::Step;
+use packet::Direction;
+use packet::Packet;
+use packet::Part;
+use packet::Place;
 use payload::BODY_CHUNK;
 use payload::CODE_PLACE;
-use payload::packet::Packet;
-use payload::packet::PacketRead;
-use payload::packet::Part;
-use wire::Direction;
+use payload::found::PacketRead;
 use wire::part_of;
 use wire::read::NumberRead;
 use wire::read::byte;

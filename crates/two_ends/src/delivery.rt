@@ -5,9 +5,9 @@ use crate::row;
 use crate::told;
 use crate::words;
 use connection::Connection;
+use packet::Direction;
 use places::MAX_PLACES;
 use reader::Received;
-use wire::Direction;
 use wire::part_of;
 use writer::Sent;
 
@@ -37,8 +37,8 @@ fn carried(ends: Ends, direction: Direction, sent: Sent, buffer: &[u8]) -> Ends 
             words::refusal(number);
             ends
         }
-        Sent::Written { length, connection } => {
-            let packet = part_of(buffer, 0, length);
+        Sent::Written { size, connection } => {
+            let packet = part_of(buffer, 0, size);
             row::show_all(packet);
             delivered(ends, direction, connection, packet)
         }

@@ -4,7 +4,7 @@ use crate::words;
 use cases::put;
 use cases::text;
 use connection::Connection;
-use wire::Direction;
+use packet::Direction;
 use wire::part_of;
 
 pub struct Ends {

@@ -2,11 +2,10 @@
 use crate::field;
 use crate::print;
 use cases::text;
-use connection::Place;
-use names::AttributeKind;
-use reader::view;
-use reader::view::HeaderName;
-use wire::Direction;
+use packet::AttributeKind;
+use packet::Direction;
+use packet::HeaderName;
+use packet::Place;
 
 // Prints the headers.
 pub fn headers(direction: Direction, count: u16, packet: &[u8], table: &[u16]) {
@@ -18,22 +17,22 @@ pub fn headers(direction: Direction, count: u16, packet: &[u8], table: &[u16]) {
 // Prints the header whose places are at an index of the table.
 fn header(direction: Direction, at: usize, packet: &[u8], table: &[u16]) {
     field::label(b"header");
-    header_name(direction, packet, view::place_at(table, at));
+    header_name(direction, packet, views::place_at(table, at));
     print::text(b": ");
-    field::text(packet, view::place_at(table, text::after(at)));
+    field::text(packet, views::place_at(table, text::after(at)));
 }
 
 // Prints a header's name, behind its code where it has one.
 fn header_name(direction: Direction, packet: &[u8], place: Place) {
-    match view::name_at(packet, place) {
+    match views::name_at(packet, place) {
         HeaderName::Code(code) => {
             print::hex(code as u64, 4);
             print::text(b"  ");
-            field::name(view::header_name(direction, code));
+            field::name(views::header_name(direction, code));
         }
         HeaderName::Spelled => {
             print::text(b"      ");
-            print::text(view::text_at(packet, place));
+            print::text(views::text_at(packet, place));
         }
     }
 }
@@ -47,25 +46,25 @@ pub fn attributes(headers: u16, count: u16, packet: &[u8], table: &[u16]) {
 
 // Prints the attribute whose places are at an index of the table.
 fn attribute(at: usize, packet: &[u8], table: &[u16]) {
-    let place = view::place_at(table, at);
-    let code = view::attribute_code_at(packet, place);
+    let place = views::place_at(table, at);
+    let code = views::attribute_code_at(packet, place);
     field::label(b"attribute");
     print::hex(code as u64, 2);
     print::text(b"    ");
-    let kind = view::attribute_kind_at(packet, place);
+    let kind = views::attribute_kind_at(packet, place);
     attribute_name(kind, code, packet, place);
     print::text(b": ");
-    attribute_value(kind, packet, view::place_at(table, text::after(at)));
+    attribute_value(kind, packet, views::place_at(table, text::after(at)));
 }
 
 // Prints an attribute's name: its own where it brings one with it, else the one that is listed for its code.
 fn attribute_name(kind: AttributeKind, code: u16, packet: &[u8], place: Place) {
     match kind {
         AttributeKind::Pair => {
-            print::text(view::attribute_name_at(packet, place));
+            print::text(views::attribute_name_at(packet, place));
         }
         _ => {
-            field::name(view::attribute_name(code));
+            field::name(views::attribute_name(code));
         }
     }
 }
@@ -74,7 +73,7 @@ fn attribute_name(kind: AttributeKind, code: u16, packet: &[u8], place: Place) {
 fn attribute_value(kind: AttributeKind, packet: &[u8], place: Place) {
     match kind {
         AttributeKind::Integer => {
-            print::decimal(view::integer_at(packet, place) as u64);
+            print::decimal(views::integer_at(packet, place) as u64);
         }
         _ => {
             field::text(packet, place);

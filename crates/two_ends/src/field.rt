@@ -1,9 +1,8 @@
 // A field of a packet that was read, each in a line of its own.
 use crate::print;
 use cases::put;
-use connection::Place;
-use names::Name;
-use reader::view;
+use packet::Name;
+use packet::Place;
 use wire::part_of;
 
 // Where a field's name stands in a line, and where its value.
@@ -22,15 +21,15 @@ pub fn label(name: &[u8]) {
 // Prints a listed name.
 pub fn name(found: Name) {
     let bytes = found.bytes;
-    print::text(part_of(&bytes, 0, found.length));
+    print::text(part_of(&bytes, 0, found.len));
 }
 
 // Prints the string at a place.
 pub fn text(packet: &[u8], place: Place) {
-    if view::is_null_at(packet, place) {
+    if views::is_null_at(packet, place) {
         print::text(b"null");
     } else {
-        print::text(view::text_at(packet, place));
+        print::text(views::text_at(packet, place));
     }
 }
 

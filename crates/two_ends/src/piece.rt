@@ -3,11 +3,11 @@ use crate::delivery;
 use crate::ends::Ends;
 use connection::Connection;
 use names::CodeFound;
+use packet::Direction;
 use pieces::Added;
 use pieces::attribute;
 use pieces::code::of_attribute;
 use pieces::header;
-use wire::Direction;
 use writer::Sent;
 
 // The code of attributes that bring their name with them.

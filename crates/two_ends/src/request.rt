@@ -2,12 +2,12 @@
 use crate::ends::Ends;
 use crate::piece;
 use connection::Connection;
+use packet::Direction;
 use pieces::Added;
 use pieces::code::of_method;
 use pieces::forward;
 use pieces::forward::Nulls;
 use pieces::forward::Numbers;
-use wire::Direction;
 
 // Opens a valve. The body of 27 bytes tells for which tree and how long.
 pub fn open_valve(ends: Ends) -> Ends {

@@ -2,9 +2,9 @@
 use crate::ends::Ends;
 use crate::piece;
 use connection::Connection;
+use packet::Direction;
 use pieces::Added;
 use pieces::send_headers;
-use wire::Direction;
 
 // All is well, and a text of so many bytes follows.
 pub fn ok(ends: Ends, length: &[u8]) -> Ends {

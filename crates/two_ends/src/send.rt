@@ -3,7 +3,7 @@ use crate::delivery;
 use crate::ends::Ends;
 use cases::put;
 use connection::Connection;
-use wire::Direction;
+use packet::Direction;
 use wire::part_of;
 use writer::Sent;
 

@@ -3,12 +3,11 @@ use crate::entry;
 use crate::field;
 use crate::print;
 use cases::put;
-use payload::packet::Forward;
-use payload::packet::Packet;
-use payload::packet::Part;
-use payload::packet::SendHeaders;
-use reader::view;
-use wire::Direction;
+use packet::Direction;
+use packet::Forward;
+use packet::Packet;
+use packet::Part;
+use packet::SendHeaders;
 
 // Prints a packet: its kind and its fields.
 pub fn show(packet: Packet, bytes: &[u8], table: &[u16]) {
@@ -44,7 +43,7 @@ pub fn show(packet: Packet, bytes: &[u8], table: &[u16]) {
 // Prints what stands before a body or a chunk, and its text.
 fn content(before: &[u8], bytes: &[u8], part: Part) {
     print::text(before);
-    print::text(view::bytes_of(bytes, part));
+    print::text(views::bytes_of(bytes, part));
     print::text(b"\"");
 }
 
@@ -66,7 +65,7 @@ fn forward(f: Forward, bytes: &[u8], table: &[u16]) {
 
 fn fixed_fields(f: Forward, bytes: &[u8]) {
     field::label(b"method");
-    field::name(view::method_name(f.method));
+    field::name(views::method_name(f.method));
     field::string(b"protocol", bytes, f.protocol);
     field::string(b"req_uri", bytes, f.req_uri);
     field::string(b"remote_addr", bytes, f.remote_addr);

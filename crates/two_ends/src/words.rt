@@ -3,7 +3,7 @@ use crate::print;
 use cases::put;
 use cases::text;
 use connection::State;
-use wire::Direction;
+use packet::Direction;
 
 // What the refusals say, in the order of their numbers from 0 on, a slash between two.
 const REFUSALS: [u8; 274] =

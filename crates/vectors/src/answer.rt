@@ -2,8 +2,8 @@
 use cases::put;
 use cases::text;
 use connection::Connection;
-use payload::packet::Forward;
-use payload::packet::Packet;
+use packet::Forward;
+use packet::Packet;
 use reader::Received;
 
 // The most fields of a packet.

@@ -5,7 +5,7 @@ use built_cases::piece;
 use built_cases::send;
 use cases::commands;
 use cases::text;
-use wire::Direction;
+use packet::Direction;
 
 // What the commands are called in the order of their numbers, and then all of them, a slash between two.
 const NAMES: [u8; 121] =

@@ -5,8 +5,8 @@ use cases::parse;
 use cases::put;
 use cases::text;
 use connection::Connection;
+use packet::Direction;
 use reader::Received;
-use wire::Direction;
 use wire::part_of;
 
 // The most places of a case.

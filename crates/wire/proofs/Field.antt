@@ -12,7 +12,7 @@ use Rattle.wire.specs.Pick.{pick, both, either}
 use Rattle.wire.specs.Bytes.{part, put, integerIn, integerBytes}
 use Rattle.wire.specs.Field.{numberAt, byteAt, integerAt, booleanOf, booleanAt, lacks, holdsBarred, textAt, afterLength, stringOf, stringAt, stringBytes, stringAllowed, putString}
 use Rattle.wire.specs.Packet.{leading, head}
-use Rattle.wire.specs.declared.Direction.{Direction}
+use Rattle.packet.specs.declared.Direction.{Direction}
 use Rattle.wire.specs.declared.read.NumberRead.{NumberRead}
 use Rattle.wire.specs.declared.read.BooleanRead.{BooleanRead}
 use Rattle.wire.specs.declared.read.StringRead.{StringRead}

@@ -12,12 +12,6 @@ pub mod read;
 pub mod refusal;
 pub mod write;
 
-// Which way a packet goes.
-pub enum Direction {
-    ToContainer,
-    ToServer,
-}
-
 // The fields that are strings.
 pub enum StringField {
     Protocol,

@@ -5,10 +5,10 @@ ghost use lib.ListN.{length};
 ghost use Rattle.wire.specs.Bytes.{put, integerBytes};
 ghost use Rattle.wire.specs.Field.{booleanBytes, stringBytes, putString};
 ghost use Rattle.wire.specs.Packet.{head};
-use crate::Direction;
 use crate::NULL_LENGTH;
 use crate::has_room;
 use crate::leading_bytes;
+use packet::Direction;
 
 // The most bytes that are copied at once: no packet has more.
 const MAX_AT_ONCE: usize = 8192;

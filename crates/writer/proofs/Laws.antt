@@ -15,7 +15,7 @@ use Rattle.wire.specs.Refusal.{notNow, sizeWrong}
 use Rattle.wire.specs.Bytes.{over, integerBytes}
 use Rattle.wire.specs.Field.{booleanBytes, stringBytes}
 use Rattle.wire.specs.Packet.{head, packet}
-use Rattle.wire.specs.declared.Direction.{Direction}
+use Rattle.packet.specs.declared.Direction.{Direction}
 use Rattle.wire.proofs.Field.{head-four}
 use Rattle.connection.specs.Cycle.{kindOf, directionOf, inState, inSize, after, stepOf}
 use Rattle.connection.specs.declared.Connection.{Connection}
@@ -35,19 +35,19 @@ use Rattle.writer.specs.Sending.{packetOf, sendingFaults, sending, bareP
 
 -- what `ready` promises where the step goes on, by whether the packet fits
 pub ready-next : (size room : ℕ) (step : Step) (d : Connection) (fit : ℕ) (t : Bool) → step ≡ Step.Next d → fit ≡ fitFault size room → eqb fit 0 ≡ t
-    → pick t (done (record { length = size; connection = d })) (refused fit) ≡ readyOf size room step
+    → pick t (done (record { size = size; connection = d })) (refused fit) ≡ readyOf size room step
 ready-next size room step d fit t e f h = rw (e, ← h, f)
 
 -- and what it promises for the step of a move: 13, then 14, then whether the packet fits
 ready-step : (c : Connection) (m : Move) (size room : ℕ)
     → readyOf size room (stepOf c m)
-    ≡ answered (orElse (firstFault (sendingFaults c m)) (fitFault size room)) (record { length = size; connection = after c m })
+    ≡ answered (orElse (firstFault (sendingFaults c m)) (fitFault size room)) (record { size = size; connection = after c m })
 unfolding stepOf
 ready-step c m size room = go (inState c (kindOf m)) (inSize c m)
   where
     go : (a b : Bool) → readyOf size room (pick a (pick b (Step.Next (after c m)) (Step.Refused sizeWrong)) (Step.Refused notNow))
         ≡ answered (orElse (firstFault (unless a notNow ∷ unless b sizeWrong ∷ [])) (fitFault size room))
-        (record { length = size; connection = after c m })
+        (record { size = size; connection = after c m })
     go true true = refl
     go true false = refl
     go false b = refl
@@ -68,11 +68,11 @@ ready-outcome c m payload buffer size told =
     let call : Call Written = sending c m payload in
     let fault : ℕ = refusalOf call (length buffer) in
     ready-step c m size (length buffer)
-    ∙ ap (λ (f : ℕ). answered f (record { length = size; connection = after c m }))
+    ∙ ap (λ (f : ℕ). answered f (record { size = size; connection = after c m }))
     (found-by call (length buffer) _ _ size _ refl refl (told ∙ ap sizeTold (sym (zero-add _))) refl)
     ∙ answered-same fault _ _ (λ h.
     let fits : Fits 0 (packetOf m payload) buffer = done-fits call buffer fault refl h in
-    ap (λ (n : ℕ). record { length = n; connection = after c m }) (told ∙ told-exact (length (packetOf m payload)) (omega arith)))
+    ap (λ (n : ℕ). record { size = n; connection = after c m }) (told ∙ told-exact (length (packetOf m payload)) (omega arith)))
 
 -- an answer says that the packet is written exactly where there is no fault
 written-none : (r : Sent) (fault : ℕ) (w : Written) → meaning r ≡ answered fault w → isWritten r ≡ eqb fault 0

@@ -10,15 +10,15 @@ use Rattle.writer.specs.declared.Sent.{Sent}
 
 -- a packet that stands in the buffer from its first byte on: how long it is, and the connection after it
 pub record Written : Type 0 where
-  pub length : ℕ
+  pub size : ℕ
   pub connection : Connection
 
 -- what each case of the answer says
 abbrev pub meaning : Sent → Outcome Written
 meaning (Sent.Refused n) = refused n
-meaning (Sent.Written length connection) = done (record { length = length; connection = connection })
+meaning (Sent.Written size connection) = done (record { size = size; connection = connection })
 
 -- an answer that says the packet is written
 abbrev pub isWritten : Sent → Bool
 isWritten (Sent.Refused n) = false
-isWritten (Sent.Written length connection) = true
+isWritten (Sent.Written size connection) = true

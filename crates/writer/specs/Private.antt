@@ -9,4 +9,4 @@ use Rattle.writer.specs.Meaning.{Written}
 -- what a packet of so many bytes that makes a step comes to on a buffer with so much room
 abbrev pub readyOf : ℕ → ℕ → Step → Outcome Written
 readyOf size room (Step.Refused n) = refused n
-readyOf size room (Step.Next c) = answered (fitFault size room) (record { length = size; connection = c })
+readyOf size room (Step.Next c) = answered (fitFault size room) (record { size = size; connection = c })

@@ -43,7 +43,7 @@ sending c m payload = record {
   faults = sendingFaults c m;
   at = 0;
   bytes = packetOf m payload;
-  answer = record { length = length (packetOf m payload); connection = after c m };
+  answer = record { size = length (packetOf m payload); connection = after c m };
 }
 
 -- CPing and CPong: the code alone

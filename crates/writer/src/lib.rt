@@ -19,10 +19,10 @@ use connection::Step;
 use fields::fault;
 use fields::put;
 use fields::size;
+use packet::Direction;
 use payload::AFTER_CODE;
 use payload::PAYLOAD_PLACE;
 use payload::body::BODY_START;
-use wire::Direction;
 use wire::refusal;
 
 // Payload sizes: of a CPing and a CPong, of a Get Body Chunk, of an End.
@@ -40,10 +40,7 @@ const BEFORE_BODY: usize = size::INTEGER;
 // What a call that sends answers: the refusal's number, or the packet's length and the connection after it.
 pub enum Sent {
     Refused(u8),
-    Written {
-        length: usize,
-        connection: Connection,
-    },
+    Written { size: usize, connection: Connection },
 }
 
 // How many bytes a buffer needs for a body packet with these bytes, 8193 where no packet has room for them.
@@ -70,7 +67,7 @@ pub fn is_written(sent: Sent) -> bool
 {
     match sent {
         Sent::Refused(_) => false,
-        Sent::Written { length, connection } => true,
+        Sent::Written { size, connection } => true,
     }
 }
 
@@ -86,7 +83,7 @@ fn ready(step: Step, size: usize, room: usize) -> Sent
                 return Sent::Refused(found);
             }
             Sent::Written {
-                length: size,
+                size,
                 connection: after,
             }
         }

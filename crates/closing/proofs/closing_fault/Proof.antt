@@ -6,7 +6,7 @@ use Prim.Native.Nat.{ℕ}
 use lib.ListN.{length}
 use Rattle.connection.specs.Cycle.{inState}
 use Rattle.fields.specs.Fault.{unless, fitFault}
-use Rattle.pieces.specs.Record.{kindIn}
+use Rattle.building_record.specs.Record.{kindIn}
 use Rattle.closing.proofs.Laws.{fault-by}
 use borrow.Author.Needs.{needs}
 use Rattle.closing.proofs.closing_fault.Statement.{statement}

@@ -2,7 +2,7 @@
 -- Assumes nothing.
 use native.Mathlib.Nat.{add-zero}
 use mathlib.Core.Path.{sym, _∙_}
-use Rattle.pieces.specs.declared.BuildingKind.{BuildingKind}
+use Rattle.building_record.specs.declared.BuildingKind.{BuildingKind}
 use Rattle.closing.proofs.Setting.{length-seen}
 use borrow.Author.Needs.{needs}
 use Rattle.closing.proofs.needs.Statement.{statement}

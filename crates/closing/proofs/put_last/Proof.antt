@@ -3,7 +3,7 @@
 use native.Mathlib.Omega.{arith}
 use mathlib.Core.Path.{sym, _∙_}
 use Rattle.wire.proofs.Bytes.{over-none}
-use Rattle.pieces.specs.declared.BuildingKind.{BuildingKind}
+use Rattle.building_record.specs.declared.BuildingKind.{BuildingKind}
 use Rattle.closing.proofs.Setting.{length-seen, last-seen}
 use borrow.Author.Needs.{needs}
 use Rattle.closing.proofs.put_last.Statement.{statement}

@@ -3,7 +3,7 @@
 use native.Mathlib.Omega.{arith}
 use mathlib.Core.Path.{_≡_, ap, _∙_}
 use Rattle.connection.specs.Cycle.{directionOf}
-use Rattle.pieces.specs.Record.{kindIn, directionIn}
+use Rattle.building_record.specs.Record.{kindIn, directionIn}
 use Rattle.closing.proofs.Laws.{read-there}
 use borrow.Author.Needs.{needs}
 use Rattle.closing.proofs.read_there.Statement.{statement}

@@ -2,7 +2,7 @@
 -- Assumes nothing.
 use borrow.Author.Needs.{needs}
 use mathlib.Core.Path.{sym, ap, _∙_}
-use Rattle.wire.specs.declared.Direction.{Direction}
+use Rattle.packet.specs.declared.Direction.{Direction}
 use Rattle.headers.specs.Headers.{declares}
 use Rattle.headers.proofs.declares_length.Statement.{statement}
 use Rattle.headers.proofs.declares_length.Tie as tie

@@ -40,7 +40,7 @@ returns-3 c =
     (sym (c .before .has-room .ensures) ∙ not-true _ (c .if3 .taken)) refl refl refl
 
 -- the name's bytes and the one behind them are there
-fits : (c : tie.Else3) → let a = c .before .before .before .before .before .args in a .start + (a .length + 1) ≤ length (a .packet .now)
+fits : (c : tie.Else3) → let a = c .before .before .before .before .before .args in a .start + (a .size + 1) ≤ length (a .packet .now)
 fits c = room-in _ _ _ (c .before .has-room .ensures) (c .if3 .left)
 
 add-end : tie.Need-add-end
@@ -70,20 +70,20 @@ text-fault-requires c κs = search needs
 
 -- the bytes that are judged are the name's
 judged : (c : tie.After-text-fault) → let a = c .before .before .before .before .before .before .before .before .before .args in
-    let text = part (a .packet .now) (a .start) (a .length) in
+    let text = part (a .packet .now) (a .start) (a .size) in
     c .text-fault .result ≡ pick (holdsBarred text) stringWrong (spelledFault (a .direction) text)
 unfolding part
 judged c =
     let a = c .before .before .before .before .before .before .before .before .before .args in
-    let n : a .start + a .length - a .start ≡ a .length = omega arith in
+    let n : a .start + a .size - a .start ≡ a .size = omega arith in
     c .text-fault .ensures
     ∙ ap (λ (text : List ℕ). pick (holdsBarred text) stringWrong (spelledFault (a .direction) text))
     (ap (λ (k : ℕ). take k (drop (a .start) (a .packet .now))) n)
 
 -- the name, by the test on that fault
 named : (c : tie.After-text-fault) (t : Bool) → eqb (c .text-fault .result) none ≡ t → let a = c .before .before .before .before .before .before .before .before .before .args in
-    pick t (NameRead.Spelled (a .start) (a .length) (a .start + a .length + 1)) (NameRead.Refused (c .text-fault .result))
-    ≡ spelledOf (a .direction) (a .packet .now) (afterLength (a .packet .now) (isOptional StringField.HeaderName) (a .length) (a .start))
+    pick t (NameRead.Spelled (a .start) (a .size) (a .start + a .size + 1)) (NameRead.Refused (c .text-fault .result))
+    ≡ spelledOf (a .direction) (a .packet .now) (afterLength (a .packet .now) (isOptional StringField.HeaderName) (a .size) (a .start))
 named c t e =
     let ended = c .before .before in
     let room = ended .before .before in

@@ -2,7 +2,7 @@
 -- Assumes nothing.
 use borrow.Author.Needs.{needs}
 use mathlib.Core.Path.{sym, ap, _∙_}
-use Rattle.wire.specs.declared.Direction.{Direction}
+use Rattle.packet.specs.declared.Direction.{Direction}
 use Rattle.payload.specs.Code.{codeKind, kindOfCode}
 use Rattle.payload.proofs.kind_of_code.Statement.{statement}
 use Rattle.payload.proofs.kind_of_code.Tie as tie

@@ -2,7 +2,7 @@
 -- Assumes nothing.
 use borrow.Author.Tests.{ne-eqb}
 use mathlib.Core.Path.{sym, ap}
-use Rattle.wire.specs.declared.Direction.{Direction}
+use Rattle.packet.specs.declared.Direction.{Direction}
 use Rattle.payload.specs.Code.{codeKind}
 use Rattle.payload.proofs.kind_to_server.Statement.{statement}
 use Rattle.payload.proofs.kind_to_server.Tie as tie

@@ -3,7 +3,7 @@
 use native.Mathlib.Omega.{arith}
 use mathlib.Core.Path.{_≡_, sym, ap, _∙_}
 use Prim.Native.Nat.{_+_, _*_}
-use Rattle.payload.specs.declared.packet.Packet.{Packet}
+use Rattle.packet.specs.declared.Packet.{Packet}
 use Rattle.reader.specs.Meaning.{told, placesNeeded}
 use borrow.Author.Needs.{needs}
 use Rattle.reader.proofs.places_needed.Statement.{statement}

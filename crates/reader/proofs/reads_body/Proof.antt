@@ -1,7 +1,7 @@
 -- `reader::reads_body` meets its contract, by the direction.
 -- Assumes nothing.
 use mathlib.Core.Path.{sym, ap, _∙_}
-use Rattle.wire.specs.declared.Direction.{Direction}
+use Rattle.packet.specs.declared.Direction.{Direction}
 use Rattle.reader.specs.Reading.{readAsBody}
 use borrow.Author.Needs.{needs}
 use Rattle.reader.proofs.reads_body.Statement.{statement}

@@ -8,7 +8,7 @@ use Prim.Native.Nat.{_+_}
 use lib.ListN.{length}
 use Rattle.wire.specs.Bytes.{over, integerBytes}
 use Rattle.wire.specs.Packet.{head}
-use Rattle.wire.specs.declared.Direction.{Direction}
+use Rattle.packet.specs.declared.Direction.{Direction}
 use Rattle.fields.specs.Field.{Fits}
 use Rattle.fields.proofs.Rows.{fits-first, fits-later, joined}
 use Rattle.writer.proofs.Laws.{body-none, body-row, second-fits, packet-stands}

@@ -1,7 +1,7 @@
 -- `answer::told_words` meets its contract, packet by packet.
 -- Assumes nothing.
 use mathlib.Core.Path.{sym, ap, _∙_}
-use Rattle.payload.specs.declared.packet.Packet.{Packet}
+use Rattle.packet.specs.declared.Packet.{Packet}
 use Rattle.reader.specs.Meaning.{told}
 use Rattle.ajp13.specs.Answer.{writtenWords, toldWords}
 use borrow.Author.Needs.{needs}

@@ -1,7 +1,7 @@
 -- `close::ajp13_close` meets its contract: the packet is closed, and what that came to is told.
 -- Assumes nothing.
 use mathlib.Core.Path.{sym, ap, subst, _∙_}
-use Rattle.pieces.specs.Record.{kindIn}
+use Rattle.building_record.specs.Record.{kindIn}
 use Rattle.ajp13.specs.Sending.{closeEffect}
 use Rattle.ajp13.specs.Private.{BuildingFits, SentWithin}
 use Rattle.ajp13.proofs.Within.{close-within}

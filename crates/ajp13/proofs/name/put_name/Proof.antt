@@ -5,7 +5,7 @@ use mathlib.Core.Path.{_≡_, refl, sym, ap, _∙_}
 use Rattle.wire.specs.Bytes.{put}
 use mathlib.Core.Bool.{true, false}
 use Rattle.names.specs.Names.{isListed}
-use Rattle.names.specs.declared.Name.{Name}
+use Rattle.packet.specs.declared.Name.{Name}
 use Rattle.names.proofs.Codes.{name-length}
 use borrow.Author.Needs.{needs}
 use Rattle.ajp13.proofs.name.put_name.Statement.{statement}
@@ -17,7 +17,7 @@ name-of-requires c κs = search needs
 cast-length : tie.Need-cast-length
 cast-length c =
     let a = c .before .before .before .before .args in
-    omega (arith, ap (λ (n : Name). n .length) (c .before .before .name-of .ensures), name-length (a .list) (a .code) .0)
+    omega (arith, ap (λ (n : Name). n .len) (c .before .before .name-of .ensures), name-length (a .list) (a .code) .0)
 
 is-listed-requires : tie.Need-is-listed-requires
 is-listed-requires c κs = search needs
@@ -37,7 +37,7 @@ returns c =
     let told = listed .before .before .before in
     let a = told .before .before .args in
     let is : isListed (a .list) (a .code) ≡ true = sym (listed .is-listed .ensures) ∙ c .before .before .before .before .before .if1 .taken in (
-      ap (λ (n : Name). n .length) (told .name-of .ensures),
+      ap (λ (n : Name). n .len) (told .name-of .ensures),
       c .before .before .bytes3 .ensures
           ∙ ap (λ (n : Name). put (a .name .now) 0 (n .bytes)) (told .name-of .ensures)
           ∙ rw is refl,
@@ -48,7 +48,7 @@ returns-2 c =
     let told = c .before .before .before .before in
     let a = told .before .before .args in
     let is : isListed (a .list) (a .code) ≡ false = sym (c .before .is-listed .ensures) ∙ c .if1 .left in
-    (ap (λ (n : Name). n .length) (told .name-of .ensures), rw is refl)
+    (ap (λ (n : Name). n .len) (told .name-of .ensures), rw is refl)
 
 pub put-name-spec : {M : Type 1} → statement M
 put-name-spec =

@@ -2,7 +2,7 @@
 -- Assumes nothing.
 use mathlib.Core.Path.{refl, sym, subst, _∙_}
 use lib.ListN.{length}
-use Rattle.wire.specs.declared.Direction.{Direction}
+use Rattle.packet.specs.declared.Direction.{Direction}
 use Rattle.connection.specs.declared.Kind.{Kind}
 use Rattle.reader.specs.Short.{PartRight}
 use Rattle.ajp13.specs.Reading.{readEffect}

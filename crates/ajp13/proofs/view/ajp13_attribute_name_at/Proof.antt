@@ -4,7 +4,7 @@ use mathlib.Core.Path.{sym, ap, _∙_}
 use native.Mathlib.Omega.{arith}
 use Prim.Native.Nat.{ℕ, _+_}
 use lib.ListN.{length}
-use Rattle.reader.specs.View.{textView}
+use Rattle.views.specs.View.{textView}
 use Rattle.ajp13.specs.View.{textWords, textAfter}
 use Rattle.ajp13.proofs.Found.{fault-keeps, later-written}
 use Rattle.ajp13.proofs.Views.{text-fine}

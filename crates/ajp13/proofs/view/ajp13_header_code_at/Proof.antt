@@ -1,7 +1,7 @@
 -- `view::ajp13_header_code_at` meets its contract: a fault in the place is told, else the number of the name that the view shows there.
 -- Assumes nothing.
 use mathlib.Core.Path.{sym, ap, _∙_}
-use Rattle.reader.specs.View.{nameView}
+use Rattle.views.specs.View.{nameView}
 use Rattle.ajp13.specs.View.{nameNumber}
 use Rattle.ajp13.proofs.Found.{fault-told, later-told}
 use Rattle.ajp13.proofs.Effects.{number-within}

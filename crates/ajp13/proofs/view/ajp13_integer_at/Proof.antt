@@ -3,7 +3,7 @@
 use mathlib.Core.Path.{sym, ap, _∙_}
 use Rattle.ajp13.proofs.Found.{fault-told, later-told}
 use Rattle.ajp13.proofs.Effects.{number-within}
-use Rattle.reader.specs.View.{integerView}
+use Rattle.views.specs.View.{integerView}
 use borrow.Author.Needs.{needs}
 use Rattle.ajp13.proofs.view.ajp13_integer_at.Statement.{statement}
 use Rattle.ajp13.proofs.view.ajp13_integer_at.Tie as tie

@@ -1,7 +1,7 @@
 -- `view::length_at` meets its contract, by what is read at the index.
 -- Assumes nothing.
 use mathlib.Core.Path.{sym, _∙_}
-use Rattle.reader.proofs.Views.{number-is}
+use Rattle.views.proofs.Laws.{number-is}
 use borrow.Author.Needs.{needs}
 use Rattle.ajp13.proofs.view.length_at.Statement.{statement}
 use Rattle.ajp13.proofs.view.length_at.Tie as tie

@@ -4,7 +4,7 @@ use mathlib.Core.Path.{ap, _∙_}
 use native.Mathlib.Omega.{arith}
 use lib.ListN.{length}
 use Rattle.payload.specs.Sequence.{booleanNumber}
-use Rattle.reader.proofs.Views.{null-is}
+use Rattle.views.proofs.Laws.{null-is}
 use Rattle.ajp13.proofs.Views.{start-within, text-most, words-are}
 use borrow.Author.Needs.{needs}
 use Rattle.ajp13.proofs.view.text_words.Statement.{statement}

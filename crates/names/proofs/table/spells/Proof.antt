@@ -34,7 +34,7 @@ room c =
     let name = c .before .before .before .args .name in
     let h = whole (c .before .before .before) in
     ⊎-elim
-    (λ w. (omega arith, take-past (name .length) (c .if1 .n) (name .bytes) (omega arith) (omega arith)))
+    (λ w. (omega arith, take-past (name .len) (c .if1 .n) (name .bytes) (omega arith) (omega arith)))
     (λ w. (omega arith, ap (λ (m : ℕ). take m (name .bytes)) (sym (w .1))))
     (c .if1 .came)
 

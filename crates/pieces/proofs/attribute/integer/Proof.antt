@@ -6,9 +6,9 @@ use borrow.Author.Needs.{needs}
 use Rattle.wire.specs.Bytes.{integerBytes}
 use Rattle.fields.specs.Field.{Field, plain}
 use Rattle.fields.specs.Call.{Call}
-use Rattle.pieces.specs.declared.Building.{Building}
+use Rattle.building_record.specs.declared.Building.{Building}
 use Rattle.pieces.specs.Attribute.{isInteger, integerCall}
-use Rattle.pieces.specs.Record.{withAttribute}
+use Rattle.building_record.specs.Record.{withAttribute}
 use Rattle.pieces.proofs.Pieces.{Checked, checked, refused-both, row-fits, code-byte, end-fits, done-both}
 use Rattle.pieces.proofs.attribute.integer.Statement.{statement}
 use Rattle.pieces.proofs.attribute.integer.Tie as tie

@@ -7,9 +7,9 @@ use Rattle.wire.specs.Field.{stringBytes}
 use Rattle.wire.specs.declared.StringField.{StringField}
 use Rattle.fields.specs.Field.{Field, stringField}
 use Rattle.fields.specs.Call.{Call}
-use Rattle.pieces.specs.declared.Building.{Building}
+use Rattle.building_record.specs.declared.Building.{Building}
 use Rattle.pieces.specs.Attribute.{isPair, pairCall}
-use Rattle.pieces.specs.Record.{withAttribute}
+use Rattle.building_record.specs.Record.{withAttribute}
 use Rattle.pieces.proofs.Pieces.{Checked, checked, refused-both, row-fits, code-byte, end-fits, done-both}
 use Rattle.pieces.proofs.attribute.pair.Statement.{statement}
 use Rattle.pieces.proofs.attribute.pair.Tie as tie

@@ -4,7 +4,7 @@ use mathlib.Core.Path.{ap, _∙_}
 use Rattle.names.specs.Header.{headerNames}
 use Rattle.names.specs.Names.{codeIn}
 use Rattle.connection.specs.Cycle.{directionOf}
-use Rattle.wire.specs.declared.Direction.{Direction}
+use Rattle.packet.specs.declared.Direction.{Direction}
 use borrow.Author.Needs.{needs}
 use Rattle.pieces.proofs.code.of_header.Statement.{statement}
 use Rattle.pieces.proofs.code.of_header.Tie as tie

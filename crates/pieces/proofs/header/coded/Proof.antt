@@ -6,9 +6,9 @@ use borrow.Author.Needs.{needs}
 use Rattle.wire.specs.Bytes.{integerBytes}
 use Rattle.wire.specs.Field.{stringBytes}
 use Rattle.fields.specs.Call.{Call}
-use Rattle.pieces.specs.declared.Building.{Building}
+use Rattle.building_record.specs.declared.Building.{Building}
 use Rattle.pieces.specs.Header.{codedFields, codedCall}
-use Rattle.pieces.specs.Record.{directionIn, withHeader}
+use Rattle.building_record.specs.Record.{directionIn, withHeader}
 use Rattle.pieces.proofs.Pieces.{Checked, checked, refused-both, row-fits, done-both, header-room}
 use Rattle.pieces.proofs.header.coded.Statement.{statement}
 use Rattle.pieces.proofs.header.coded.Tie as tie

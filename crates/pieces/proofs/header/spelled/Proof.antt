@@ -5,9 +5,9 @@ use mathlib.Core.List.{_++_, append-nil}
 use borrow.Author.Needs.{needs}
 use Rattle.wire.specs.Field.{stringBytes}
 use Rattle.fields.specs.Call.{Call}
-use Rattle.pieces.specs.declared.Building.{Building}
+use Rattle.building_record.specs.declared.Building.{Building}
 use Rattle.pieces.specs.Header.{spelledFields, spelledCall}
-use Rattle.pieces.specs.Record.{directionIn, withHeader}
+use Rattle.building_record.specs.Record.{directionIn, withHeader}
 use Rattle.pieces.proofs.Pieces.{Checked, checked, refused-both, row-fits, done-both, header-room}
 use Rattle.pieces.proofs.header.spelled.Statement.{statement}
 use Rattle.pieces.proofs.header.spelled.Tie as tie

@@ -6,9 +6,9 @@ use mathlib.Core.Path.{refl, sym, ap}
 use borrow.Author.Needs.{needs}
 use lib.ListN.{length}
 use Rattle.fields.specs.Call.{Call}
-use Rattle.pieces.specs.declared.BuildingKind.{BuildingKind}
-use Rattle.pieces.specs.declared.Building.{Building}
-use Rattle.pieces.specs.Record.{opened}
+use Rattle.building_record.specs.declared.BuildingKind.{BuildingKind}
+use Rattle.building_record.specs.declared.Building.{Building}
+use Rattle.building_record.specs.Record.{opened}
 use Rattle.pieces.specs.Fixed.{sendHeadersCall}
 use Rattle.pieces.proofs.Laws.{send-headers-size}
 use Rattle.pieces.proofs.Pieces.{Checked, checked, refused-both, row-fits, end-exact, end-fits, done-both}

@@ -6,7 +6,7 @@ use Rattle.wire.specs.Field.{stringBytes}
 use Rattle.connection.specs.declared.Kind.{Kind}
 use Rattle.fields.specs.Field.{opening, bytesOf}
 use Rattle.fields.proofs.Rows.{Row, row-start, row-fits, row-next, row-done}
-use Rattle.pieces.specs.declared.BuildingKind.{BuildingKind}
+use Rattle.building_record.specs.declared.BuildingKind.{BuildingKind}
 use Rattle.pieces.specs.Fixed.{fixed, sendHeadersFields}
 use borrow.Author.Needs.{needs}
 use Rattle.pieces.proofs.send_headers.write.Statement.{statement}

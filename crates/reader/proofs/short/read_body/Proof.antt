@@ -1,7 +1,7 @@
 -- `reader::short::read_body` meets its contract: a due body packet is answered as reading says.
 -- Assumes nothing.
 use mathlib.Core.Path.{refl, sym, _∙_}
-use Rattle.wire.specs.declared.Direction.{Direction}
+use Rattle.packet.specs.declared.Direction.{Direction}
 use Rattle.connection.specs.declared.Kind.{Kind}
 use Rattle.reader.proofs.ShortWays.{short-body, part-right}
 use borrow.Author.Needs.{needs}

@@ -1,7 +1,7 @@
 -- `reader::short::read_body_chunk` meets its contract: an allowed Send Body Chunk is answered as reading says.
 -- Assumes nothing.
 use mathlib.Core.Path.{refl, sym, _∙_}
-use Rattle.wire.specs.declared.Direction.{Direction}
+use Rattle.packet.specs.declared.Direction.{Direction}
 use Rattle.connection.specs.declared.Kind.{Kind}
 use Rattle.reader.proofs.ShortWays.{short-chunk, part-right}
 use borrow.Author.Needs.{needs}

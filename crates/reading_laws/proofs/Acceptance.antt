@@ -1,0 +1,231 @@
+-- When a packet is accepted, and what is handed out then: exactly when its frame is whole, its fields are read, the connection allows it and
+-- the table has room. What is parsed depends on the connection only by whether the packet is read as a body packet.
+-- Assumes nothing.
+use mathlib.Core.Path.{_≡_, refl, sym, ap, _∙_, subst}
+use mathlib.Core.Bool.{Bool, true, false}
+use mathlib.Core.List.{List}
+use Prim.Native.Nat.{ℕ, _≤_, _<_}
+use native.Mathlib.Nat.{zero-add}
+use borrow.Author.Tests.{leb-true, le-leb}
+use lib.Dec.{leb}
+use lib.ListN.{length}
+use Rattle.wire.specs.Pick.{pick}
+use Rattle.wire.specs.Bytes.{part, over}
+use Rattle.packet.specs.declared.Direction.{Direction}
+use Rattle.wire.proofs.Tests.{both-first, both-second}
+use Rattle.wire.proofs.Bytes.{length-part}
+use Rattle.connection.specs.Cycle.{kindOf, inState, inSize, allowed, after, stepOf}
+use Rattle.connection.specs.declared.Kind.{Kind}
+use Rattle.connection.specs.declared.Connection.{Connection}
+use Rattle.connection.specs.declared.Step.{Step}
+use Rattle.connection.proofs.Laws.{step-by}
+use Rattle.payload.specs.Code.{kindAt}
+use Rattle.payload.specs.Kinds.{packetAt, moveIn}
+use Rattle.payload.specs.declared.KindRead.{KindRead}
+use Rattle.packet.specs.declared.Packet.{Packet}
+use Rattle.payload.specs.declared.found.PacketRead.{PacketRead}
+use Rattle.payload.proofs.Parsed.{parsed-kind, move-kind}
+use Rattle.reader.specs.declared.frame.FrameRead.{FrameRead}
+use Rattle.reader.specs.Frame.{frameAt}
+use Rattle.reader.specs.Meaning.{Told, Meaning, needs, refused, accepted, told, placesNeeded}
+use Rattle.reader.specs.Reading.{parsedOf, parseWhole, parseFrame, parse, readAsBody, stepped, accepting, judging, withRoom, reading, tableAfter}
+use Rattle.reader.proofs.Framing.{frame-inside}
+use Rattle.reader.proofs.Below.{places-fit}
+use Rattle.reading_laws.proofs.Later.{Answered}
+
+-- what is behind an accepted packet
+pub record Acceptance (direction : Direction) (c : Connection) (s : List ℕ) (room : ℕ) (t : Told) (taken : ℕ) (next : Connection) : Type 0 where
+  pub kind : Kind
+  pub packet : Packet
+  pub whole-is : frameAt direction s ≡ FrameRead.Whole taken
+  pub kind-is : kindAt direction (readAsBody direction c) (part s 0 taken) ≡ KindRead.Kind kind
+  pub fields-are : packetAt kind (part s 0 taken) .end ≡ PacketRead.Packet packet
+  pub allows : allowed c (moveIn packet) ≡ true
+  pub tells : t ≡ told packet
+  pub steps : next ≡ after c (moveIn packet)
+  pub has-room : placesNeeded t ≤ room
+
+-- of an answer
+abbrev Accepts : Direction → Connection → List ℕ → ℕ → Meaning → Type 0
+Accepts direction c s room (needs n) = Unit
+Accepts direction c s room (refused n) = Unit
+Accepts direction c s room (accepted t taken next) = Acceptance direction c s room t taken next
+
+-- the kind of a packet's move is the kind that it was read as
+move-is : (kind : Kind) (s : List ℕ) (packet : Packet) → packetAt kind s .end ≡ PacketRead.Packet packet → kindOf (moveIn packet) ≡ kind
+move-is kind s packet e = move-kind packet ∙ parsed-kind kind s packet e
+
+module _ (direction : Direction) (c : Connection) (s : List ℕ) where
+  -- a whole packet has its length
+  taken-is : (n : ℕ) → frameAt direction s ≡ FrameRead.Whole n → length (part s 0 n) ≡ n
+  taken-is n e =
+      let inside = frame-inside direction s (FrameRead.Whole n) e in
+      length-part s 0 n (rw (zero-add n) (inside .1 .1))
+
+  module _ (room : ℕ) where
+    -- from what is read to the answer
+    pub accepted-by : (kind : Kind) (packet : Packet) (taken : ℕ) → frameAt direction s ≡ FrameRead.Whole taken
+        → kindAt direction (readAsBody direction c) (part s 0 taken) ≡ KindRead.Kind kind
+        → packetAt kind (part s 0 taken) .end ≡ PacketRead.Packet packet → allowed c (moveIn packet) ≡ true → placesNeeded (told packet) ≤ room
+        → reading direction c s room ≡ accepted (told packet) taken (after c (moveIn packet))
+    unfolding reading parse parseWhole accepting
+    accepted-by kind packet taken w k f a h =
+        let m = moveIn packet in
+        let in-state : inState c (kindOf m) ≡ true = both-first (inState c (kindOf m)) (inSize c m) a in
+        let in-kind : inState c kind ≡ true = ap (inState c) (sym (move-is kind (part s 0 taken) packet f)) ∙ in-state in
+        let step : stepOf c m ≡ Step.Next (after c m) = step-by c m true true in-state (both-second (inState c (kindOf m)) (inSize c m) a) in
+        rw (w, k, in-kind, f, step, le-leb (placesNeeded (told packet)) room h, taken-is taken w)
+
+    accepts : Accepts direction c s room (reading direction c s room)
+    unfolding reading parse parseWhole accepting
+    accepts = by-frame (frameAt direction s) refl
+      where
+        by-room : (n : ℕ) (kind : Kind) (packet : Packet) → frameAt direction s ≡ FrameRead.Whole n
+            → kindAt direction (readAsBody direction c) (part s 0 n) ≡ KindRead.Kind kind
+            → packetAt kind (part s 0 n) .end ≡ PacketRead.Packet packet → allowed c (moveIn packet) ≡ true
+            → (enough : Bool) → leb (placesNeeded (told packet)) room ≡ enough
+            → Accepts direction c s room
+            (pick enough (accepted (told packet) (length (part s 0 n)) (after c (moveIn packet))) (refused 15))
+        by-room n kind packet w k f a false e = tt
+        by-room n kind packet w k f a true e =
+            subst (λ (taken : ℕ). Acceptance direction c s room (told packet) taken (after c (moveIn packet))) (sym (taken-is n w))
+            (record {
+              kind = kind;
+              packet = packet;
+              whole-is = w;
+              kind-is = k;
+              fields-are = f;
+              allows = a;
+              tells = refl;
+              steps = refl;
+              has-room = leb-true (placesNeeded (told packet)) room e;
+            })
+
+        by-size : (n : ℕ) (kind : Kind) (packet : Packet) → frameAt direction s ≡ FrameRead.Whole n
+            → kindAt direction (readAsBody direction c) (part s 0 n) ≡ KindRead.Kind kind
+            → packetAt kind (part s 0 n) .end ≡ PacketRead.Packet packet → inState c (kindOf (moveIn packet)) ≡ true
+            → (size : Bool) → inSize c (moveIn packet) ≡ size
+            → Accepts direction c s room
+            (withRoom room (stepped packet (length (part s 0 n)) (pick size (Step.Next (after c (moveIn packet))) (Step.Refused 14))))
+        by-size n kind packet w k f a false e = tt
+        by-size n kind packet w k f a true e =
+            by-room n kind packet w k f (rw (a, e)) (leb (placesNeeded (told packet)) room) refl
+
+        by-fields : (n : ℕ) (kind : Kind) → frameAt direction s ≡ FrameRead.Whole n
+            → kindAt direction (readAsBody direction c) (part s 0 n) ≡ KindRead.Kind kind → inState c kind ≡ true
+            → (r : PacketRead) → packetAt kind (part s 0 n) .end ≡ r → Accepts direction c s room (withRoom room (accepting c (length (part s 0 n)) r))
+        by-fields n kind w k a (PacketRead.Refused number) e = tt
+        by-fields n kind w k a (PacketRead.Packet packet) e =
+            let m = moveIn packet in
+            let in-state : inState c (kindOf m) ≡ true = ap (inState c) (move-is kind (part s 0 n) packet e) ∙ a in
+            subst (λ (step : Step). Accepts direction c s room (withRoom room (stepped packet (length (part s 0 n)) step)))
+            (sym (step-by c m true (inSize c m) in-state refl))
+            (by-size n kind packet w k e in-state (inSize c m) refl)
+
+        by-state : (n : ℕ) (kind : Kind) → frameAt direction s ≡ FrameRead.Whole n
+            → kindAt direction (readAsBody direction c) (part s 0 n) ≡ KindRead.Kind kind → (now : Bool) → inState c kind ≡ now
+            → Accepts direction c s room (withRoom room (pick now (accepting c (length (part s 0 n)) (packetAt kind (part s 0 n) .end)) (refused 13)))
+        by-state n kind w k false e = tt
+        by-state n kind w k true e = by-fields n kind w k e (packetAt kind (part s 0 n) .end) refl
+
+        by-kind : (n : ℕ) → frameAt direction s ≡ FrameRead.Whole n → (r : KindRead)
+            → kindAt direction (readAsBody direction c) (part s 0 n) ≡ r → Accepts direction c s room (withRoom room (judging c (parsedOf (part s 0 n) r)))
+        by-kind n w (KindRead.Refused number) e = tt
+        by-kind n w (KindRead.Kind kind) e = by-state n kind w e (inState c kind) refl
+
+        by-frame : (f : FrameRead) → frameAt direction s ≡ f
+            → Accepts direction c s room (withRoom room (judging c (parseFrame direction (readAsBody direction c) s f)))
+        by-frame (FrameRead.Needs n) e = tt
+        by-frame (FrameRead.Refused n) e = tt
+        by-frame (FrameRead.Whole n) e = by-kind n e (kindAt direction (readAsBody direction c) (part s 0 n)) refl
+
+    -- from the answer to what was read
+    pub accepted-is : (t : Told) (taken : ℕ) (next : Connection) → reading direction c s room ≡ accepted t taken next
+        → Acceptance direction c s room t taken next
+    accepted-is t taken next e = subst (Accepts direction c s room) e accepts
+
+-- two connections that accept the same bytes, and read them both as a body packet or both by their code, are told the same
+pub same-told : (direction : Direction) (c e : Connection) (s : List ℕ) (room more : ℕ) (t u : Told) (taken used : ℕ) (next other : Connection)
+    → readAsBody direction c ≡ readAsBody direction e → reading direction c s room ≡ accepted t taken next
+    → reading direction e s more ≡ accepted u used other → (t ≡ u) × (taken ≡ used)
+same-told direction c e s room more t u taken used next other b p q =
+    let a = accepted-is direction c s room t taken next p in
+    let o = accepted-is direction e s more u used other q in
+    let w : FrameRead.Whole taken ≡ FrameRead.Whole used = sym (a .whole-is) ∙ o .whole-is in
+    let n : taken ≡ used = cc in
+    let k : KindRead.Kind (a .kind) ≡ KindRead.Kind (o .kind) =
+    sym (a .kind-is) ∙ ap (λ (body : Bool). kindAt direction body (part s 0 taken)) b
+    ∙ ap (λ (m : ℕ). kindAt direction (readAsBody direction e) (part s 0 m)) n ∙ o .kind-is in
+    let i : a .kind ≡ o .kind = cc in
+    let f : PacketRead.Packet (a .packet) ≡ PacketRead.Packet (o .packet) =
+    sym (a .fields-are) ∙ ap (λ (kind : Kind). packetAt kind (part s 0 taken) .end) i
+    ∙ ap (λ (m : ℕ). packetAt (o .kind) (part s 0 m) .end) n ∙ o .fields-are in
+    let same : a .packet ≡ o .packet = cc in
+    (a .tells ∙ ap told same ∙ sym (o .tells), n)
+
+-- an accepted packet fills the table with its own places, as many as it asks for
+pub accepted-fills : (direction : Direction) (c : Connection) (s table : List ℕ) (t : Told) (taken : ℕ) (next : Connection)
+    (e : reading direction c s (length table) ≡ accepted t taken next) → let a = accepted-is direction c s (length table) t taken next e in
+    let places = packetAt (a .kind) (part s 0 taken) .places in
+    (tableAfter direction c s table ≡ over table 0 places) × ((length places ≡ placesNeeded t) × (placesNeeded t ≤ 328))
+unfolding tableAfter parse parseWhole
+accepted-fills direction c s table t taken next e =
+    let a = accepted-is direction c s (length table) t taken next e in
+    let fit = rw (a .fields-are) at (places-fit (part s 0 taken) (a .kind)) in
+    let same : placesNeeded (told (a .packet)) ≡ placesNeeded t = ap placesNeeded (sym (a .tells)) in
+    let many : length (packetAt (a .kind) (part s 0 taken) .places) ≡ placesNeeded t = fit .0 ∙ same in
+    (rw (e, a .whole-is, a .kind-is), (many, rw (sym many) (fit .1)))
+
+-- a refusal and a "needs" leave the table
+pub refused-keeps : (direction : Direction) (c : Connection) (s table : List ℕ) (n : ℕ) → reading direction c s (length table) ≡ refused n
+    → tableAfter direction c s table ≡ table
+unfolding tableAfter
+refused-keeps direction c s table n e = rw e
+
+pub needs-keeps : (direction : Direction) (c : Connection) (s table : List ℕ) (n : ℕ) → reading direction c s (length table) ≡ needs n
+    → tableAfter direction c s table ≡ table
+unfolding tableAfter
+needs-keeps direction c s table n e = rw e
+
+-- a "needs" asks for more bytes than there are, and for no more than a packet may have
+abbrev NeedsMore : ℕ → Meaning → Type 0
+NeedsMore size (needs n) = (size < n) × (n ≤ 8192)
+NeedsMore size (refused n) = Unit
+NeedsMore size (accepted t taken next) = Unit
+
+-- a packet that was read is not answered with "needs"
+pub accepting-answers : (c : Connection) (taken : ℕ) (r : PacketRead) → Answered (accepting c taken r)
+unfolding accepting
+accepting-answers c taken (PacketRead.Refused n) = tt
+accepting-answers c taken (PacketRead.Packet packet) = go (stepOf c (moveIn packet))
+  where
+    go : (step : Step) → Answered (stepped packet taken step)
+    go (Step.Refused n) = tt
+    go (Step.Next next) = tt
+
+pub needs-more : (direction : Direction) (c : Connection) (s : List ℕ) (room n : ℕ) → reading direction c s room ≡ needs n
+    → (length s < n) × (n ≤ 8192)
+unfolding reading parse parseWhole
+needs-more direction c s room n e = subst (NeedsMore (length s)) e (by-frame (frameAt direction s) refl)
+  where
+    lent : (m : Meaning) → Answered m → NeedsMore (length s) (withRoom room m)
+    lent (needs k) h = absurd h
+    lent (refused k) h = tt
+    lent (accepted t taken next) h = go (leb (placesNeeded t) room)
+      where
+        go : (enough : Bool) → NeedsMore (length s) (pick enough (accepted t taken next) (refused 15))
+        go true = tt
+        go false = tt
+
+    by-state : (now : Bool) (m : Meaning) → Answered m → NeedsMore (length s) (withRoom room (pick now m (refused 13)))
+    by-state true m h = lent m h
+    by-state false m h = tt
+
+    by-kind : (packet : List ℕ) (r : KindRead) → NeedsMore (length s) (withRoom room (judging c (parsedOf packet r)))
+    by-kind packet (KindRead.Refused k) = tt
+    by-kind packet (KindRead.Kind kind) = by-state (inState c kind) (accepting c (length packet) (packetAt kind packet .end)) (accepting-answers c (length packet) (packetAt kind packet .end))
+
+    by-frame : (f : FrameRead) → frameAt direction s ≡ f → NeedsMore (length s) (withRoom room (judging c (parseFrame direction (readAsBody direction c) s f)))
+    by-frame (FrameRead.Needs k) q = frame-inside direction s (FrameRead.Needs k) q
+    by-frame (FrameRead.Refused k) q = tt
+    by-frame (FrameRead.Whole k) q = by-kind (part s 0 k) (kindAt direction (readAsBody direction c) (part s 0 k))

@@ -1,0 +1,47 @@
+-- With 328 places or more the table is aside: reading answers what the packet is judged to be, since no packet asks for more.
+-- Assumes nothing.
+use native.Mathlib.Omega.{arith}
+use borrow.Author.Tests.{le-leb}
+use mathlib.Core.Path.{_≡_, refl, ap, _∙_}
+use mathlib.Core.Bool.{Bool}
+use mathlib.Core.List.{List}
+use Prim.Native.Nat.{ℕ, _≤_}
+use Rattle.wire.specs.Pick.{pick}
+use Rattle.wire.specs.Bytes.{part}
+use Rattle.packet.specs.declared.Direction.{Direction}
+use Rattle.connection.specs.declared.Connection.{Connection}
+use Rattle.reader.specs.Meaning.{Told, Meaning, needs, refused, accepted, placesNeeded}
+use Rattle.reader.specs.Reading.{parse, readAsBody, judging, withRoom, reading}
+use Rattle.reading_laws.proofs.Acceptance.{Acceptance, accepted-is}
+use Rattle.reading_laws.proofs.Inside.{told-inside}
+
+-- a table that has room for the places that are asked for
+room-enough : (t : Told) (taken : ℕ) (next : Connection) (room : ℕ) → placesNeeded t ≤ room
+    → withRoom room (accepted t taken next) ≡ accepted t taken next
+room-enough t taken next room h =
+    ap (λ (enough : Bool). pick enough (accepted t taken next) (refused 15)) (le-leb (placesNeeded t) room h)
+
+module _ (d : Direction) (c : Connection) (s : List ℕ) where
+  -- what bytes are judged to be
+  abbrev judged : Meaning
+  judged = judging c (parse d (readAsBody d c) s)
+
+  -- a packet that passes asks for no more than 328 places
+  few-places : (t : Told) (taken : ℕ) (next : Connection) → judged ≡ accepted t taken next → placesNeeded t ≤ 328
+  unfolding reading
+  few-places t taken next e =
+      let room : ℕ = placesNeeded t in
+      let a : Acceptance d c s room t taken next =
+      accepted-is d c s room t taken next (ap (withRoom room) e ∙ room-enough t taken next room (omega arith)) in
+      let most = told-inside (a .kind) (part s 0 taken) (a .packet) (a .fields-are) .places-most in
+      omega (arith, most, ap placesNeeded (a .tells))
+
+  -- reading with 328 places or more is judging with the table aside
+  pub aside : (room : ℕ) → 328 ≤ room → reading d c s room ≡ judging c (parse d (readAsBody d c) s)
+  unfolding reading
+  aside room h = go judged refl
+    where
+      go : (m : Meaning) → judged ≡ m → withRoom room m ≡ m
+      go (needs n) e = refl
+      go (refused n) e = refl
+      go (accepted t taken next) e = room-enough t taken next room (omega (arith, few-places t taken next e))

@@ -1,0 +1,7 @@
+pub mod Later
+pub mod Acceptance
+pub mod Inside
+pub mod Shown
+pub mod Handed
+pub mod StarredSet
+pub mod Aside

@@ -1,0 +1,162 @@
+-- The starred packets of document 01, 'Packets on both sides of the line', each with every state that its line names; where none is named,
+-- with one that allows the packet.
+-- Assumes nothing.
+use mathlib.Core.Bool.{true, false}
+use mathlib.Core.List.{List, [], _∷_}
+use Prim.Native.Nat.{ℕ}
+use Rattle.wire.specs.Refusal.{cutShort, stringWrong, outOfRange, sizeWrong}
+use Rattle.wire.specs.Bytes.{part}
+use Rattle.packet.specs.declared.Direction.{Direction}
+use Rattle.names.specs.Names.{ascii}
+use Rattle.connection.specs.Connection.{fields, bare, fresh}
+use Rattle.connection.specs.declared.State.{State}
+use Rattle.connection.specs.declared.Kind.{Kind}
+use Rattle.connection.specs.declared.Connection.{Connection}
+use Rattle.reader.specs.Meaning.{Told, Meaning, needs, refused, accepted, numbered, parted}
+use Rattle.reader.specs.Reading.{reading}
+
+-- a packet that comes in a direction to an end with this connection, its answer, and the body or chunk that it hands out; no table is lent
+pub record Case : Type 0 where
+  pub direction : Direction
+  pub connection : Connection
+  pub bytes : List ℕ
+  pub answer : Meaning
+  pub handed : List ℕ
+
+-- what an answer hands out of the lent bytes: the body or the chunk
+abbrev pub handedOut : List ℕ → Meaning → List ℕ
+handedOut s (needs n) = []
+handedOut s (refused n) = []
+handedOut s (accepted t taken after) = part s (t .start) (t .len)
+
+-- what reading answers, and hands out
+abbrev pub answered : Case → Meaning × List ℕ
+answered c =
+    let answer = reading (c .direction) (c .connection) (c .bytes) 0 in
+    (answer, handedOut (c .bytes) answer)
+
+-- what document 01 says
+abbrev pub expected : Case → Meaning × List ℕ
+expected c = (c .answer, c .handed)
+
+-- a packet for the container's end
+abbrev toContainer : Connection → List ℕ → Meaning → List ℕ → Case
+toContainer connection bytes answer handed =
+    record { direction = Direction.ToContainer; connection = connection; bytes = bytes; answer = answer; handed = handed }
+
+-- a packet for the server's end
+abbrev toServer : Connection → List ℕ → Meaning → List ℕ → Case
+toServer connection bytes answer handed =
+    record { direction = Direction.ToServer; connection = connection; bytes = bytes; answer = answer; handed = handed }
+
+-- a connection with a body packet due: bytes left, bytes asked for
+abbrev due : ℕ → ℕ → Connection
+due left asked = fields State.Busy left true asked false
+
+-- a connection with a request and no body packet due, before its headers
+abbrev unanswered : Connection
+unanswered = fields State.Busy 0 false 0 false
+
+-- the same after its headers
+abbrev answering : Connection
+answering = fields State.Busy 0 false 0 true
+
+-- CPing
+abbrev cping : List ℕ
+cping =
+    0x12 ∷ 0x34 ∷ 0x00 ∷ 0x01 ∷ 0x0A ∷ []
+
+-- CPong
+abbrev cpong : List ℕ
+cpong =
+    0x41 ∷ 0x42 ∷ 0x00 ∷ 0x01 ∷ 0x09 ∷ []
+
+-- an empty body packet
+abbrev emptyBody : List ℕ
+emptyBody =
+    0x12 ∷ 0x34 ∷ 0x00 ∷ 0x00 ∷ []
+
+-- a body packet that holds "hi"
+abbrev hiBody : List ℕ
+hiBody =
+    0x12 ∷ 0x34 ∷ 0x00 ∷ 0x04 ∷ 0x00 ∷ 0x02 ∷ 0x68 ∷ 0x69 ∷ []
+
+-- End, the connection used again
+abbrev endReuse : List ℕ
+endReuse =
+    0x41 ∷ 0x42 ∷ 0x00 ∷ 0x02 ∷ 0x05 ∷ 0x01 ∷ []
+
+-- End with a boolean of 2
+abbrev endTwo : List ℕ
+endTwo =
+    0x41 ∷ 0x42 ∷ 0x00 ∷ 0x02 ∷ 0x05 ∷ 0x02 ∷ []
+
+-- Get Body Chunk for 8186 bytes
+abbrev getAll : List ℕ
+getAll =
+    0x41 ∷ 0x42 ∷ 0x00 ∷ 0x03 ∷ 0x06 ∷ 0x1F ∷ 0xFA ∷ []
+
+-- a chunk that holds "ok"
+abbrev okChunk : List ℕ
+okChunk =
+    0x41 ∷ 0x42 ∷ 0x00 ∷ 0x06 ∷ 0x03 ∷ 0x00 ∷ 0x02 ∷ 0x6F ∷ 0x6B ∷ 0x00 ∷ []
+
+-- a chunk whose last byte is 1
+abbrev openChunk : List ℕ
+openChunk =
+    0x41 ∷ 0x42 ∷ 0x00 ∷ 0x06 ∷ 0x03 ∷ 0x00 ∷ 0x02 ∷ 0x6F ∷ 0x6B ∷ 0x01 ∷ []
+
+-- Send Headers, 200 OK, no headers
+abbrev okHead : List ℕ
+okHead =
+    0x41 ∷ 0x42 ∷ 0x00 ∷ 0x0A ∷ 0x04 ∷ 0x00 ∷ 0xC8 ∷ 0x00 ∷ 0x02 ∷ 0x4F ∷ 0x4B ∷ 0x00 ∷ 0x00 ∷ 0x00 ∷ []
+
+-- Forward, GET / by HTTP/1.1, port 80, the other strings null
+abbrev getRoot : List ℕ
+getRoot =
+    0x12 ∷ 0x34 ∷ 0x00 ∷ 0x1D ∷ 0x02 ∷ 0x02 ∷ 0x00 ∷ 0x08 ∷ 0x48 ∷ 0x54 ∷ 0x54 ∷ 0x50 ∷ 0x2F ∷ 0x31 ∷ 0x2E ∷ 0x31 ∷ 0x00 ∷ 0x00 ∷ 0x01 ∷ 0x2F ∷ 0x00 ∷ 0xFF ∷ 0xFF ∷ 0xFF ∷ 0xFF ∷ 0xFF ∷ 0xFF ∷ 0x00 ∷ 0x50 ∷ 0x00 ∷ 0x00 ∷ 0x00 ∷ 0xFF ∷ []
+
+-- what Send Headers tells here
+abbrev okTold : Told
+okTold = record {
+  kind = Kind.SendHeaders;
+  numbers = 200 ∷ [];
+  strings = 7 ∷ [];
+  headers = 0;
+  attributes = 0;
+  declared = 0;
+  start = 0;
+  len = 0;
+}
+
+-- what the Forward tells: method 2, port 80, no TLS, and where its five strings are
+abbrev getTold : Told
+getTold = record {
+  kind = Kind.Forward;
+  numbers = 2 ∷ 80 ∷ 0 ∷ [];
+  strings = 6 ∷ 17 ∷ 21 ∷ 23 ∷ 25 ∷ [];
+  headers = 0;
+  attributes = 0;
+  declared = 0;
+  start = 0;
+  len = 0;
+}
+
+-- the starred set
+abbrev pub starred : List Case
+starred =
+    toContainer fresh cping (accepted (numbered Kind.CPing []) 5 (bare State.Pinged)) []
+    ∷ toServer (bare State.Pinged) cpong (accepted (numbered Kind.CPong []) 5 fresh) []
+    ∷ toContainer (due 0 8186) emptyBody (accepted (parted Kind.Body 4 0) 4 unanswered) []
+    ∷ toContainer (due 1 1) emptyBody (refused sizeWrong) []
+    ∷ toContainer fresh emptyBody (refused cutShort) []
+    ∷ toContainer (due 2 8186) hiBody (accepted (parted Kind.Body 6 2) 8 unanswered) (ascii "hi")
+    ∷ toContainer (due 1 8186) hiBody (refused sizeWrong) []
+    ∷ toServer answering endReuse (accepted (numbered Kind.End (1 ∷ [])) 6 fresh) []
+    ∷ toServer answering endTwo (refused outOfRange) []
+    ∷ toServer unanswered getAll (accepted (numbered Kind.GetBody (8186 ∷ [])) 7 (due 0 8186)) []
+    ∷ toServer answering okChunk (accepted (parted Kind.BodyChunk 7 2) 10 answering) (ascii "ok")
+    ∷ toServer answering openChunk (refused stringWrong) []
+    ∷ toServer unanswered okHead (accepted okTold 14 answering) []
+    ∷ toContainer fresh getRoot (accepted getTold 33 unanswered) []
+    ∷ []
