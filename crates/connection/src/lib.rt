@@ -7,6 +7,7 @@ ghost use Rattle.wire.specs.Refusal.{notNow};
 ghost use Prim.Native.Nat.{_-_};
 ghost use lib.Dec.{leb};
 ghost use Rattle.wire.specs.Pick.{pick};
+use packet::BodyLeft;
 use packet::Direction;
 use wire::refusal;
 
@@ -348,19 +349,6 @@ impl Connection {
             return Self::bare(State::Idle);
         }
         Self::bare(State::Closed)
-    }
-}
-
-impl BodyLeft {
-    // What is left when k bytes have come, 0 where that is more than there was.
-    fn less(self, k: usize) -> BodyLeft
-        ensures { λ r. ⌜ r .0 ≡ self .0 - k ⌝ }
-    {
-        let left = self.0 as usize;
-        if left < k {
-            return BodyLeft(0);
-        }
-        BodyLeft((left - k) as u32)
     }
 }
 

@@ -1,6 +1,7 @@
 // What the library hands out: packets as they were read, the parts they are made of, and places in them. Types alone, and the index of a
 // place; whoever uses the library imports them from here.
 ghost use mathlib.Core.Path.{_≡_};
+ghost use Prim.Native.Nat.{_-_};
 
 // Which way a packet goes.
 pub enum Direction {
@@ -10,6 +11,19 @@ pub enum Direction {
 
 // Bytes of a request's body that are still left. No place in a packet can be passed for it.
 pub struct BodyLeft(pub u32);
+
+impl BodyLeft {
+    // What is left when k bytes have come, 0 where that is more than there was.
+    pub fn less(self, k: usize) -> BodyLeft
+        ensures { λ r. ⌜ r .0 ≡ self .0 - k ⌝ }
+    {
+        let left = self.0 as usize;
+        if left < k {
+            return BodyLeft(0);
+        }
+        BodyLeft((left - k) as u32)
+    }
+}
 
 // A place in a packet, counted from its first byte. No number of body bytes can be passed for it.
 pub struct Place(pub u16);

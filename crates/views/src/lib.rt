@@ -15,6 +15,7 @@ use names::header;
 use names::table;
 use packet::AttributeKind;
 use packet::Direction;
+use packet::HeaderName;
 use packet::Name;
 use packet::Part;
 use packet::Place;

@@ -7,6 +7,7 @@ ghost use lib.ListN.{length};
 ghost use Rattle.wire.specs.Bytes.{part};
 ghost use Rattle.wire.specs.Field.{isOptional, lacks, barred, holdsBarred, stringAllowed};
 ghost use Rattle.wire.specs.Packet.{leading};
+use packet::Direction;
 
 pub mod read;
 pub mod refusal;

@@ -22,11 +22,11 @@ begins : (e : tie.Start) → let a = e .args in
     getD (a .firsts .now) (a .k) 0 ≡ firstOf (ignoresCase (a .list)) (getD (namesIn (a .list)) (a .k) [])
 begins e = let a = e .args in ap (λ (l : List ℕ). getD l (a .k) 0) (e .pre .1 .1) ∙ first-in (a .list) (a .k)
 
-element-copy-out-length : tie.Need-element-copy-out-length
-element-copy-out-length c = search needs
+element-copy-out-len : tie.Need-element-copy-out-len
+element-copy-out-len c = search needs
 
-cast-length : tie.Need-cast-length
-cast-length c =
+cast-len : tie.Need-cast-len
+cast-len c =
     let e = c .before .before in
     omega (arith, long e, length-fits (e .args .list) (e .args .k))
 
@@ -72,8 +72,8 @@ pub spells-at-spec : {M : Type 1} → statement M
 spells-at-spec =
     tie.close
     (tie.spec
-    element-copy-out-length
-    cast-length
+    element-copy-out-len
+    cast-len
     returns
     ignores-case-requires
     element-copy-out-if2
