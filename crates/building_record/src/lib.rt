@@ -1,5 +1,5 @@
 // What is known of a Forward or a Send Headers that is being built in pieces: the building record, and whether one can be.
-// This crate alone makes such a record or takes one apart. No call has a condition: any record gets an answer over any buffer.
+// No call has a condition: any record gets an answer over any buffer.
 ghost use mathlib.Core.Path.{_≡_};
 ghost use Rattle.building_record.specs.Record.{kindIn, isForward, directionIn, fields, isPossible, headerNow, attributeNow, countFault};
 use connection::Connection;
@@ -25,12 +25,13 @@ pub enum BuildingKind {
 
 // What is known of a packet that is being built: its kind, how far it reaches, where its count of headers stands, how many headers it
 // has, and whether an attribute was added. The calls for the fixed fields make such a record, and each piece makes the next.
+// Every record has an answer from every call, so its fields are open to the crates that build with it.
 pub struct Building {
-    kind: BuildingKind,
-    next: Place,
-    count: Place,
-    headers: u16,
-    attributes: bool,
+    pub kind: BuildingKind,
+    pub next: Place,
+    pub count: Place,
+    pub headers: u16,
+    pub attributes: bool,
 }
 
 impl BuildingKind {

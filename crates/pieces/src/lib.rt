@@ -30,13 +30,15 @@ fn with_header(building: Building, end: usize) -> Building
     requires { ⌜ (end ≤ maxPacket) × (building .headers < maxHeaders) ⌝ }
     ensures { λ r. ⌜ r ≡ withHeader building end ⌝ }
 {
-    Building::with_fields(
-        building.kind(),
-        Place(end as u16),
-        building.count_place(),
-        building.headers() + 1,
-        building.attributes_began(),
-    )
+    let kind = building.kind;
+    let count = building.count;
+    Building {
+        kind,
+        next: Place(end as u16),
+        count,
+        headers: building.headers + 1,
+        attributes: building.attributes,
+    }
 }
 
 // The record behind an attribute that ends at a place.
@@ -44,13 +46,15 @@ fn with_attribute(building: Building, end: usize) -> Building
     requires { ⌜ end ≤ maxPacket ⌝ }
     ensures { λ r. ⌜ r ≡ withAttribute building end ⌝ }
 {
-    Building::with_fields(
-        building.kind(),
-        Place(end as u16),
-        building.count_place(),
-        building.headers(),
-        true,
-    )
+    let kind = building.kind;
+    let count = building.count;
+    Building {
+        kind,
+        next: Place(end as u16),
+        count,
+        headers: building.headers,
+        attributes: true,
+    }
 }
 
 // The first record of a packet whose fixed fields end at a place; the count is their last two bytes.
@@ -58,11 +62,11 @@ fn opened(kind: BuildingKind, end: usize) -> Building
     requires { ⌜ (countSize ≤ end) × (end ≤ maxPacket) ⌝ }
     ensures { λ r. ⌜ r ≡ opened kind end ⌝ }
 {
-    Building::with_fields(
+    Building {
         kind,
-        Place(end as u16),
-        Place((end - COUNT_SIZE) as u16),
-        0,
-        false,
-    )
+        next: Place(end as u16),
+        count: Place((end - COUNT_SIZE) as u16),
+        headers: 0,
+        attributes: false,
+    }
 }
