@@ -14,8 +14,8 @@ use Rattle.ajp13.proofs.name.put_name.Tie as tie
 name-of-requires : tie.Need-name-of-requires
 name-of-requires c κs = search needs
 
-cast-length : tie.Need-cast-length
-cast-length c =
+cast-size : tie.Need-cast-size
+cast-size c =
     let a = c .before .before .before .before .args in
     omega (arith, ap (λ (n : Name). n .len) (c .before .before .name-of .ensures), name-length (a .list) (a .code) .0)
 
@@ -55,7 +55,7 @@ put-name-spec =
     tie.close
     (tie.spec
     name-of-requires
-    cast-length
+    cast-size
     is-listed-requires
     slice-aggregate-bytes
     bytes-requires
