@@ -57,12 +57,11 @@ pub name-refusal : (d : Direction) (s : List ℕ) (at : ℕ) (r : NameRead) → 
 unfolding nameAt
 name-refusal d s at r e = subst NameRefusal e (go (leb (at + 2) (length s)) (beginsCode (getD s at 0)))
   where
-    abbrev spelling : StringRead
-    spelling = stringAt s at (isOptional StringField.HeaderName)
-
-    go : (t u : Bool) → NameRefusal (pick t (pick u (codeNameOf d (integerAt s at)) (spelledOf d s spelling)) (NameRead.Refused cutShort))
+    go : (t u : Bool)
+        → NameRefusal
+        (pick t (pick u (codeNameOf d (integerAt s at)) (spelledOf d s (stringAt s at (isOptional StringField.HeaderName)))) (NameRead.Refused cutShort))
     go true true = code-refusal d (integerAt s at) (integer-refusal s at (integerAt s at) refl)
-    go true false = spelled-refusal d s spelling (string-refusal s at (isOptional StringField.HeaderName) spelling refl)
+    go true false = spelled-refusal d s _ (string-refusal s at (isOptional StringField.HeaderName) _ refl)
     go false u = refl
 
 -- a header, where it is refused
