@@ -9,7 +9,7 @@ use lib.Bits.{bitOr, or-shr, or-mod}
 use lib.Dec.{leb, eqb}
 use Rattle.wire.specs.Pick.{either}
 use Rattle.names.proofs.Rule.{agree}
-use Rattle.attributes.specs.Seen.{bit, withBit}
+use Rattle.attributes.specs.Private.{bit, withBit}
 
 -- a number of 16 or more
 module _ (set k : ℕ) (high : 16 ≤ k) where

@@ -21,7 +21,7 @@ use Rattle.names.specs.Attribute.{attributeKind, attributeFault}
 use Rattle.packet.specs.declared.AttributeKind.{AttributeKind}
 use Rattle.places.specs.Entries.{Entries, ended, front}
 use Rattle.places.proofs.Filling.{Filling, filling-start, filling-turn, filling-stop, filling-end}
-use Rattle.attributes.specs.Seen.{bit, withBit}
+use Rattle.attributes.specs.Private.{bit, withBit}
 use Rattle.attributes.specs.declared.ValueRead.{ValueRead}
 use Rattle.attributes.specs.declared.AttributeRead.{AttributeRead}
 use Rattle.attributes.specs.declared.AttributesRead.{AttributesRead}

@@ -22,7 +22,7 @@ use Rattle.names.specs.Header.{headerNames, isFound, unlistedFault, spel
 use Rattle.names.specs.Length.{isContentLength}
 use Rattle.names.specs.Names.{ascii, methodNames, requestNames, responseNames, attributeNames, namesIn, firstCode, ignoresCase, isListed, nameFor, letter, sameName, codeFrom, codeIn}
 use Rattle.names.specs.Row.{nameRoom, padded, bytesOf}
-use Rattle.names.specs.Sets.{inSet, hasAll, placeOf}
+use Rattle.names.specs.Private.{inSet, hasAll, placeOf}
 use Rattle.names.proofs.Rule.{values, agree}
 use Rattle.names.proofs.Rows.{all-short, name-room}
 use Rattle.names.proofs.Laws.{bytes-padded, same-length, same-first, name-from}

@@ -13,7 +13,8 @@ use lib.Dec.{leb, lit≤}
 use Rattle.wire.specs.Pick.{all}
 use Rattle.names.specs.declared.NameList.{NameList}
 use Rattle.names.specs.Names.{methodNames, requestNames, responseNames, attributeNames, namesIn, ignoresCase, letter}
-use Rattle.names.specs.Row.{lengthsIn, firstOf, firstsIn, nameRoom, rowOf}
+use Rattle.names.specs.Row.{nameRoom, rowOf}
+use Rattle.names.specs.Private.{lengthsIn, firstOf, firstsIn}
 use Rattle.wire.proofs.Tests.{both-first, both-second}
 
 -- a row of the table of a list of names

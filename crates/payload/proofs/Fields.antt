@@ -18,7 +18,8 @@ use Rattle.wire.proofs.Tests.{both-second}
 use Rattle.wire.proofs.Field.{NumberInside, BooleanInside, StringInside, byte-inside, integer-inside, boolean-inside, string-inside}
 use Rattle.connection.specs.Connection.{maxPacket}
 use Rattle.payload.specs.declared.field.FieldRead.{FieldRead}
-use Rattle.payload.specs.Sequence.{behind, stringField, stringFieldAt, stringAfter, booleanField, booleanFieldAt, booleanAfter, numberField, anyIntegerAfter, bounded, byteAfter, integerAfter, valueOf, Within, Counts}
+use Rattle.payload.specs.Sequence.{behind, stringField, stringFieldAt, stringAfter, booleanField, booleanFieldAt, booleanAfter, numberField, anyIntegerAfter, bounded, byteAfter, integerAfter, valueOf}
+use Rattle.payload.specs.Private.{Within, Counts}
 
 -- a field that lies inside a packet of `size` bytes: its place is before the end, and the place after it is the end or before it
 abbrev pub FieldInside : ℕ → FieldRead → Type 0

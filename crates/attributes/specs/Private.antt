@@ -1,4 +1,5 @@
--- A set of numbers below 16, as the bits of a number.
+-- A set of numbers below 16, as the bits of a number: how the loop keeps the codes that came before. Whoever reads the promises of the
+-- public calls needs none of these.
 -- Document 01, 'What form to use where': the attribute codes seen.
 -- Assumes nothing.
 use mathlib.Core.Bool.{Bool, false}
