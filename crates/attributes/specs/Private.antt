@@ -8,10 +8,14 @@ use lib.Bits.{bitOr}
 use lib.Dec.{leb, eqb}
 use Rattle.wire.specs.Pick.{pick}
 
+-- how many numbers a set may hold: those below this
+abbrev pub setRoom : ℕ
+setRoom = 16
+
 -- whether k is in the set
 unfoldable pub bit : ℕ → ℕ → Bool
-bit set k = pick (leb 16 k) false (eqb (set / 2 ^ k % 2) 1)
+bit set k = pick (leb setRoom k) false (eqb (set / 2 ^ k % 2) 1)
 
 -- the set with k in it
 unfoldable pub withBit : ℕ → ℕ → ℕ
-withBit set k = pick (leb 16 k) set (bitOr set (2 ^ k))
+withBit set k = pick (leb setRoom k) set (bitOr set (2 ^ k))

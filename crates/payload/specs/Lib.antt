@@ -11,3 +11,4 @@ pub mod Forward
 pub mod SendHeaders
 pub mod Kinds
 pub mod Private
+pub mod Facts
