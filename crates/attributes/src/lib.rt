@@ -6,7 +6,7 @@ ghost use Prim.Native.Nat.{_+_, _≤_};
 ghost use lib.ListN.{length};
 ghost use Rattle.wire.specs.Bytes.{over};
 ghost use Rattle.places.specs.Entries.{maxAttributes, maxPlace};
-ghost use Rattle.attributes.specs.Seen.{bit};
+ghost use Rattle.attributes.specs.Private.{bit};
 ghost use Rattle.attributes.specs.Attributes.{textValueAt, integerValueAt, pairValueAt, valueAt, codedAt, attributeAt, attributesAt};
 use names::attribute;
 use packet::AttributeKind;

@@ -10,3 +10,5 @@ pub mod Lists
 pub mod Forward
 pub mod SendHeaders
 pub mod Kinds
+pub mod Private
+pub mod Facts

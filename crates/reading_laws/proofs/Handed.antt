@@ -19,7 +19,8 @@ use Rattle.wire.specs.declared.StringField.{StringField}
 use Rattle.wire.specs.declared.read.NumberRead.{NumberRead}
 use Rattle.wire.specs.declared.read.BooleanRead.{BooleanRead}
 use Rattle.wire.specs.declared.read.StringRead.{StringRead}
-use Rattle.wire.proofs.Field.{NumberInside, BooleanInside, byte-inside, integer-inside, boolean-inside}
+use Rattle.wire.proofs.Field.{byte-inside, integer-inside, boolean-inside}
+use Rattle.wire.specs.Facts.{NumberInside, BooleanInside}
 use Rattle.names.specs.Length.{declaredLength}
 use Rattle.names.specs.Attribute.{attributeKind, attributeFault}
 use Rattle.packet.specs.declared.AttributeKind.{AttributeKind}
