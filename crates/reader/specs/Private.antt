@@ -1,7 +1,6 @@
 -- What the reader's own functions promise to one another: the answer and the table at each stage on the way. Whoever reads the promises of
 -- the public calls needs none of these.
 -- Assumes nothing.
-use mathlib.Core.Path.{_≡_}
 use mathlib.Core.List.{List}
 use Prim.Native.Nat.{ℕ}
 use lib.ListN.{length, take}
@@ -12,11 +11,9 @@ use Rattle.payload.specs.Kinds.{packetAt}
 use Rattle.connection.specs.declared.Step.{Step}
 use Rattle.packet.specs.declared.Part.{Part}
 use Rattle.packet.specs.declared.Packet.{Packet}
-use Rattle.payload.specs.declared.found.PacketRead.{PacketRead}
 use Rattle.reader.specs.declared.short.PartRead.{PartRead}
 use Rattle.reader.specs.Meaning.{Meaning, needs, refused, accepted, placesNeeded}
 use Rattle.reader.specs.Reading.{parseWhole, readAsBody, accepting, judging, withRoom, placesOf, filled}
-use Rattle.reader.specs.Short.{PartMeans}
 
 -- how many places an answer asks of the table
 abbrev pub needed : Meaning → ℕ
@@ -60,7 +57,3 @@ partIn (Packet.End reuse) = noPart
 abbrev pub steppedPart : Part → ℕ → Step → PartRead
 steppedPart part taken (Step.Refused n) = PartRead.Refused n
 steppedPart part taken (Step.Next after) = PartRead.Part part taken after
-
--- a short way's answer to a packet that was read so: what acceptance says, and never that it is another packet
-abbrev pub PartAccepted : Kind → Connection → ℕ → PacketRead → PartRead → Type 0
-PartAccepted kind c taken found r = PartMeans kind ⊥ (λ (m : Meaning). m ≡ accepting c taken found) r

@@ -8,8 +8,9 @@ ghost use Rattle.connection.specs.declared.Kind.{Kind};
 ghost use Rattle.payload.specs.Code.{codePlace};
 ghost use Rattle.payload.specs.Body.{bodyAt};
 ghost use Rattle.payload.specs.BodyChunk.{chunkAt};
-ghost use Rattle.reader.specs.Private.{noPart, partIn, steppedPart, PartAccepted};
-ghost use Rattle.reader.specs.Short.{isChunk, bodySize, chunkSize, PartRight};
+ghost use Rattle.reader.specs.Reading.{accepting};
+ghost use Rattle.reader.specs.Private.{noPart, partIn, steppedPart};
+ghost use Rattle.reader.specs.Short.{isChunk, bodySize, chunkSize, answered, partMeaning, shortReading};
 use crate::frame;
 use connection::Connection;
 use connection::Kind;
@@ -39,7 +40,7 @@ pub enum PartRead {
 
 // The container's end reads the first packet of the bytes where it is whole and a body packet is due. It has no places for the table.
 pub fn read_body(connection: Connection, bytes: &[u8]) -> PartRead
-    ensures { λ r. ⌜ PartRight Direction.ToContainer Kind.Body connection (now (bytes .entry)) r ⌝ }
+    ensures { λ r. ⌜ partMeaning Kind.Body r ≡ shortReading Direction.ToContainer connection (now (bytes .entry)) ⌝ }
 {
     let size = body_size(connection, bytes);
     if size == 0 {
@@ -50,7 +51,7 @@ pub fn read_body(connection: Connection, bytes: &[u8]) -> PartRead
 
 // The server's end reads the first packet of the bytes where it is whole and a Send Body Chunk that is allowed, in the same way.
 pub fn read_body_chunk(connection: Connection, bytes: &[u8]) -> PartRead
-    ensures { λ r. ⌜ PartRight Direction.ToServer Kind.BodyChunk connection (now (bytes .entry)) r ⌝ }
+    ensures { λ r. ⌜ partMeaning Kind.BodyChunk r ≡ shortReading Direction.ToServer connection (now (bytes .entry)) ⌝ }
 {
     let size = chunk_size(connection, bytes);
     if size == 0 {
@@ -95,7 +96,7 @@ fn is_chunk(packet: &[u8]) -> bool
 
 // A body packet: its size, then the step.
 fn body(connection: Connection, packet: &[u8]) -> PartRead
-    ensures { λ r. ⌜ PartAccepted Kind.Body connection (length (now (packet .entry))) (bodyAt (now (packet .entry))) r ⌝ }
+    ensures { λ r. ⌜ partMeaning Kind.Body r ≡ answered (accepting connection (length (now (packet .entry))) (bodyAt (now (packet .entry)))) ⌝ }
 {
     match payload::body::read(packet) {
         PacketRead::Refused(n) => PartRead::Refused(n),
@@ -108,7 +109,7 @@ fn body(connection: Connection, packet: &[u8]) -> PartRead
 
 // A Send Body Chunk, in the same way.
 fn body_chunk(connection: Connection, packet: &[u8]) -> PartRead
-    ensures { λ r. ⌜ PartAccepted Kind.BodyChunk connection (length (now (packet .entry))) (chunkAt (now (packet .entry))) r ⌝ }
+    ensures { λ r. ⌜ partMeaning Kind.BodyChunk r ≡ answered (accepting connection (length (now (packet .entry))) (chunkAt (now (packet .entry)))) ⌝ }
 {
     match payload::body_chunk::read(packet) {
         PacketRead::Refused(n) => PartRead::Refused(n),

@@ -3,6 +3,7 @@
 use mathlib.Core.Path.{refl, sym, ap, _∙_}
 use Rattle.connection.specs.declared.Kind.{Kind}
 use Rattle.reader.specs.Reading.{accepting}
+use Rattle.reader.specs.Short.{answered}
 use Rattle.reader.proofs.ShortWays.{part-stepped}
 use borrow.Author.Needs.{needs}
 use Rattle.reader.proofs.short.body_chunk.Statement.{statement}
@@ -31,7 +32,7 @@ stepped-requires c κs = search needs
 
 returns : tie.Need-returns
 unfolding accepting
-returns c = sym (ap (accepting _ _) (sym (c .before .before .before .read .ensures) ∙ c .before .n .given .1))
+returns c = ap answered (sym (ap (accepting _ _) (sym (c .before .before .before .read .ensures) ∙ c .before .n .given .1)))
 
 returns-2 : tie.Need-returns-2
 returns-2 c =

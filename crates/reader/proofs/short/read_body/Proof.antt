@@ -1,9 +1,9 @@
 -- `reader::short::read_body` meets its contract: a due body packet is answered as reading says.
 -- Assumes nothing.
-use mathlib.Core.Path.{refl, sym, _∙_}
+use mathlib.Core.Path.{refl, _∙_}
 use Rattle.packet.specs.declared.Direction.{Direction}
 use Rattle.connection.specs.declared.Kind.{Kind}
-use Rattle.reader.proofs.ShortWays.{short-body, part-right}
+use Rattle.reader.proofs.ShortWays.{short-body, short-other, short-answers}
 use borrow.Author.Needs.{needs}
 use Rattle.reader.proofs.short.read_body.Statement.{statement}
 use Rattle.reader.proofs.short.read_body.Tie as tie
@@ -12,7 +12,7 @@ body-size-requires : tie.Need-body-size-requires
 body-size-requires c κs = search needs
 
 returns : tie.Need-returns
-returns c = sym (c .before .body-size .ensures) ∙ c .if1 .taken
+returns c = short-other Direction.ToContainer _ _ _ (c .before .body-size .ensures) (c .if1 .taken)
 
 part-of-requires : tie.Need-part-of-requires
 part-of-requires c κs = search needs
@@ -22,9 +22,10 @@ body-requires c κs = search needs
 
 returns-2 : tie.Need-returns-2
 returns-2 c =
-    let a = c .before .before .before .before .before .args in
-    part-right Direction.ToContainer (a .connection) (a .bytes .now) Kind.Body _ _ _ (c .body .result)
-    (short-body _ _ _ (c .before .before .before .body-size .ensures) (c .before .before .if1 .left)) (c .before .part-of .ensures) refl (c .body .ensures)
+    let size = c .before .before .before in
+    let goes = c .before .before .if1 .left in
+    c .body .ensures
+    ∙ short-answers Direction.ToContainer _ _ Kind.Body _ _ _ (size .body-size .ensures) goes (short-body _ _ _ (size .body-size .ensures) goes) (c .before .part-of .ensures) refl
 
 pub read-body-spec : {M : Type 1} → statement M
 read-body-spec =

@@ -1,9 +1,9 @@
 -- `reader::short::read_body_chunk` meets its contract: an allowed Send Body Chunk is answered as reading says.
 -- Assumes nothing.
-use mathlib.Core.Path.{refl, sym, _∙_}
+use mathlib.Core.Path.{refl, _∙_}
 use Rattle.packet.specs.declared.Direction.{Direction}
 use Rattle.connection.specs.declared.Kind.{Kind}
-use Rattle.reader.proofs.ShortWays.{short-chunk, part-right}
+use Rattle.reader.proofs.ShortWays.{short-chunk, short-other, short-answers}
 use borrow.Author.Needs.{needs}
 use Rattle.reader.proofs.short.read_body_chunk.Statement.{statement}
 use Rattle.reader.proofs.short.read_body_chunk.Tie as tie
@@ -12,7 +12,7 @@ chunk-size-requires : tie.Need-chunk-size-requires
 chunk-size-requires c κs = search needs
 
 returns : tie.Need-returns
-returns c = sym (c .before .chunk-size .ensures) ∙ c .if1 .taken
+returns c = short-other Direction.ToServer _ _ _ (c .before .chunk-size .ensures) (c .if1 .taken)
 
 part-of-requires : tie.Need-part-of-requires
 part-of-requires c κs = search needs
@@ -22,9 +22,10 @@ body-chunk-requires c κs = search needs
 
 returns-2 : tie.Need-returns-2
 returns-2 c =
-    let a = c .before .before .before .before .before .args in
-    part-right Direction.ToServer (a .connection) (a .bytes .now) Kind.BodyChunk _ _ _ (c .body-chunk .result)
-    (short-chunk _ _ _ (c .before .before .before .chunk-size .ensures) (c .before .before .if1 .left)) (c .before .part-of .ensures) refl (c .body-chunk .ensures)
+    let size = c .before .before .before in
+    let goes = c .before .before .if1 .left in
+    c .body-chunk .ensures
+    ∙ short-answers Direction.ToServer _ _ Kind.BodyChunk _ _ _ (size .chunk-size .ensures) goes (short-chunk _ _ _ (size .chunk-size .ensures) goes) (c .before .part-of .ensures) refl
 
 pub read-body-chunk-spec : {M : Type 1} → statement M
 read-body-chunk-spec =
