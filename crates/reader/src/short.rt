@@ -44,7 +44,7 @@ pub fn read_body(connection: Connection, bytes: &[u8]) -> PartRead
 {
     let size = body_size(connection, bytes);
     if size == 0 {
-        return PartRead::Other;
+        return PartRead::Other; // not whole, or no body packet is due
     }
     body(connection, part_of(bytes, 0, size))
 }
@@ -55,7 +55,7 @@ pub fn read_body_chunk(connection: Connection, bytes: &[u8]) -> PartRead
 {
     let size = chunk_size(connection, bytes);
     if size == 0 {
-        return PartRead::Other;
+        return PartRead::Other; // not whole, or no chunk that is allowed
     }
     body_chunk(connection, part_of(bytes, 0, size))
 }
