@@ -8,10 +8,6 @@ use Rattle.packet.specs.declared.Direction.{Direction}
 use Rattle.connection.specs.declared.Kind.{Kind}
 use Rattle.connection.specs.declared.Connection.{Connection}
 use Rattle.payload.specs.Kinds.{packetAt}
-use Rattle.connection.specs.declared.Step.{Step}
-use Rattle.packet.specs.declared.Part.{Part}
-use Rattle.packet.specs.declared.Packet.{Packet}
-use Rattle.reader.specs.declared.short.PartRead.{PartRead}
 use Rattle.reader.specs.Meaning.{Meaning, needs, refused, accepted, placesNeeded}
 use Rattle.reader.specs.Reading.{parseWhole, readAsBody, accepting, judging, withRoom, placesOf, filled}
 
@@ -38,22 +34,3 @@ wholeOf direction c s room = withRoom room (judging c (parseWhole direction (rea
 
 unfoldable pub tableWhole : Direction → Connection → List ℕ → List ℕ → List ℕ
 tableWhole direction c s table = filled (wholeOf direction c s (length table)) (placesOf (parseWhole direction (readAsBody direction c) s)) table
-
--- a part of no bytes, and the part of a packet: this one unless it is a body packet or a chunk
-abbrev pub noPart : Part
-noPart = record { start = record { 0 = 0 }; len = 0 }
-
-abbrev pub partIn : Packet → Part
-partIn Packet.CPing = noPart
-partIn Packet.CPong = noPart
-partIn (Packet.Forward f) = noPart
-partIn (Packet.Body p) = p
-partIn (Packet.GetBody asked) = noPart
-partIn (Packet.SendHeaders h) = noPart
-partIn (Packet.BodyChunk p) = p
-partIn (Packet.End reuse) = noPart
-
--- a part that was read, by the step that its packet makes
-abbrev pub steppedPart : Part → ℕ → Step → PartRead
-steppedPart part taken (Step.Refused n) = PartRead.Refused n
-steppedPart part taken (Step.Next after) = PartRead.Part part taken after

@@ -4,8 +4,8 @@ use mathlib.Core.Path.{refl, sym, ap, subst, _∙_}
 use lib.ListN.{length}
 use Rattle.packet.specs.declared.Direction.{Direction}
 use Rattle.connection.specs.declared.Kind.{Kind}
-use Rattle.reader.specs.Short.{partMeaning}
-use Rattle.reader.proofs.ShortWays.{short-reads, short-keeps}
+use Rattle.short_ways.specs.Short.{partMeaning}
+use Rattle.short_ways.proofs.ShortWays.{short-reads, short-keeps}
 use Rattle.ajp13.specs.Reading.{readEffect}
 use Rattle.ajp13.specs.Private.{ReadWithin}
 use Rattle.ajp13.proofs.Within.{read-within}

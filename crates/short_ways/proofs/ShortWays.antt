@@ -1,0 +1,221 @@
+-- The short ways: what is known of a packet that goes one, and that it is answered as reading any packet answers it.
+-- Assumes nothing.
+use mathlib.Core.Path.{_≡_, refl, sym, ap, _∙_}
+use mathlib.Core.Bool.{Bool, true, false, false≢true}
+use mathlib.Core.List.{List, []}
+use Prim.Native.Nat.{ℕ}
+use native.Mathlib.Omega.{arith}
+use borrow.Author.Tests.{ne-eqb, eqb-false}
+use lib.Dec.{eqb}
+use lib.ListN.{length}
+use Rattle.wire.specs.Pick.{pick}
+use Rattle.wire.specs.Bytes.{part}
+use Rattle.wire.specs.Field.{byteAt}
+use Rattle.packet.specs.declared.Direction.{Direction}
+use Rattle.wire.specs.declared.read.NumberRead.{NumberRead}
+use Rattle.places.specs.Entries.{ended}
+use Rattle.connection.specs.Connection.{bodyDue}
+use Rattle.connection.specs.Cycle.{inState, stepOf}
+use Rattle.connection.specs.declared.Kind.{Kind}
+use Rattle.connection.specs.declared.Move.{Move}
+use Rattle.connection.specs.declared.Connection.{Connection}
+use Rattle.connection.specs.declared.Step.{Step}
+use Rattle.payload.specs.Code.{codePlace, codeKind, kindOfCode, kindAt}
+use Rattle.payload.specs.Kinds.{packetAt, kindIn, moveIn}
+use Rattle.payload.specs.declared.KindRead.{KindRead}
+use Rattle.packet.specs.declared.Part.{Part}
+use Rattle.packet.specs.declared.Packet.{Packet}
+use Rattle.payload.specs.declared.found.PacketRead.{PacketRead}
+use Rattle.payload.proofs.Laws.{kind-is}
+use Rattle.payload.proofs.Parsed.{parsed-kind}
+use Rattle.reader.specs.declared.frame.FrameRead.{FrameRead}
+use Rattle.reader.specs.Frame.{frameAt}
+use Rattle.short_ways.specs.declared.PartRead.{PartRead}
+use Rattle.reader.specs.Meaning.{Meaning, Told, accepted, told, parted}
+use Rattle.reader.specs.Reading.{readAsBody, stepped, accepting, reading, tableAfter}
+use Rattle.short_ways.specs.Short.{wholeSize, isChunk, bodySize, chunkSize, shortSize, PartMeaning, other, answered, partMeaning, shortReading}
+use Rattle.short_ways.specs.Private.{partIn, steppedPart}
+use Rattle.reader.proofs.Laws.{accepting-is, plain-is, whole-kind, read-whole}
+
+-- the size of a body packet, by whether one is due
+pub body-size-by : (c : Connection) (s : List ℕ) (due : Bool) → bodyDue c ≡ due
+    → bodySize c s ≡ pick due (wholeSize (frameAt Direction.ToContainer s)) 0
+unfolding bodySize
+body-size-by c s due e = rw e
+
+-- the size of a chunk, by whether it is allowed and whether the packet's code is a chunk's
+pub chunk-size-by : (c : Connection) (s : List ℕ) (n : ℕ) (allowed chunk : Bool) → inState c Kind.BodyChunk ≡ allowed
+    → n ≡ wholeSize (frameAt Direction.ToServer s) → isChunk (byteAt (part s 0 n) codePlace) ≡ chunk
+    → chunkSize c s ≡ pick allowed (pick chunk n 0) 0
+unfolding chunkSize
+chunk-size-by c s n allowed chunk p q e = rw (p, ← q, e)
+
+-- a packet that goes a short way: so many bytes are a whole packet of a kind that is allowed
+pub record Short (d : Direction) (c : Connection) (s : List ℕ) (kind : Kind) (n : ℕ) : Type 0 where
+  pub whole : frameAt d s ≡ FrameRead.Whole n
+  pub kind-read : kindAt d (readAsBody d c) (part s 0 n) ≡ KindRead.Kind kind
+  pub allowed : inState c kind ≡ true
+
+-- a size that is not 0 is a whole packet's
+size-whole : (frame : FrameRead) (n : ℕ) → n ≡ wholeSize frame → (n ≡ 0 → ⊥) → frame ≡ FrameRead.Whole n
+size-whole (FrameRead.Needs k) n e h = absurd (h e)
+size-whole (FrameRead.Refused k) n e h = absurd (h e)
+size-whole (FrameRead.Whole k) n e h = ap FrameRead.Whole (sym e)
+
+-- so it is with a body packet's size
+pub short-body : (c : Connection) (s : List ℕ) (n : ℕ) → n ≡ bodySize c s → (n ≡ 0 → ⊥) → Short Direction.ToContainer c s Kind.Body n
+unfolding bodySize
+short-body c s n e h = go (bodyDue c) refl e
+  where
+    go : (due : Bool) → bodyDue c ≡ due → n ≡ pick due (wholeSize (frameAt Direction.ToContainer s)) 0
+        → Short Direction.ToContainer c s Kind.Body n
+    go false q e = absurd (h e)
+    go true q e = record {
+      whole = size-whole (frameAt Direction.ToContainer s) n e h;
+      kind-read = kind-is Direction.ToContainer (bodyDue c) true (part s 0 n) (byteAt (part s 0 n) codePlace) q refl;
+      allowed = q;
+    }
+
+-- a packet with a chunk's code is a Send Body Chunk
+chunk-kind : (s : List ℕ) → isChunk (byteAt s codePlace) ≡ true → kindAt Direction.ToServer false s ≡ KindRead.Kind Kind.BodyChunk
+unfolding codeKind
+chunk-kind s e = kind-is Direction.ToServer false false s (byteAt s codePlace) refl refl ∙ go (byteAt s codePlace) e
+  where
+    go : (code : NumberRead) → isChunk code ≡ true → kindOfCode Direction.ToServer code ≡ KindRead.Kind Kind.BodyChunk
+    go (NumberRead.Refused n) e = absurd (false≢true e)
+    go (NumberRead.Number code next) e = rw e
+
+-- and with a chunk's
+pub short-chunk : (c : Connection) (s : List ℕ) (n : ℕ) → n ≡ chunkSize c s → (n ≡ 0 → ⊥) → Short Direction.ToServer c s Kind.BodyChunk n
+unfolding chunkSize
+short-chunk c s n e h = go (inState c Kind.BodyChunk) (isChunk (byteAt (part s 0 size) codePlace)) refl refl e
+  where
+    size : ℕ
+    size = wholeSize (frameAt Direction.ToServer s)
+
+    go : (allowed chunk : Bool) → inState c Kind.BodyChunk ≡ allowed → isChunk (byteAt (part s 0 size) codePlace) ≡ chunk
+        → n ≡ pick allowed (pick chunk size 0) 0 → Short Direction.ToServer c s Kind.BodyChunk n
+    go false chunk p q e = absurd (h e)
+    go true false p q e = absurd (h e)
+    go true true p q e = record {
+      whole = size-whole (frameAt Direction.ToServer s) n e h;
+      kind-read = chunk-kind (part s 0 n) (ap (λ (k : ℕ). isChunk (byteAt (part s 0 k) codePlace)) e ∙ q);
+      allowed = p;
+    }
+
+-- a packet without headers that goes a short way: it was stepped by, and the table is as it was
+pub short-is : (d : Direction) (c : Connection) (s table : List ℕ) (kind : Kind) (n : ℕ) (packet : List ℕ) (end : PacketRead) (r : Meaning)
+    → Short d c s kind n → packet ≡ part s 0 n → packetAt kind packet ≡ ended end → r ≡ accepting c (length packet) end
+    → (r ≡ reading d c s (length table)) × (table ≡ tableAfter d c s table)
+short-is d c s table kind n packet end r short p q e =
+    read-whole d c s table n packet r table (short .whole) p
+    (whole-kind d c packet table kind r table (ap (kindAt d (readAsBody d c)) p ∙ short .kind-read) (short .allowed)
+    (plain-is c kind kind packet table end end r refl q refl e))
+
+-- the move of a packet of a kind: of a body packet and of a chunk by its size
+abbrev pub movedBy : Kind → Move → ℕ → Move
+movedBy Kind.CPing m k = m
+movedBy Kind.CPong m k = m
+movedBy Kind.Forward m k = m
+movedBy Kind.Body m k = Move.Body k
+movedBy Kind.GetBody m k = m
+movedBy Kind.SendHeaders m k = m
+movedBy Kind.BodyChunk m k = Move.BodyChunk k
+movedBy Kind.End m k = m
+
+-- what a packet of a kind tells: a body packet and a chunk its part
+abbrev pub toldBy : Kind → Told → Part → Told
+toldBy Kind.CPing t p = t
+toldBy Kind.CPong t p = t
+toldBy Kind.Forward t p = t
+toldBy Kind.Body t p = parted Kind.Body (p .start .0) (p .len)
+toldBy Kind.GetBody t p = t
+toldBy Kind.SendHeaders t p = t
+toldBy Kind.BodyChunk t p = parted Kind.BodyChunk (p .start .0) (p .len)
+toldBy Kind.End t p = t
+
+-- every packet moves and tells so by its own kind
+own : (p : Packet) → (moveIn p ≡ movedBy (kindIn p) (moveIn p) (partIn p .len)) × (told p ≡ toldBy (kindIn p) (told p) (partIn p))
+own Packet.CPing = (refl, refl)
+own Packet.CPong = (refl, refl)
+own (Packet.Forward forward) = (refl, refl)
+own (Packet.Body part) = (refl, refl)
+own (Packet.GetBody asked) = (refl, refl)
+own (Packet.SendHeaders head) = (refl, refl)
+own (Packet.BodyChunk part) = (refl, refl)
+own (Packet.End reuse) = (refl, refl)
+
+-- a part that was stepped by means the packet that was stepped by, which tells so
+part-step : (kind : Kind) (packet : Packet) (part : Part) (taken : ℕ) (step : Step) (m : Meaning) → told packet ≡ parted kind (part .start .0) (part .len)
+    → stepped packet taken step ≡ m → partMeaning kind (steppedPart part taken step) ≡ answered m
+part-step kind packet part taken (Step.Refused n) m t e = ap answered e
+part-step kind packet part taken (Step.Next after) m t e = ap answered (ap (λ (x : Told). accepted x taken after) (sym t) ∙ e)
+
+-- a packet that was read as of a kind with a part, and stepped by the move of that kind with the part's size
+pub part-stepped : (kind : Kind) (c : Connection) (s : List ℕ) (taken : ℕ) (packet : Packet) (part : Part) (step : Step) (r : PartRead)
+    → ((t : Told) → toldBy kind t part ≡ parted kind (part .start .0) (part .len))
+    → packetAt kind s .end ≡ PacketRead.Packet packet → part ≡ partIn packet → step ≡ stepOf c (movedBy kind (moveIn packet) (part .len))
+    → r ≡ steppedPart part taken step → partMeaning kind r ≡ answered (accepting c taken (packetAt kind s .end))
+part-stepped kind c s taken packet part step r tells e q f is =
+    let is-kind : kindIn packet ≡ kind = parsed-kind kind s packet e in
+    let moves : moveIn packet ≡ movedBy kind (moveIn packet) (part .len) =
+    own packet .0
+    ∙ ap (λ (k : Kind). movedBy k (moveIn packet) (partIn packet .len)) is-kind
+    ∙ ap (λ (p : Part). movedBy kind (moveIn packet) (p .len)) (sym q) in
+    let says : told packet ≡ parted kind (part .start .0) (part .len) =
+    own packet .1
+    ∙ ap (λ (k : Kind). toldBy k (told packet) (partIn packet)) is-kind
+    ∙ ap (toldBy kind (told packet)) (sym q)
+    ∙ tells (told packet) in
+    ap (partMeaning kind) is
+    ∙ part-step kind packet part taken step _ says
+    (accepting-is c taken packet step (ap (stepOf c) moves ∙ sym f) ∙ ap (accepting c taken) (sym e))
+
+-- a packet that goes no short way is another one
+pub short-other : (d : Direction) (c : Connection) (s : List ℕ) (n : ℕ) → n ≡ shortSize d c s → n ≡ 0 → other ≡ shortReading d c s
+unfolding shortReading
+short-other d c s n e z = rw (← e, z)
+
+-- a packet without headers that goes a short way is answered by what its fields and its step come to
+pub short-answers : (d : Direction) (c : Connection) (s : List ℕ) (kind : Kind) (n : ℕ) (packet : List ℕ) (end : PacketRead)
+    → n ≡ shortSize d c s → (n ≡ 0 → ⊥) → Short d c s kind n → packet ≡ part s 0 n → packetAt kind packet ≡ ended end
+    → answered (accepting c (length packet) end) ≡ shortReading d c s
+unfolding shortReading
+short-answers d c s kind n packet end e h short p q =
+    rw (← e, ne-eqb n 0 h) (ap answered (short-is d c s [] kind n packet end _ short p q refl .0))
+
+-- what a short way answers, by its size
+answer-by : (d : Direction) (c : Connection) (s : List ℕ) (m : Meaning) → answered m ≡ shortReading d c s
+    → (shortSize d c s ≡ 0 → ⊥) × (m ≡ reading d c s 0)
+unfolding shortReading
+answer-by d c s m e = go (eqb (shortSize d c s) 0) refl e
+  where
+    go : (none : Bool) → eqb (shortSize d c s) 0 ≡ none → answered m ≡ pick none other (answered (reading d c s 0))
+        → (shortSize d c s ≡ 0 → ⊥) × (m ≡ reading d c s 0)
+    go true t e = absurd (let z : _≡_ {A = ℕ} 0 1 = cc in omega arith)
+    go false t e = (eqb-false (shortSize d c s) 0 t, cc)
+
+-- a packet without headers that goes a short way is read the same with any table, which is left as it was
+both-tables : (d : Direction) (c : Connection) (s table : List ℕ) (kind : Kind) (n : ℕ) → Short d c s kind n
+    → packetAt kind (part s 0 n) ≡ ended (packetAt kind (part s 0 n) .end)
+    → (reading d c s 0 ≡ reading d c s (length table)) × (table ≡ tableAfter d c s table)
+both-tables d c s table kind n short q =
+    let without = short-is d c s [] kind n (part s 0 n) _ _ short refl q refl in
+    let lent = short-is d c s table kind n (part s 0 n) _ _ short refl q refl in
+    (sym (without .0) ∙ lent .0, lent .1)
+
+-- so are a body packet and a chunk
+any-table : (d : Direction) (c : Connection) (s table : List ℕ) → (shortSize d c s ≡ 0 → ⊥)
+    → (reading d c s 0 ≡ reading d c s (length table)) × (table ≡ tableAfter d c s table)
+any-table Direction.ToContainer c s table h = both-tables Direction.ToContainer c s table Kind.Body _ (short-body c s _ refl h) refl
+any-table Direction.ToServer c s table h = both-tables Direction.ToServer c s table Kind.BodyChunk _ (short-chunk c s _ refl h) refl
+
+-- where a short way answers, reading answers the same with any table
+pub short-reads : (d : Direction) (c : Connection) (s : List ℕ) (m : Meaning) → answered m ≡ shortReading d c s
+    → (table : List ℕ) → m ≡ reading d c s (length table)
+short-reads d c s m e table = let by = answer-by d c s m e in by .1 ∙ any-table d c s table (by .0) .0
+
+-- and leaves the table as it was
+pub short-keeps : (d : Direction) (c : Connection) (s : List ℕ) (m : Meaning) → answered m ≡ shortReading d c s
+    → (table : List ℕ) → table ≡ tableAfter d c s table
+short-keeps d c s m e table = any-table d c s table (answer-by d c s m e .0) .1
