@@ -26,9 +26,9 @@ use packet::Direction;
 use packet::Part;
 use reader::Received;
 use reader::read;
-use reader::short::PartRead;
-use reader::short::read_body;
-use reader::short::read_body_chunk;
+use short_ways::PartRead;
+use short_ways::read_body;
+use short_ways::read_body_chunk;
 
 // Tells what the reader answered: the status, the connection after it and the answer's words.
 fn tell(received: Received, connection: &mut [u32], answer: &mut [u32]) -> u32

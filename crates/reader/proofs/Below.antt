@@ -5,6 +5,7 @@ use mathlib.Core.List.{List}
 use Prim.Native.Nat.{ℕ, _≤_}
 use native.Mathlib.Omega.{arith}
 use lib.ListN.{length}
+use Rattle.places.specs.Entries.{maxPlaces}
 use Rattle.connection.specs.declared.Kind.{Kind}
 use Rattle.payload.specs.Kinds.{packetAt, kindIn}
 use Rattle.packet.specs.declared.Packet.{Packet}
@@ -15,7 +16,7 @@ use Rattle.reader.specs.Meaning.{told, placesNeeded}
 -- a packet that was read asks for so many places, at most 328
 abbrev pub PlacesFit : ℕ → PacketRead → Type 0
 PlacesFit many (PacketRead.Refused n) = Unit
-PlacesFit many (PacketRead.Packet packet) = (many ≡ placesNeeded (told packet)) × (many ≤ 328)
+PlacesFit many (PacketRead.Packet packet) = (many ≡ placesNeeded (told packet)) × (many ≤ maxPlaces)
 
 module _ (s : List ℕ) where
   -- a packet that is read as its own kind

@@ -11,6 +11,7 @@ use lib.Dec.{leb}
 use lib.ListN.{length, take, drop, length-take}
 use lib.Seq.{take-at}
 use Rattle.wire.specs.Pick.{pick}
+use Rattle.wire.specs.Refusal.{notNow, lentTooShort}
 use Rattle.wire.specs.Bytes.{part, over, put}
 use Rattle.wire.proofs.Bytes.{over-none, put-fits}
 use Rattle.packet.specs.declared.Direction.{Direction}
@@ -39,7 +40,7 @@ accepting-is c taken packet step e = ap (stepped packet taken) (sym e)
 
 -- too little room for the places that an answer asks for
 pub room-short : (m : Meaning) (places table : List ℕ) → leb (needed m) (length table) ≡ false
-    → (refused 15 ≡ withRoom (length table) m) × (table ≡ tableGiven m places table)
+    → (refused lentTooShort ≡ withRoom (length table) m) × (table ≡ tableGiven m places table)
 unfolding tableGiven
 room-short (needs n) places table e = absurd (false≢true (sym e ∙ le-leb 0 (length table) (omega arith)))
 room-short (refused n) places table e = absurd (false≢true (sym e ∙ le-leb 0 (length table) (omega arith)))
@@ -90,8 +91,8 @@ fill-own (refused n) room places blank table h = refl
 fill-own (accepted t taken after) room places blank table h = go (leb (placesNeeded t) room)
   where
     go : (enough : Bool)
-        → filled (pick enough (accepted t taken after) (refused 15)) (take (placesNeeded t) (over blank 0 places)) table
-        ≡ filled (pick enough (accepted t taken after) (refused 15)) places table
+        → filled (pick enough (accepted t taken after) (refused lentTooShort)) (take (placesNeeded t) (over blank 0 places)) table
+        ≡ filled (pick enough (accepted t taken after) (refused lentTooShort)) places table
     go true = ap (over table 0) (ap (λ (n : ℕ). take n (over blank 0 places)) (sym h) ∙ take-laid blank places)
     go false = refl
 
@@ -140,7 +141,7 @@ module _ (direction : Direction) (c : Connection) (s table : List ℕ) where
 
   -- a kind that is not allowed now
   pub whole-not : (kind : Kind) → kindAt direction (readAsBody direction c) s ≡ KindRead.Kind kind → inState c kind ≡ false
-      → (refused 13 ≡ wholeOf direction c s (length table)) × (table ≡ tableWhole direction c s table)
+      → (refused notNow ≡ wholeOf direction c s (length table)) × (table ≡ tableWhole direction c s table)
   unfolding wholeOf tableWhole parseWhole
   whole-not kind e q = rw (e, q) (refl, refl)
 

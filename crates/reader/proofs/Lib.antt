@@ -1,4 +1,3 @@
 pub mod Framing
 pub mod Below
 pub mod Laws
-pub mod ShortWays

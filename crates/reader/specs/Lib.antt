@@ -1,5 +1,4 @@
 pub mod Frame
 pub mod Meaning
 pub mod Reading
-pub mod Short
 pub mod Private

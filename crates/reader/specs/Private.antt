@@ -1,7 +1,6 @@
 -- What the reader's own functions promise to one another: the answer and the table at each stage on the way. Whoever reads the promises of
 -- the public calls needs none of these.
 -- Assumes nothing.
-use mathlib.Core.Path.{_≡_}
 use mathlib.Core.List.{List}
 use Prim.Native.Nat.{ℕ}
 use lib.ListN.{length, take}
@@ -9,14 +8,8 @@ use Rattle.packet.specs.declared.Direction.{Direction}
 use Rattle.connection.specs.declared.Kind.{Kind}
 use Rattle.connection.specs.declared.Connection.{Connection}
 use Rattle.payload.specs.Kinds.{packetAt}
-use Rattle.connection.specs.declared.Step.{Step}
-use Rattle.packet.specs.declared.Part.{Part}
-use Rattle.packet.specs.declared.Packet.{Packet}
-use Rattle.payload.specs.declared.found.PacketRead.{PacketRead}
-use Rattle.reader.specs.declared.short.PartRead.{PartRead}
 use Rattle.reader.specs.Meaning.{Meaning, needs, refused, accepted, placesNeeded}
 use Rattle.reader.specs.Reading.{parseWhole, readAsBody, accepting, judging, withRoom, placesOf, filled}
-use Rattle.reader.specs.Short.{PartMeans}
 
 -- how many places an answer asks of the table
 abbrev pub needed : Meaning → ℕ
@@ -41,26 +34,3 @@ wholeOf direction c s room = withRoom room (judging c (parseWhole direction (rea
 
 unfoldable pub tableWhole : Direction → Connection → List ℕ → List ℕ → List ℕ
 tableWhole direction c s table = filled (wholeOf direction c s (length table)) (placesOf (parseWhole direction (readAsBody direction c) s)) table
-
--- a part of no bytes, and the part of a packet: this one unless it is a body packet or a chunk
-abbrev pub noPart : Part
-noPart = record { start = record { 0 = 0 }; len = 0 }
-
-abbrev pub partIn : Packet → Part
-partIn Packet.CPing = noPart
-partIn Packet.CPong = noPart
-partIn (Packet.Forward f) = noPart
-partIn (Packet.Body p) = p
-partIn (Packet.GetBody asked) = noPart
-partIn (Packet.SendHeaders h) = noPart
-partIn (Packet.BodyChunk p) = p
-partIn (Packet.End reuse) = noPart
-
--- a part that was read, by the step that its packet makes
-abbrev pub steppedPart : Part → ℕ → Step → PartRead
-steppedPart part taken (Step.Refused n) = PartRead.Refused n
-steppedPart part taken (Step.Next after) = PartRead.Part part taken after
-
--- a short way's answer to a packet that was read so: what acceptance says, and never that it is another packet
-abbrev pub PartAccepted : Kind → Connection → ℕ → PacketRead → PartRead → Type 0
-PartAccepted kind c taken found r = PartMeans kind ⊥ (λ (m : Meaning). m ≡ accepting c taken found) r

@@ -2,7 +2,6 @@
 ghost use mathlib.Core.Path.{_≡_};
 ghost use Rattle.wire.specs.declared.read.NumberRead.{NumberRead};
 ghost use Rattle.reader.specs.Frame.{leadingDiffers, differs, frameAt, lengthAt};
-ghost use Rattle.reader.specs.Short.{wholeSize};
 use crate::LENGTH_PLACE;
 use connection::Connection;
 use packet::Direction;
@@ -50,17 +49,6 @@ pub fn frame(bytes: &[u8], direction: Direction) -> FrameRead
     match read::integer(bytes, LENGTH_PLACE) {
         NumberRead::Refused(n) => FrameRead::Needs(HEAD),
         NumberRead::Number { value, next } => sized(bytes.len(), value),
-    }
-}
-
-// How many bytes the first packet has where it is whole, else 0.
-pub fn whole_size(bytes: &[u8], direction: Direction) -> usize
-    ensures { λ r. ⌜ r ≡ wholeSize (frameAt direction (now (bytes .entry))) ⌝ }
-{
-    match frame(bytes, direction) {
-        FrameRead::Needs(n) => 0,
-        FrameRead::Refused(n) => 0,
-        FrameRead::Whole(n) => n,
     }
 }
 

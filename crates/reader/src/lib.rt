@@ -1,5 +1,5 @@
 // Reading at both ends: takes a packet out of lent bytes, checks it, tells what it is, fills the lent table and steps the connection.
-// `read_at_container` and `read_at_server` answer for any connection, any bytes and any table. `short` reads the packets of a body by themselves, for a caller that reads many of them.
+// `read_at_container` and `read_at_server` answer for any connection, any bytes and any table.
 ghost use mathlib.Core.Path.{_≡_};
 ghost use Prim.Native.Nat.{_≤_};
 ghost use lib.ListN.{length};
@@ -22,8 +22,7 @@ use places::first;
 use wire::part_of;
 use wire::refusal;
 
-mod frame;
-pub mod short;
+pub mod frame;
 
 use crate::frame::FrameRead;
 

@@ -1,10 +1,11 @@
 -- `read::ajp13_read_at_container` meets its contract: a due body packet is told of as its short way answers, and every other packet is read as any.
 -- Assumes nothing.
-use mathlib.Core.Path.{refl, sym, subst, _∙_}
+use mathlib.Core.Path.{refl, sym, ap, subst, _∙_}
 use lib.ListN.{length}
 use Rattle.packet.specs.declared.Direction.{Direction}
 use Rattle.connection.specs.declared.Kind.{Kind}
-use Rattle.reader.specs.Short.{PartRight}
+use Rattle.short_ways.specs.Short.{partMeaning}
+use Rattle.short_ways.proofs.ShortWays.{short-reads, short-keeps}
 use Rattle.ajp13.specs.Reading.{readEffect}
 use Rattle.ajp13.specs.Private.{ReadWithin}
 use Rattle.ajp13.proofs.Within.{read-within}
@@ -56,8 +57,8 @@ tell-part-requires c κs =
     let found = c .before .before .before .before .before in
     let conn = found .before .connection-in in
     let a = c .before .before .before .before .before .before .before .before .before .before .before .before .before .before .before .before .args in
-    let is = subst (PartRight Direction.ToContainer Kind.Body (conn .result) (a .bytes .now)) (c .before .before .before .part .given .1) (found .read-body .ensures) (a .table .now) in
-    (right (found .before .before .before) .takes, (refl, subst ReadWithin (sym (is .0)) (read-within Direction.ToContainer (conn .result) (a .bytes .now) (length (a .table .now)))))
+    let is = ap (partMeaning Kind.Body) (sym (c .before .before .before .part .given .1)) ∙ found .read-body .ensures in
+    (right (found .before .before .before) .takes, (refl, subst ReadWithin (sym (short-reads Direction.ToContainer (conn .result) (a .bytes .now) _ is (a .table .now))) (read-within Direction.ToContainer (conn .result) (a .bytes .now) (length (a .table .now)))))
 
 same-length-3 : tie.Need-same-length-3
 same-length-3 c = search needs
@@ -87,10 +88,10 @@ returns-3 c =
     let conn = found .before .connection-in in
     let e = found .before .before .before in
     let a = e .before .before .before .before .before .before .before .before .args in
-    let is = subst (PartRight Direction.ToContainer Kind.Body (conn .result) (a .bytes .now)) (c .before .n .given .1) (found .read-body .ensures) (a .table .now) in
+    let is = ap (partMeaning Kind.Body) (sym (c .before .n .given .1)) ∙ found .read-body .ensures in
     read-leaves Direction.ToContainer (a .connection .now) (a .bytes .now) (a .table .now) (a .answer .now) _ _
     (e .before .call-fault .ensures) (e .if1 .left)
-    (sound-reading Direction.ToContainer (a .connection .now) (a .bytes .now) (a .table .now) (a .answer .now) (conn .result) _ _ _ (conn .ensures) (is .0) (is .1) refl)
+    (sound-reading Direction.ToContainer (a .connection .now) (a .bytes .now) (a .table .now) (a .answer .now) (conn .result) _ _ _ (conn .ensures) (short-reads Direction.ToContainer (conn .result) (a .bytes .now) _ is (a .table .now)) (short-keeps Direction.ToContainer (conn .result) (a .bytes .now) _ is (a .table .now)) refl)
 
 same-length-8 : tie.Need-same-length-8
 same-length-8 c = search needs
@@ -104,10 +105,10 @@ returns-4 c =
     let conn = found .before .connection-in in
     let e = found .before .before .before in
     let a = e .before .before .before .before .before .before .before .before .args in
-    let is = subst (PartRight Direction.ToContainer Kind.Body (conn .result) (a .bytes .now)) (c .before .before .before .before .before .before .before .before .part .given .1) (found .read-body .ensures) (a .table .now) in
+    let is = ap (partMeaning Kind.Body) (sym (c .before .before .before .before .before .before .before .before .part .given .1)) ∙ found .read-body .ensures in
     read-leaves Direction.ToContainer (a .connection .now) (a .bytes .now) (a .table .now) (a .answer .now) _ _
     (e .before .call-fault .ensures) (e .if1 .left)
-    (sound-reading Direction.ToContainer (a .connection .now) (a .bytes .now) (a .table .now) (a .answer .now) (conn .result) _ _ _ (conn .ensures) (is .0) (is .1) (c .before .before .before .before .tell-part .ensures (a .table .now)))
+    (sound-reading Direction.ToContainer (a .connection .now) (a .bytes .now) (a .table .now) (a .answer .now) (conn .result) _ _ _ (conn .ensures) (short-reads Direction.ToContainer (conn .result) (a .bytes .now) _ is (a .table .now)) (short-keeps Direction.ToContainer (conn .result) (a .bytes .now) _ is (a .table .now)) (c .before .before .before .before .tell-part .ensures (a .table .now)))
 
 pub ajp13-read-at-container-spec : {M : Type 1} → statement M
 ajp13-read-at-container-spec =

@@ -8,9 +8,10 @@ ghost use Rattle.connection.specs.declared.Kind.{Kind};
 ghost use Rattle.payload.specs.Code.{codePlace};
 ghost use Rattle.payload.specs.Body.{bodyAt};
 ghost use Rattle.payload.specs.BodyChunk.{chunkAt};
-ghost use Rattle.reader.specs.Private.{noPart, partIn, steppedPart, PartAccepted};
-ghost use Rattle.reader.specs.Short.{isChunk, bodySize, chunkSize, PartRight};
-use crate::frame;
+ghost use Rattle.reader.specs.Frame.{frameAt};
+ghost use Rattle.reader.specs.Reading.{accepting};
+ghost use Rattle.short_ways.specs.Private.{noPart, partIn, steppedPart};
+ghost use Rattle.short_ways.specs.Short.{wholeSize, isChunk, bodySize, chunkSize, answered, partMeaning, shortReading};
 use connection::Connection;
 use connection::Kind;
 use connection::Step;
@@ -21,6 +22,8 @@ use packet::Place;
 use payload::BODY_CHUNK;
 use payload::CODE_PLACE;
 use payload::found::PacketRead;
+use reader::frame::FrameRead;
+use reader::frame::frame;
 use wire::part_of;
 use wire::read::NumberRead;
 use wire::read::byte;
@@ -39,22 +42,22 @@ pub enum PartRead {
 
 // The container's end reads the first packet of the bytes where it is whole and a body packet is due. It has no places for the table.
 pub fn read_body(connection: Connection, bytes: &[u8]) -> PartRead
-    ensures { λ r. ⌜ PartRight Direction.ToContainer Kind.Body connection (now (bytes .entry)) r ⌝ }
+    ensures { λ r. ⌜ partMeaning Kind.Body r ≡ shortReading Direction.ToContainer connection (now (bytes .entry)) ⌝ }
 {
     let size = body_size(connection, bytes);
     if size == 0 {
-        return PartRead::Other;
+        return PartRead::Other; // not whole, or no body packet is due
     }
     body(connection, part_of(bytes, 0, size))
 }
 
 // The server's end reads the first packet of the bytes where it is whole and a Send Body Chunk that is allowed, in the same way.
 pub fn read_body_chunk(connection: Connection, bytes: &[u8]) -> PartRead
-    ensures { λ r. ⌜ PartRight Direction.ToServer Kind.BodyChunk connection (now (bytes .entry)) r ⌝ }
+    ensures { λ r. ⌜ partMeaning Kind.BodyChunk r ≡ shortReading Direction.ToServer connection (now (bytes .entry)) ⌝ }
 {
     let size = chunk_size(connection, bytes);
     if size == 0 {
-        return PartRead::Other;
+        return PartRead::Other; // not whole, or no chunk that is allowed
     }
     body_chunk(connection, part_of(bytes, 0, size))
 }
@@ -66,7 +69,7 @@ fn body_size(connection: Connection, bytes: &[u8]) -> usize
     if !connection.is_body_due() {
         return 0;
     }
-    frame::whole_size(bytes, Direction::ToContainer)
+    whole_size(bytes, Direction::ToContainer)
 }
 
 // How many bytes the first packet has where it is whole and a Send Body Chunk that is allowed, else 0.
@@ -76,11 +79,22 @@ fn chunk_size(connection: Connection, bytes: &[u8]) -> usize
     if !connection.allows(Kind::BodyChunk) {
         return 0;
     }
-    let size = frame::whole_size(bytes, Direction::ToServer);
+    let size = whole_size(bytes, Direction::ToServer);
     if !is_chunk(part_of(bytes, 0, size)) {
         return 0;
     }
     size
+}
+
+// How many bytes the first packet has where it is whole, else 0.
+fn whole_size(bytes: &[u8], direction: Direction) -> usize
+    ensures { λ r. ⌜ r ≡ wholeSize (frameAt direction (now (bytes .entry))) ⌝ }
+{
+    match frame(bytes, direction) {
+        FrameRead::Needs(n) => 0,
+        FrameRead::Refused(n) => 0,
+        FrameRead::Whole(n) => n,
+    }
 }
 
 // Whether a packet has a code, and it is the one of a Send Body Chunk.
@@ -95,7 +109,7 @@ fn is_chunk(packet: &[u8]) -> bool
 
 // A body packet: its size, then the step.
 fn body(connection: Connection, packet: &[u8]) -> PartRead
-    ensures { λ r. ⌜ PartAccepted Kind.Body connection (length (now (packet .entry))) (bodyAt (now (packet .entry))) r ⌝ }
+    ensures { λ r. ⌜ partMeaning Kind.Body r ≡ answered (accepting connection (length (now (packet .entry))) (bodyAt (now (packet .entry)))) ⌝ }
 {
     match payload::body::read(packet) {
         PacketRead::Refused(n) => PartRead::Refused(n),
@@ -108,7 +122,7 @@ fn body(connection: Connection, packet: &[u8]) -> PartRead
 
 // A Send Body Chunk, in the same way.
 fn body_chunk(connection: Connection, packet: &[u8]) -> PartRead
-    ensures { λ r. ⌜ PartAccepted Kind.BodyChunk connection (length (now (packet .entry))) (chunkAt (now (packet .entry))) r ⌝ }
+    ensures { λ r. ⌜ partMeaning Kind.BodyChunk r ≡ answered (accepting connection (length (now (packet .entry))) (chunkAt (now (packet .entry)))) ⌝ }
 {
     match payload::body_chunk::read(packet) {
         PacketRead::Refused(n) => PartRead::Refused(n),

@@ -1,4 +1,4 @@
--- `reader::short::chunk_size` meets its contract, by whether a chunk is allowed and whether the packet is one.
+-- `short_ways::chunk_size` meets its contract, by whether a chunk is allowed and whether the packet is one.
 -- Assumes nothing.
 use mathlib.Core.Path.{_≡_, refl, sym, ap, _∙_}
 use mathlib.Core.Bool.{Bool, true, false}
@@ -8,11 +8,11 @@ use borrow.Author.Tests.{not-true, not-false}
 use Rattle.wire.specs.Pick.{pick}
 use Rattle.wire.specs.Field.{byteAt}
 use Rattle.payload.specs.Code.{codePlace}
-use Rattle.reader.specs.Short.{isChunk, chunkSize}
-use Rattle.reader.proofs.ShortWays.{chunk-size-by}
+use Rattle.short_ways.specs.Short.{isChunk, chunkSize}
+use Rattle.short_ways.proofs.ShortWays.{chunk-size-by}
 use borrow.Author.Needs.{needs}
-use Rattle.reader.proofs.short.chunk_size.Statement.{statement}
-use Rattle.reader.proofs.short.chunk_size.Tie as tie
+use Rattle.short_ways.proofs.chunk_size.Statement.{statement}
+use Rattle.short_ways.proofs.chunk_size.Tie as tie
 
 allows-requires : tie.Need-allows-requires
 allows-requires c κs = search needs

@@ -1,10 +1,10 @@
--- `reader::frame::whole_size` meets its contract, by the frame.
+-- `short_ways::whole_size` meets its contract, by the frame.
 -- Assumes nothing.
 use mathlib.Core.Path.{sym, ap, _∙_}
-use Rattle.reader.specs.Short.{wholeSize}
+use Rattle.short_ways.specs.Short.{wholeSize}
 use borrow.Author.Needs.{needs}
-use Rattle.reader.proofs.frame.whole_size.Statement.{statement}
-use Rattle.reader.proofs.frame.whole_size.Tie as tie
+use Rattle.short_ways.proofs.whole_size.Statement.{statement}
+use Rattle.short_ways.proofs.whole_size.Tie as tie
 
 frame-requires : tie.Need-frame-requires
 frame-requires c κs = search needs

@@ -1,10 +1,10 @@
--- `reader::short::part_in` meets its contract, packet by packet.
+-- `short_ways::part_in` meets its contract, packet by packet.
 -- Assumes nothing.
 use mathlib.Core.Path.{sym, ap, _∙_}
-use Rattle.reader.specs.Private.{partIn}
+use Rattle.short_ways.specs.Private.{partIn}
 use borrow.Author.Needs.{needs}
-use Rattle.reader.proofs.short.part_in.Statement.{statement}
-use Rattle.reader.proofs.short.part_in.Tie as tie
+use Rattle.short_ways.proofs.part_in.Statement.{statement}
+use Rattle.short_ways.proofs.part_in.Tie as tie
 
 enum-told : tie.Need-enum-told
 enum-told c = search needs

@@ -1,11 +1,9 @@
 -- The short ways: a body packet and a Send Body Chunk, read apart from every other packet, are answered as reading says.
 -- Assumes nothing.
-use mathlib.Core.Path.{_≡_}
 use mathlib.Core.Bool.{Bool, false}
 use mathlib.Core.List.{List}
 use Prim.Native.Nat.{ℕ}
 use lib.Dec.{eqb}
-use lib.ListN.{length}
 use Rattle.wire.specs.Pick.{pick}
 use Rattle.wire.specs.Bytes.{part}
 use Rattle.wire.specs.Field.{byteAt}
@@ -15,11 +13,11 @@ use Rattle.connection.specs.Cycle.{inState}
 use Rattle.connection.specs.declared.Kind.{Kind}
 use Rattle.connection.specs.declared.Connection.{Connection}
 use Rattle.payload.specs.Code.{codeOf, codePlace}
 use Rattle.reader.specs.declared.frame.FrameRead.{FrameRead}
-use Rattle.reader.specs.declared.short.PartRead.{PartRead}
+use Rattle.short_ways.specs.declared.PartRead.{PartRead}
 use Rattle.reader.specs.Frame.{frameAt}
 use Rattle.reader.specs.Meaning.{Meaning, refused, accepted, parted}
-use Rattle.reader.specs.Reading.{reading, tableAfter}
+use Rattle.reader.specs.Reading.{reading}
 
 -- how many bytes a packet has where it is whole, else 0
 abbrev pub wholeSize : FrameRead → ℕ
@@ -49,16 +47,18 @@ abbrev pub shortSize : Direction → Connection → List ℕ → ℕ
 shortSize Direction.ToContainer c s = bodySize c s
 shortSize Direction.ToServer c s = chunkSize c s
 
--- what an answer means has a property; that the packet is another one says this
-abbrev pub PartMeans : Kind → Type 0 → (Meaning → Type 0) → PartRead → Type 0
-PartMeans kind other P PartRead.Other = other
-PartMeans kind other P (PartRead.Refused n) = P (refused n)
-PartMeans kind other P (PartRead.Part part taken after) = P (accepted (parted kind (part .start .0) (part .len)) taken after)
+-- what a short way answers: that the packet is another one, or what reading a packet answers
+pub data PartMeaning : Type 0 where
+  other : PartMeaning
+  answered : Meaning → PartMeaning
 
--- a meaning that is the answer of reading, whatever the table, which is left as it was
-abbrev pub Read : Direction → Connection → List ℕ → Meaning → Type 0
-Read direction c s m = (table : List ℕ) → (m ≡ reading direction c s (length table)) × (table ≡ tableAfter direction c s table)
+-- what each case of the answer says; the part is that of a packet of this kind
+abbrev pub partMeaning : Kind → PartRead → PartMeaning
+partMeaning kind PartRead.Other = other
+partMeaning kind (PartRead.Refused n) = answered (refused n)
+partMeaning kind (PartRead.Part part taken after) = answered (accepted (parted kind (part .start .0) (part .len)) taken after)
 
--- an answer that is right at the end to which packets of this direction go: another packet where it goes no short way, else what reading says
-abbrev pub PartRight : Direction → Kind → Connection → List ℕ → PartRead → Type 0
-PartRight direction kind c s r = PartMeans kind (shortSize direction c s ≡ 0) (Read direction c s) r
+-- the answer of a short way, at the end to which packets of this direction go: another packet where it goes none, else what reading
+-- answers with a table of no places, which is what it answers with any table
+unfoldable pub shortReading : Direction → Connection → List ℕ → PartMeaning
+shortReading direction c s = pick (eqb (shortSize direction c s) 0) other (answered (reading direction c s 0))

@@ -1,9 +1,12 @@
 -- The short ways: what is known of a packet that goes one, and that it is answered as reading any packet answers it.
 -- Assumes nothing.
-use mathlib.Core.Path.{_≡_, refl, sym, ap, subst, _∙_}
+use mathlib.Core.Path.{_≡_, refl, sym, ap, _∙_}
 use mathlib.Core.Bool.{Bool, true, false, false≢true}
-use mathlib.Core.List.{List}
+use mathlib.Core.List.{List, []}
 use Prim.Native.Nat.{ℕ}
+use native.Mathlib.Omega.{arith}
+use borrow.Author.Tests.{ne-eqb, eqb-false}
+use lib.Dec.{eqb}
 use lib.ListN.{length}
 use Rattle.wire.specs.Pick.{pick}
 use Rattle.wire.specs.Bytes.{part}
@@ -25,14 +28,14 @@ use Rattle.packet.specs.declared.Packet.{Packet}
 use Rattle.payload.specs.declared.found.PacketRead.{PacketRead}
 use Rattle.payload.proofs.Laws.{kind-is}
 use Rattle.payload.proofs.Parsed.{parsed-kind}
 use Rattle.reader.specs.declared.frame.FrameRead.{FrameRead}
 use Rattle.reader.specs.Frame.{frameAt}
-use Rattle.reader.specs.declared.short.PartRead.{PartRead}
+use Rattle.short_ways.specs.declared.PartRead.{PartRead}
 use Rattle.reader.specs.Meaning.{Meaning, Told, accepted, told, parted}
 use Rattle.reader.specs.Reading.{readAsBody, stepped, accepting, reading, tableAfter}
-use Rattle.reader.specs.Short.{wholeSize, isChunk, bodySize, chunkSize, PartMeans, Read, PartRight}
-use Rattle.reader.specs.Private.{partIn, steppedPart, PartAccepted}
+use Rattle.short_ways.specs.Short.{wholeSize, isChunk, bodySize, chunkSize, shortSize, PartMeaning, other, answered, partMeaning, shortReading}
+use Rattle.short_ways.specs.Private.{partIn, steppedPart}
 use Rattle.reader.proofs.Laws.{accepting-is, plain-is, whole-kind, read-whole}
 
 -- the size of a body packet, by whether one is due
 pub body-size-by : (c : Connection) (s : List ℕ) (due : Bool) → bodyDue c ≡ due
@@ -109,13 +112,6 @@ short-is d c s table kind n packet end r short p q e =
     (whole-kind d c packet table kind r table (ap (kindAt d (readAsBody d c)) p ∙ short .kind-read) (short .allowed)
     (plain-is c kind kind packet table end end r refl q refl e))
 
--- what a short way's answer means has a property, and so every property that follows from it
-pub part-so : (kind : Kind) (other : Type 0) (P Q : Meaning → Type 0) (r : PartRead) → ((m : Meaning) → P m → Q m) → PartMeans kind ⊥ P r
-    → PartMeans kind other Q r
-part-so kind other P Q PartRead.Other f h = absurd h
-part-so kind other P Q (PartRead.Refused n) f h = f _ h
-part-so kind other P Q (PartRead.Part part taken after) f h = f _ h
-
 -- the move of a packet of a kind: of a body packet and of a chunk by its size
 abbrev pub movedBy : Kind → Move → ℕ → Move
 movedBy Kind.CPing m k = m
@@ -151,15 +147,15 @@ own (Packet.End reuse) = (refl, refl)
 
 -- a part that was stepped by means the packet that was stepped by, which tells so
 part-step : (kind : Kind) (packet : Packet) (part : Part) (taken : ℕ) (step : Step) (m : Meaning) → told packet ≡ parted kind (part .start .0) (part .len)
-    → stepped packet taken step ≡ m → PartMeans kind ⊥ (λ (n : Meaning). n ≡ m) (steppedPart part taken step)
-part-step kind packet part taken (Step.Refused n) m t e = e
-part-step kind packet part taken (Step.Next after) m t e = ap (λ (x : Told). accepted x taken after) (sym t) ∙ e
+    → stepped packet taken step ≡ m → partMeaning kind (steppedPart part taken step) ≡ answered m
+part-step kind packet part taken (Step.Refused n) m t e = ap answered e
+part-step kind packet part taken (Step.Next after) m t e = ap answered (ap (λ (x : Told). accepted x taken after) (sym t) ∙ e)
 
 -- a packet that was read as of a kind with a part, and stepped by the move of that kind with the part's size
 pub part-stepped : (kind : Kind) (c : Connection) (s : List ℕ) (taken : ℕ) (packet : Packet) (part : Part) (step : Step) (r : PartRead)
     → ((t : Told) → toldBy kind t part ≡ parted kind (part .start .0) (part .len))
     → packetAt kind s .end ≡ PacketRead.Packet packet → part ≡ partIn packet → step ≡ stepOf c (movedBy kind (moveIn packet) (part .len))
-    → r ≡ steppedPart part taken step → PartAccepted kind c taken (packetAt kind s .end) r
+    → r ≡ steppedPart part taken step → partMeaning kind r ≡ answered (accepting c taken (packetAt kind s .end))
 part-stepped kind c s taken packet part step r tells e q f is =
     let is-kind : kindIn packet ≡ kind = parsed-kind kind s packet e in
     let moves : moveIn packet ≡ movedBy kind (moveIn packet) (part .len) =
@@ -171,13 +167,55 @@ part-stepped kind c s taken packet part step r tells e q f is =
     ∙ ap (λ (k : Kind). toldBy k (told packet) (partIn packet)) is-kind
     ∙ ap (toldBy kind (told packet)) (sym q)
     ∙ tells (told packet) in
-    subst (PartAccepted kind c taken (packetAt kind s .end)) (sym is)
-    (part-step kind packet part taken step _ says
-    (accepting-is c taken packet step (ap (stepOf c) moves ∙ sym f) ∙ ap (accepting c taken) (sym e)))
+    ap (partMeaning kind) is
+    ∙ part-step kind packet part taken step _ says
+    (accepting-is c taken packet step (ap (stepOf c) moves ∙ sym f) ∙ ap (accepting c taken) (sym e))
 
--- an answer to a packet that goes a short way is right
-pub part-right : (d : Direction) (c : Connection) (s : List ℕ) (kind : Kind) (n : ℕ) (packet : List ℕ) (end : PacketRead) (r : PartRead)
-    → Short d c s kind n → packet ≡ part s 0 n → packetAt kind packet ≡ ended end → PartAccepted kind c (length packet) end r → PartRight d kind c s r
-part-right d c s kind n packet end r short p q =
-    part-so kind _ (λ (m : Meaning). m ≡ accepting c (length packet) end) (Read d c s) r
-    (λ m e table. short-is d c s table kind n packet end m short p q e)
+-- a packet that goes no short way is another one
+pub short-other : (d : Direction) (c : Connection) (s : List ℕ) (n : ℕ) → n ≡ shortSize d c s → n ≡ 0 → other ≡ shortReading d c s
+unfolding shortReading
+short-other d c s n e z = rw (← e, z)
+
+-- a packet without headers that goes a short way is answered by what its fields and its step come to
+pub short-answers : (d : Direction) (c : Connection) (s : List ℕ) (kind : Kind) (n : ℕ) (packet : List ℕ) (end : PacketRead)
+    → n ≡ shortSize d c s → (n ≡ 0 → ⊥) → Short d c s kind n → packet ≡ part s 0 n → packetAt kind packet ≡ ended end
+    → answered (accepting c (length packet) end) ≡ shortReading d c s
+unfolding shortReading
+short-answers d c s kind n packet end e h short p q =
+    rw (← e, ne-eqb n 0 h) (ap answered (short-is d c s [] kind n packet end _ short p q refl .0))
+
+-- what a short way answers, by its size
+answer-by : (d : Direction) (c : Connection) (s : List ℕ) (m : Meaning) → answered m ≡ shortReading d c s
+    → (shortSize d c s ≡ 0 → ⊥) × (m ≡ reading d c s 0)
+unfolding shortReading
+answer-by d c s m e = go (eqb (shortSize d c s) 0) refl e
+  where
+    go : (none : Bool) → eqb (shortSize d c s) 0 ≡ none → answered m ≡ pick none other (answered (reading d c s 0))
+        → (shortSize d c s ≡ 0 → ⊥) × (m ≡ reading d c s 0)
+    go true t e = absurd (let z : _≡_ {A = ℕ} 0 1 = cc in omega arith)
+    go false t e = (eqb-false (shortSize d c s) 0 t, cc)
+
+-- a packet without headers that goes a short way is read the same with any table, which is left as it was
+both-tables : (d : Direction) (c : Connection) (s table : List ℕ) (kind : Kind) (n : ℕ) → Short d c s kind n
+    → packetAt kind (part s 0 n) ≡ ended (packetAt kind (part s 0 n) .end)
+    → (reading d c s 0 ≡ reading d c s (length table)) × (table ≡ tableAfter d c s table)
+both-tables d c s table kind n short q =
+    let without = short-is d c s [] kind n (part s 0 n) _ _ short refl q refl in
+    let lent = short-is d c s table kind n (part s 0 n) _ _ short refl q refl in
+    (sym (without .0) ∙ lent .0, lent .1)
+
+-- so are a body packet and a chunk
+any-table : (d : Direction) (c : Connection) (s table : List ℕ) → (shortSize d c s ≡ 0 → ⊥)
+    → (reading d c s 0 ≡ reading d c s (length table)) × (table ≡ tableAfter d c s table)
+any-table Direction.ToContainer c s table h = both-tables Direction.ToContainer c s table Kind.Body _ (short-body c s _ refl h) refl
+any-table Direction.ToServer c s table h = both-tables Direction.ToServer c s table Kind.BodyChunk _ (short-chunk c s _ refl h) refl
+
+-- where a short way answers, reading answers the same with any table
+pub short-reads : (d : Direction) (c : Connection) (s : List ℕ) (m : Meaning) → answered m ≡ shortReading d c s
+    → (table : List ℕ) → m ≡ reading d c s (length table)
+short-reads d c s m e table = let by = answer-by d c s m e in by .1 ∙ any-table d c s table (by .0) .0
+
+-- and leaves the table as it was
+pub short-keeps : (d : Direction) (c : Connection) (s : List ℕ) (m : Meaning) → answered m ≡ shortReading d c s
+    → (table : List ℕ) → table ≡ tableAfter d c s table
+short-keeps d c s m e table = any-table d c s table (answer-by d c s m e .0) .1

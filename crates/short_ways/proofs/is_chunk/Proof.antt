@@ -1,10 +1,10 @@
--- `reader::short::is_chunk` meets its contract, by the code as read.
+-- `short_ways::is_chunk` meets its contract, by the code as read.
 -- Assumes nothing.
 use mathlib.Core.Path.{sym, ap, _∙_}
-use Rattle.reader.specs.Short.{isChunk}
+use Rattle.short_ways.specs.Short.{isChunk}
 use borrow.Author.Needs.{needs}
-use Rattle.reader.proofs.short.is_chunk.Statement.{statement}
-use Rattle.reader.proofs.short.is_chunk.Tie as tie
+use Rattle.short_ways.proofs.is_chunk.Statement.{statement}
+use Rattle.short_ways.proofs.is_chunk.Tie as tie
 
 byte-requires : tie.Need-byte-requires
 byte-requires c κs = search needs

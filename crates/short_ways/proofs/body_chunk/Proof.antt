@@ -1,12 +1,13 @@
--- `reader::short::body_chunk` meets its contract, by what is read and by the step.
+-- `short_ways::body_chunk` meets its contract, by what is read and by the step.
 -- Assumes nothing.
 use mathlib.Core.Path.{refl, sym, ap, _∙_}
 use Rattle.connection.specs.declared.Kind.{Kind}
 use Rattle.reader.specs.Reading.{accepting}
-use Rattle.reader.proofs.ShortWays.{part-stepped}
+use Rattle.short_ways.specs.Short.{answered}
+use Rattle.short_ways.proofs.ShortWays.{part-stepped}
 use borrow.Author.Needs.{needs}
-use Rattle.reader.proofs.short.body_chunk.Statement.{statement}
-use Rattle.reader.proofs.short.body_chunk.Tie as tie
+use Rattle.short_ways.proofs.body_chunk.Statement.{statement}
+use Rattle.short_ways.proofs.body_chunk.Tie as tie
 
 read-requires : tie.Need-read-requires
 read-requires c κs = search needs
@@ -31,7 +32,7 @@ stepped-requires c κs = search needs
 
 returns : tie.Need-returns
 unfolding accepting
-returns c = sym (ap (accepting _ _) (sym (c .before .before .before .read .ensures) ∙ c .before .n .given .1))
+returns c = ap answered (sym (ap (accepting _ _) (sym (c .before .before .before .read .ensures) ∙ c .before .n .given .1)))
 
 returns-2 : tie.Need-returns-2
 returns-2 c =

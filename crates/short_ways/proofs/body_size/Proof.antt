@@ -1,12 +1,12 @@
--- `reader::short::body_size` meets its contract, by whether a body packet is due.
+-- `short_ways::body_size` meets its contract, by whether a body packet is due.
 -- Assumes nothing.
 use mathlib.Core.Path.{sym, _∙_}
 use mathlib.Core.Bool.{true, false}
 use borrow.Author.Tests.{not-true, not-false}
-use Rattle.reader.proofs.ShortWays.{body-size-by}
+use Rattle.short_ways.proofs.ShortWays.{body-size-by}
 use borrow.Author.Needs.{needs}
-use Rattle.reader.proofs.short.body_size.Statement.{statement}
-use Rattle.reader.proofs.short.body_size.Tie as tie
+use Rattle.short_ways.proofs.body_size.Statement.{statement}
+use Rattle.short_ways.proofs.body_size.Tie as tie
 
 is-body-due-requires : tie.Need-is-body-due-requires
 is-body-due-requires c κs = search needs

@@ -1,10 +1,10 @@
--- `reader::short::stepped` meets its contract, by the step.
+-- `short_ways::stepped` meets its contract, by the step.
 -- Assumes nothing.
 use mathlib.Core.Path.{sym, ap}
-use Rattle.reader.specs.Private.{steppedPart}
+use Rattle.short_ways.specs.Private.{steppedPart}
 use borrow.Author.Needs.{needs}
-use Rattle.reader.proofs.short.stepped.Statement.{statement}
-use Rattle.reader.proofs.short.stepped.Tie as tie
+use Rattle.short_ways.proofs.stepped.Statement.{statement}
+use Rattle.short_ways.proofs.stepped.Tie as tie
 
 enum-known-step : tie.Need-enum-known-step
 enum-known-step c = search needs
