@@ -10,3 +10,4 @@ pub mod Lists
 pub mod Forward
 pub mod SendHeaders
 pub mod Kinds
+pub mod Handed
