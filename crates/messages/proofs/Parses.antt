@@ -45,7 +45,8 @@ use Rattle.reader.specs.Reading.{readAsBody, reading}
 use Rattle.reader.specs.declared.frame.FrameRead.{FrameRead}
 use Rattle.reader.proofs.Framing.{frame-inside}
 use Rattle.reading_laws.proofs.Acceptance.{accepted-by, accepted-is}
-use Rattle.reading_laws.proofs.Later.{Answered, later-answer}
+use Rattle.reading_laws.specs.Acceptance.{Answered}
+use Rattle.reading_laws.proofs.Later.{later-answer}
 use Rattle.reading_laws.proofs.Inside.{told-inside}
 use Rattle.messages.proofs.Frames.{part-whole, frame-written, head-kept}
 

@@ -4,3 +4,4 @@ pub mod Below
 pub mod Listing
 pub mod Parsed
 pub mod Refusals
+pub mod Handed

@@ -12,3 +12,4 @@ pub mod SendHeaders
 pub mod Kinds
 pub mod Private
 pub mod Facts
+pub mod Handed
