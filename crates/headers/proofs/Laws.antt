@@ -217,7 +217,7 @@ later-inside n at value next count places (HeadersRead.Headers declared end) h j
 
 -- what holds of later headers holds with one in front of them
 read-more : (n at count : ℕ) (r : HeaderRead) (later : Declared → ℕ → Entries HeadersRead) → HeaderInside n at r
-    → ((now : Declared) (next : ℕ) → Read n next count (later now next)) → Read n at (suc count) (andThen at r later)
+    → ((after : Declared) (next : ℕ) → Read n next count (later after next)) → Read n at (suc count) (andThen at r later)
 unfolding all
 read-more n at count (HeaderRead.Refused k) later i f = record {
   few = omega arith;
@@ -243,8 +243,8 @@ read-all d s at zero declared = record {
   inside = (refl, (omega arith, λ h. h));
 }
 read-all d s at (suc count) declared =
-    read-more (length s) at count (headerAt d s at declared) (λ now next. headersAt d s next count now)
-    (header-inside d s at declared (headerAt d s at declared) refl) (λ now next. read-all d s next count now)
+    read-more (length s) at count (headerAt d s at declared) (λ after next. headersAt d s next count after)
+    (header-inside d s at declared (headerAt d s at declared) refl) (λ after next. read-all d s next count after)
 
 -- headers from a place on
 module _ (d : Direction) (s : List ℕ) (at count : ℕ) (declared : Declared) where

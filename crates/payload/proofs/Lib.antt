@@ -3,3 +3,4 @@ pub mod Fields
 pub mod Below
 pub mod Listing
 pub mod Parsed
+pub mod Refusals
