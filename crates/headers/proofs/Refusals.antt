@@ -52,6 +52,11 @@ spelled-refusal d s (StringRead.Null next) h = refl
 spelled-refusal d s (StringRead.Text start len next) h =
     unless-refusal (spelledFault d (part s start len)) (NameRead.Spelled start len next) (spelled-fault d (part s start len)) tt
 
+spelled-at-refusal : (d : Direction) (s : List ℕ) (at : ℕ) → NameRefusal (spelledOf d s (stringAt s at (isOptional StringField.HeaderName)))
+spelled-at-refusal d s at =
+    let optional = isOptional StringField.HeaderName in
+    spelled-refusal d s (stringAt s at optional) (string-refusal s at optional (stringAt s at optional) refl)
+
 -- the name at a place
 pub name-refusal : (d : Direction) (s : List ℕ) (at : ℕ) (r : NameRead) → nameAt d s at ≡ r → NameRefusal r
 unfolding nameAt
@@ -61,7 +66,7 @@ name-refusal d s at r e = subst NameRefusal e (go (leb (at + 2) (length s)) (beg
         → NameRefusal
         (pick t (pick u (codeNameOf d (integerAt s at)) (spelledOf d s (stringAt s at (isOptional StringField.HeaderName)))) (NameRead.Refused cutShort))
     go true true = code-refusal d (integerAt s at) (integer-refusal s at (integerAt s at) refl)
-    go true false = spelled-refusal d s _ (string-refusal s at (isOptional StringField.HeaderName) _ refl)
+    go true false = spelled-at-refusal d s at
     go false u = refl
 
 -- a header, where it is refused
