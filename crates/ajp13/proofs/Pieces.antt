@@ -15,7 +15,7 @@ use Rattle.fields.specs.Call.{Call, Outcome, refused, done, refusalOf, outcome,
 use Rattle.fields.proofs.Sizes.{unless-none}
 use Rattle.building_record.specs.Record.{isPossible}
 use Rattle.building_record.specs.declared.Building.{Building}
-use Rattle.pieces.proofs.Possible.{possible-yes}
+use Rattle.building_record.proofs.Laws.{possible-yes}
 use Rattle.ajp13.specs.Status as status
 use Rattle.ajp13.specs.Words.{buildingRoom, buildingFault, buildingIn, buildingWords}
 use Rattle.ajp13.specs.Building.{Piece, PieceEffect, pieceLeaves, afterAdding, pieceEffect}

@@ -1,9 +1,10 @@
 -- The building record of a Forward or a Send Headers, and which records cannot be.
 -- Document 01, 'Building', and row 16 of 'Refusal numbers'.
 -- Assumes nothing.
+use mathlib.Core.Path.{_≡_}
 use mathlib.Core.Bool.{Bool, true, false, not}
 use mathlib.Core.List.{List}
-use Prim.Native.Nat.{ℕ, _+_, _-_}
+use Prim.Native.Nat.{ℕ, _+_, _-_, _≤_}
 use lib.Dec.{leb, ltb, eqb}
 use lib.ListN.{length, getD}
 use Rattle.wire.specs.Pick.{both}
@@ -46,6 +47,21 @@ isPossible r buffer =
     (both (leb payloadPlace (r .count .0))
     (both (leb (r .count .0 + countSize) (r .next .0))
     (both (leb (r .headers) maxHeaders) (eqb (getD buffer codePlace 0) (codeOf (kindIn (r .kind))))))))
+
+-- the same as statements, one a clause
+pub record Possible (r : Building) (buffer : List ℕ) : Type 0 where
+  -- the next place is within what a packet may have
+  pub within : r .next .0 ≤ maxPacket
+  -- and within the buffer
+  pub inside : r .next .0 ≤ length buffer
+  -- the count does not begin before the payload
+  pub behind : payloadPlace ≤ r .count .0
+  -- and ends no later than at the next place
+  pub apart : r .count .0 + countSize ≤ r .next .0
+  -- no more headers came than may
+  pub few : r .headers ≤ maxHeaders
+  -- the packet's code is where it belongs
+  pub code : getD buffer codePlace 0 ≡ codeOf (kindIn (r .kind))
 
 -- which way the packet goes that is being built
 abbrev pub directionIn : Building → Direction

@@ -27,7 +27,7 @@ use Rattle.fields.specs.Call.{Outcome, refused, done}
 use Rattle.fields.proofs.Sizes.{or-first, or-second, unless-none, fit-none, fit-by}
 use Rattle.building_record.specs.declared.Building.{Building}
 use Rattle.building_record.specs.Record.{kindIn, directionIn, isPossible}
-use Rattle.pieces.proofs.Possible.{possible-yes}
+use Rattle.building_record.proofs.Laws.{possible-yes}
 use Rattle.writer.specs.declared.Sent.{Sent}
 use Rattle.writer.specs.Meaning.{Written, meaning, isWritten}
 use Rattle.reader.specs.declared.frame.FrameRead.{FrameRead}

@@ -10,6 +10,8 @@ use lib.ListN.{length, take, drop}
 use Rattle.wire.specs.Pick.{pick}
 use Rattle.wire.specs.Bytes.{part, over}
 use Rattle.wire.proofs.Bytes.{length-over, over-before, over-behind, over-there}
+use Rattle.wire.specs.Refusal.{lentTooShort, tooLong}
+use Rattle.connection.specs.Connection.{maxPacket}
 use Rattle.fields.specs.Fault.{orElse, firstFault, fitFault}
 use Rattle.fields.specs.Field.{sizeTold, Fits}
 use Rattle.fields.specs.Call.{Call, refused, done, refusalOf, answered, outcome, bufferAfter}
@@ -99,19 +101,19 @@ unfolding outcome refusalOf
 outcome-by call room fit own e = rw (own, e)
 
 -- what fits exactly, or more loosely, is done
-pub fits-done : {A : Type 0} (call : Call A) (room : ℕ) → firstFault (call .faults) ≡ 0 → call .at + length (call .bytes) ≤ 8192
+pub fits-done : {A : Type 0} (call : Call A) (room : ℕ) → firstFault (call .faults) ≡ 0 → call .at + length (call .bytes) ≤ maxPacket
     → call .at + length (call .bytes) ≤ room → outcome call room ≡ done (call .answer)
 fits-done call room own within fits =
-    outcome-by call room 0 own (sym (fit-by (call .at + length (call .bytes)) room true true (le-leb _ 8192 within) (le-leb _ room fits)))
+    outcome-by call room 0 own (sym (fit-by (call .at + length (call .bytes)) room true true (le-leb _ maxPacket within) (le-leb _ room fits)))
 
 -- with one byte less, or fewer still, it is 15
-pub short-refused : {A : Type 0} (call : Call A) (room : ℕ) → firstFault (call .faults) ≡ 0 → call .at + length (call .bytes) ≤ 8192
-    → room < call .at + length (call .bytes) → outcome call room ≡ refused 15
+pub short-refused : {A : Type 0} (call : Call A) (room : ℕ) → firstFault (call .faults) ≡ 0 → call .at + length (call .bytes) ≤ maxPacket
+    → room < call .at + length (call .bytes) → outcome call room ≡ refused lentTooShort
 short-refused call room own within short =
-    outcome-by call room 15 own (sym (fit-by (call .at + length (call .bytes)) room true false (le-leb _ 8192 within) (lt-leb _ room short)))
+    outcome-by call room lentTooShort own (sym (fit-by (call .at + length (call .bytes)) room true false (le-leb _ maxPacket within) (lt-leb _ room short)))
 
 -- past 8192 it is 2, whatever the buffer
-pub long-refused : {A : Type 0} (call : Call A) (room : ℕ) → firstFault (call .faults) ≡ 0 → 8192 < call .at + length (call .bytes)
-    → outcome call room ≡ refused 2
+pub long-refused : {A : Type 0} (call : Call A) (room : ℕ) → firstFault (call .faults) ≡ 0 → maxPacket < call .at + length (call .bytes)
+    → outcome call room ≡ refused tooLong
 long-refused call room own long =
-    outcome-by call room 2 own (sym (fit-by (call .at + length (call .bytes)) room false _ (lt-leb _ 8192 long) refl))
+    outcome-by call room tooLong own (sym (fit-by (call .at + length (call .bytes)) room false _ (lt-leb _ maxPacket long) refl))

@@ -3,3 +3,4 @@ pub mod Rows
 pub mod Calls
 pub mod Judged
 pub mod Faults
+pub mod Refusals

@@ -9,10 +9,11 @@ use mathlib.Core.List.{List, [], _∷_, _++_, append-assoc, append-nil}
 use Prim.Native.Nat.{ℕ, _+_, _≤_}
 use lib.ListN.{length, length-append}
 use Rattle.wire.specs.Bytes.{over}
-use Rattle.wire.specs.Field.{stringBytes, putString}
+use Rattle.wire.specs.Field.{stringBytes, putString, nullLength}
 use Rattle.wire.proofs.Bytes.{length-over, over-none, over-over, put-fits}
 use Rattle.wire.proofs.Field.{size-text}
 use Rattle.connection.specs.declared.Kind.{Kind}
+use Rattle.connection.specs.Connection.{maxPacket}
 use Rattle.payload.specs.Code.{codeOf}
 use Rattle.fields.specs.Field.{Field, bytesOf, Fits}
 
@@ -29,7 +30,7 @@ module _ (l : List ℕ) (at : ℕ) (a b : List ℕ) (h : Fits at (a ++ b) l) whe
   fits-first =
       let n : length (a ++ b) ≡ length a + length b = length-append a b in
       let p : at + length (a ++ b) ≤ length l = h .0 in
-      let q : at + length (a ++ b) ≤ 8192 = h .1 in
+      let q : at + length (a ++ b) ≤ maxPacket = h .1 in
       (omega arith, omega arith)
 
   -- where the first are written, the later ones fit behind them
@@ -37,7 +38,7 @@ module _ (l : List ℕ) (at : ℕ) (a b : List ℕ) (h : Fits at (a ++ b) l) whe
   fits-later x next e f =
       let n : length (a ++ b) ≡ length a + length b = length-append a b in
       let p : at + length (a ++ b) ≤ length l = h .0 in
-      let q : at + length (a ++ b) ≤ 8192 = h .1 in
+      let q : at + length (a ++ b) ≤ maxPacket = h .1 in
       let k : length x ≡ length l = ap length e ∙ length-over l at a (omega arith) in
       (omega arith, omega arith)
 
@@ -63,8 +64,8 @@ unfolding putString
 string-fits l at true text h = put-fits l at (stringBytes true text) (h .0)
 string-fits l at false text h =
     let n : length (stringBytes false text) ≡ length text + 3 = size-text false text refl in
-    let k : at + length (stringBytes false text) ≤ 8192 = h .1 in
-    rw (lt-ltb (length text) 65535 (omega arith)) (put-fits l at (stringBytes false text) (h .0))
+    let k : at + length (stringBytes false text) ≤ maxPacket = h .1 in
+    rw (lt-ltb (length text) nullLength (omega arith)) (put-fits l at (stringBytes false text) (h .0))
 
 -- a code is one byte
 pub code-small : (kind : Kind) → codeOf kind ≤ 10

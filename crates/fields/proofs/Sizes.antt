@@ -10,6 +10,8 @@ use lib.Dec.{leb, eqb}
 use Rattle.wire.specs.Pick.{pick, both}
 use lib.ListN.{length}
 use Rattle.wire.specs.Field.{booleanBytes}
+use Rattle.wire.specs.Refusal.{lentTooShort, outOfRange, tooLong}
+use Rattle.connection.specs.Connection.{maxPacket}
 use Rattle.fields.specs.Fault.{unless, orElse, faultAfter, rangeFault, fitFault}
 use Rattle.fields.specs.Field.{sizeTold}
 
@@ -41,11 +43,11 @@ unless-none true fault some h = refl
 unless-none false fault some h = absurd (omega (arith, some, h))
 
 -- a size up to 8193 is told as it is, a greater one as 8193
-pub told-exact : (n : ℕ) → n ≤ 8193 → sizeTold n ≡ n
+pub told-exact : (n : ℕ) → n ≤ maxPacket + 1 → sizeTold n ≡ n
 unfolding sizeTold
 told-exact n h = omega arith
 
-pub told-over : (n : ℕ) → 8193 ≤ n → sizeTold n ≡ 8193
+pub told-over : (n : ℕ) → maxPacket + 1 ≤ n → sizeTold n ≡ maxPacket + 1
 unfolding sizeTold
 told-over n h = omega arith
 
@@ -61,39 +63,39 @@ told-behind before size told behind p q = q ∙ ap (λ (n : ℕ). sizeTold (n + 
 -- bytes fit the packet and the buffer as they do by the size that is told
 pub fit-told : (n room : ℕ) → fitFault (sizeTold n) room ≡ fitFault n room
 unfolding fitFault
-fit-told n room = go (leb n 8192) refl
+fit-told n room = go (leb n maxPacket) refl
   where
-    go : (t : Bool) → leb n 8192 ≡ t → fitFault (sizeTold n) room ≡ fitFault n room
-    go true e = ap (λ (k : ℕ). fitFault k room) (told-exact n (omega (arith, leb-true n 8192 e)))
+    go : (t : Bool) → leb n maxPacket ≡ t → fitFault (sizeTold n) room ≡ fitFault n room
+    go true e = ap (λ (k : ℕ). fitFault k room) (told-exact n (omega (arith, leb-true n maxPacket e)))
     go false e =
-        let h : 8192 < n = leb-false n 8192 e in
-        let k : sizeTold n ≡ 8193 = told-over n (omega arith) in
+        let h : maxPacket < n = leb-false n maxPacket e in
+        let k : sizeTold n ≡ maxPacket + 1 = told-over n (omega arith) in
         rw (k, e)
 
 -- what no fault of fitting says
-pub fit-none : (end room : ℕ) → fitFault end room ≡ 0 → (end ≤ 8192) × (end ≤ room)
+pub fit-none : (end room : ℕ) → fitFault end room ≡ 0 → (end ≤ maxPacket) × (end ≤ room)
 unfolding fitFault
-fit-none end room h = go (leb end 8192) (leb end room) refl refl h
+fit-none end room h = go (leb end maxPacket) (leb end room) refl refl h
   where
-    go : (s t : Bool) → leb end 8192 ≡ s → leb end room ≡ t → pick s (unless t 15) 2 ≡ 0 → (end ≤ 8192) × (end ≤ room)
-    go true true d e h = (leb-true end 8192 d, leb-true end room e)
+    go : (s t : Bool) → leb end maxPacket ≡ s → leb end room ≡ t → pick s (unless t lentTooShort) tooLong ≡ 0 → (end ≤ maxPacket) × (end ≤ room)
+    go true true d e h = (leb-true end maxPacket d, leb-true end room e)
     go true false d e h = omega (arith, h)
     go false t d e h = omega (arith, h)
 
 -- and what says that there is none: a buffer as long as is told to be needed is long enough
-pub fit-enough : (n room : ℕ) → sizeTold n ≤ 8192 → sizeTold n ≤ room → fitFault n room ≡ 0
+pub fit-enough : (n room : ℕ) → sizeTold n ≤ maxPacket → sizeTold n ≤ room → fitFault n room ≡ 0
 unfolding fitFault
 fit-enough n room h k = sym (fit-told n room) ∙ go (sizeTold n) h k
   where
-    go : (m : ℕ) → m ≤ 8192 → m ≤ room → fitFault m room ≡ 0
-    go m h k = rw (le-leb m 8192 h, le-leb m room k)
+    go : (m : ℕ) → m ≤ maxPacket → m ≤ room → fitFault m room ≡ 0
+    go m h k = rw (le-leb m maxPacket h, le-leb m room k)
 
 -- the faults by the values of their tests
-pub fit-by : (end room : ℕ) (s t : Bool) → leb end 8192 ≡ s → leb end room ≡ t → pick s (unless t 15) 2 ≡ fitFault end room
+pub fit-by : (end room : ℕ) (s t : Bool) → leb end maxPacket ≡ s → leb end room ≡ t → pick s (unless t lentTooShort) tooLong ≡ fitFault end room
 unfolding fitFault
 fit-by end room s t d e = rw (← d, ← e)
 
-pub range-by : (low high n : ℕ) (s t : Bool) → leb low n ≡ s → leb n high ≡ t → unless (both s t) 7 ≡ rangeFault low high n
+pub range-by : (low high n : ℕ) (s t : Bool) → leb low n ≡ s → leb n high ≡ t → unless (both s t) outOfRange ≡ rangeFault low high n
 unfolding rangeFault
 range-by low high n s t d e = rw (← d, ← e)
 
@@ -103,13 +105,13 @@ boolean-one true = refl
 boolean-one false = refl
 
 -- a buffer of 8192 bytes is never too short
-pub never-short : (end room : ℕ) → 8192 ≤ room → fitFault end room ≡ 15 → ⊥
+pub never-short : (end room : ℕ) → maxPacket ≤ room → fitFault end room ≡ lentTooShort → ⊥
 unfolding fitFault
-never-short end room h = go (leb end 8192) (leb end room) refl refl
+never-short end room h = go (leb end maxPacket) (leb end room) refl refl
   where
-    go : (s t : Bool) → leb end 8192 ≡ s → leb end room ≡ t → pick s (unless t 15) 2 ≡ 15 → ⊥
+    go : (s t : Bool) → leb end maxPacket ≡ s → leb end room ≡ t → pick s (unless t lentTooShort) tooLong ≡ lentTooShort → ⊥
     go true true d e k = omega (arith, k)
-    go true false d e k = omega (arith, leb-true end 8192 d, leb-false end room e)
+    go true false d e k = omega (arith, leb-true end maxPacket d, leb-false end room e)
     go false t d e k = omega (arith, k)
 
 -- where a list has no fault, none was found before it

@@ -2,12 +2,14 @@
 -- where nothing is wrong it writes them, and else it leaves the buffer as it was.
 -- Document 01, 'Building': the order of the checks, 2 and then 15 the last of them; 'Refusal numbers': a refusal changes nothing.
 -- Assumes nothing.
+use mathlib.Core.Path.{_≡_}
+use mathlib.Core.Bool.{true}
 use mathlib.Core.List.{List}
 use Prim.Native.Nat.{ℕ, _+_}
 use lib.Dec.{eqb}
 use lib.ListN.{length}
 use Rattle.wire.specs.Pick.{pick}
-use Rattle.wire.specs.Refusal.{none}
+use Rattle.wire.specs.Refusal.{none, isRefusal}
 use Rattle.wire.specs.Bytes.{over}
 use Rattle.fields.specs.Fault.{orElse, firstFault, fitFault}
 
@@ -34,6 +36,10 @@ answered fault answer = pick (eqb fault none) (done answer) (refused fault)
 -- what a call comes to on a buffer with so much room
 unfoldable pub outcome : {A : Type 0} → Call A → ℕ → Outcome A
 outcome call room = answered (refusalOf call room) (call .answer)
+
+-- a call that is refused with numbers of document 01 only, whatever the room
+abbrev pub Numbered : {A : Type 0} → Call A → Type 0
+Numbered call = (room n : ℕ) → outcome call room ≡ refused n → isRefusal n ≡ true
 
 -- the buffer after a call: where it is done, its bytes from their place on and all else as it was; where it is refused, all as it was
 unfoldable pub bufferAfter : {A : Type 0} → Call A → List ℕ → List ℕ

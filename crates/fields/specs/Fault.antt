@@ -1,12 +1,13 @@
 -- A fault is a refusal number, 0 for none. Of several faults the first one counts.
 -- Document 01, 'Refusal numbers': first fault wins; 'Building': the order in which a call checks.
 -- Assumes nothing.
-use mathlib.Core.Bool.{Bool}
+use mathlib.Core.Path.{_≡_}
+use mathlib.Core.Bool.{Bool, true}
 use mathlib.Core.List.{List, [], _∷_}
 use Prim.Native.Nat.{ℕ}
 use lib.Dec.{leb, eqb}
 use Rattle.wire.specs.Pick.{pick, between}
-use Rattle.wire.specs.Refusal.{none, tooLong, stringWrong, outOfRange, lentTooShort}
+use Rattle.wire.specs.Refusal.{none, tooLong, stringWrong, outOfRange, lentTooShort, isFault}
 use Rattle.wire.specs.Field.{isOptional, stringAllowed}
 use Rattle.wire.specs.declared.StringField.{StringField}
 use Rattle.connection.specs.Connection.{maxPacket}
@@ -27,6 +28,11 @@ faultAfter before (fault ∷ later) = faultAfter (orElse before fault) later
 -- the first fault of a list
 abbrev pub firstFault : List ℕ → ℕ
 firstFault = faultAfter none
+
+-- every number of a list is a fault
+abbrev pub AllFaults : List ℕ → Type 0
+AllFaults [] = Unit
+AllFaults (fault ∷ later) = (isFault fault ≡ true) × AllFaults later
 
 -- a string that may not stand in a field is 6
 unfoldable pub stringFault : StringField → Bool → List ℕ → ℕ

@@ -1,7 +1,8 @@
 -- Fields that are to be written, one behind the other: what each is judged to be, and its bytes.
 -- Document 01, 'Building': a piece checks its own fields as a reader would; 'Bytes and numbers'.
 -- Assumes nothing.
-use mathlib.Core.Bool.{Bool}
+use mathlib.Core.Path.{_≡_}
+use mathlib.Core.Bool.{Bool, false}
 use mathlib.Core.List.{List, [], _∷_, _++_}
 use Prim.Native.Nat.{ℕ, _+_, _≤_, min}
 use lib.ListN.{length}
@@ -36,6 +37,10 @@ integerWithin low high n = record { fault = rangeFault low high n; bytes = integ
 -- a string: null, or a text
 abbrev pub stringField : StringField → Bool → List ℕ → Field
 stringField field null text = record { fault = stringFault field null text; bytes = stringBytes null text }
+
+-- two texts that say the same of a string: where it is null any two, else one and the same
+abbrev pub SameText : Bool → List ℕ → List ℕ → Type 0
+SameText null text other = null ≡ false → text ≡ other
 
 -- the faults of fields, in the fields' order
 abbrev pub faultsOf : List Field → List ℕ

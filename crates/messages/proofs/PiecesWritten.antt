@@ -23,7 +23,7 @@ use Rattle.building_record.specs.Record.{kindIn, fields}
 use Rattle.pieces.specs.Fixed.{unset, fixed, fixedCall, forwardCall, sendHeadersCall}
 use Rattle.building_record.specs.declared.BuildingKind.{BuildingKind}
 use Rattle.building_record.specs.declared.Building.{Building}
-use Rattle.pieces.proofs.Possible.{possible-yes}
+use Rattle.building_record.proofs.Laws.{possible-yes}
 use Rattle.writer.specs.Meaning.{Written}
 use Rattle.reader.specs.Meaning.{Told, accepted}
 use Rattle.reader.specs.Reading.{parse, readAsBody, judging}

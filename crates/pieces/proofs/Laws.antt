@@ -12,11 +12,13 @@ use Rattle.wire.specs.Pick.{both, between}
 use Rattle.wire.specs.Bytes.{integerBytes}
 use Rattle.wire.specs.Field.{booleanBytes, stringBytes}
 use Rattle.wire.proofs.Tests.{both-second}
+use Rattle.wire.specs.Refusal.{outOfRange}
 use Rattle.connection.specs.declared.Kind.{Kind}
 use Rattle.payload.specs.Code.{codeOf}
 use Rattle.names.specs.Header.{headerNames}
 use Rattle.names.specs.Names.{codeIn}
 use Rattle.names.specs.declared.CodeFound.{CodeFound}
+use Rattle.payload.specs.Forward.{firstMethod, lastMethod}
 use Rattle.fields.specs.Fault.{orElse, firstFault, rangeFault}
 use Rattle.fields.specs.Call.{Outcome, outcome, bufferAfter}
 use Rattle.fields.specs.Field.{Field, opening, faultsOf, bytesOf}
@@ -88,12 +90,12 @@ forward-parts numbers nulls protocol uri addr host name =
 
 -- where a Forward has no fault, its method is one byte
 pub method-within : (numbers : Numbers) (nulls : Nulls) (protocol uri addr host name : List ℕ)
-    → firstFault (faultsOf (fixed BuildingKind.Forward (forwardFields numbers nulls protocol uri addr host name))) ≡ 0 → numbers .method ≤ 27
+    → firstFault (faultsOf (fixed BuildingKind.Forward (forwardFields numbers nulls protocol uri addr host name))) ≡ 0 → numbers .method ≤ lastMethod
 unfolding rangeFault
 method-within numbers nulls protocol uri addr host name h =
     let n : ℕ = numbers .method in
     let later : List ℕ = faultsOf (forwardStrings nulls protocol uri addr host name ++ forwardTail numbers) in
-    leb-true n 27 (both-second (leb 1 n) (leb n 27) (unless-none (between 1 27 n) 7 (omega arith) (first-none (rangeFault 1 27 n) later h)))
+    leb-true n lastMethod (both-second (leb firstMethod n) (leb n lastMethod) (unless-none (between firstMethod lastMethod n) outOfRange (omega arith) (first-none (rangeFault firstMethod lastMethod n) later h)))
 
 -- a header whose name is given as a text, by whether it is listed
 pub named-both : (r : Building) (buffer name : List ℕ) (null : Bool) (value : List ℕ) (found : CodeFound) (answer : Outcome Building) (after : List ℕ)

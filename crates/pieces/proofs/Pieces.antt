@@ -10,8 +10,11 @@ use Prim.Native.Nat.{ℕ, _+_, _≤_, _<_}
 use lib.Dec.{ltb, leb}
 use lib.ListN.{length, length-append}
 use Rattle.wire.specs.Bytes.{over}
+use Rattle.wire.specs.Refusal.{attributeWrong, tooMany}
 use Rattle.names.specs.Attribute.{attributeKind}
 use Rattle.packet.specs.declared.AttributeKind.{AttributeKind}
+use Rattle.connection.specs.Connection.{maxPacket}
+use Rattle.places.specs.Entries.{maxHeaders}
 use Rattle.attributes.proofs.Laws.{high-unserved}
 use Rattle.fields.specs.Fault.{unless, orElse, faultAfter, firstFault, fitFault}
 use Rattle.fields.specs.Field.{Field, faultsOf, sizeTold, Fits}
@@ -39,9 +42,9 @@ fault-last before [] last = refl
 fault-last before (fault ∷ later) last = fault-last (orElse before fault) later last
 
 -- no fault of the count says that one more header may come
-count-none : (r : Building) → countFault r ≡ 0 → r .headers < 100
+count-none : (r : Building) → countFault r ≡ 0 → r .headers < maxHeaders
 unfolding countFault
-count-none r h = ltb-true (r .headers) 100 (unless-none (ltb (r .headers) 100) 11 (omega arith) h)
+count-none r h = ltb-true (r .headers) maxHeaders (unless-none (ltb (r .headers) maxHeaders) tooMany (omega arith) h)
 
 -- what a call has come to before it writes: the end that was told, and the fault that was found
 pub record Checked (call : Call Building) (buffer : List ℕ) (end found : ℕ) : Type 0 where
@@ -69,7 +72,7 @@ module _ {call : Call Building} {buffer : List ℕ} {end found : ℕ} (known : C
   pub end-exact : found ≡ 0 → end ≡ call .at + length (call .bytes)
   end-exact h = known .told ∙ told-exact (call .at + length (call .bytes)) (omega (arith, done-fits call buffer found (known .is) h .1))
 
-  pub end-fits : found ≡ 0 → end ≤ 8192
+  pub end-fits : found ≡ 0 → end ≤ maxPacket
   end-fits h = omega (arith, end-exact h, done-fits call buffer found (known .is) h .1)
 
   -- and where they are written, the call is done
@@ -83,7 +86,7 @@ module _ {call : Call Building} {buffer : List ℕ} {end found : ℕ} (known : C
 
 -- where no fault of a header is found, one more may come
 pub header-room : {r : Building} {buffer : List ℕ} {end found : ℕ} (own : List Field) → Checked (headerCall r buffer own) buffer end found
-    → found ≡ 0 → (end ≤ 8192) × (r .headers < 100)
+    → found ≡ 0 → (end ≤ maxPacket) × (r .headers < maxHeaders)
 header-room {r} {buffer} {end} {found} own known h =
     let first : ℕ = headerNow r buffer in
     let last : ℕ = countFault r in
@@ -96,11 +99,11 @@ pub code-byte : (r : Building) (takes : AttributeKind → Bool) (code : ℕ) (la
     → Checked (attributeCall r buffer (codeField (takes (attributeKind code)) code ∷ later)) buffer end found → found ≡ 0 → code ≤ 255
 code-byte r takes code later {buffer} {end} {found} unserved known h =
     let first : ℕ = attributeNow r buffer in
-    let wrong : ℕ = unless (takes (attributeKind code)) 9 in
+    let wrong : ℕ = unless (takes (attributeKind code)) attributeWrong in
     let own : List Field = codeField (takes (attributeKind code)) code ∷ later in
     let none : firstFault (first ∷ faultsOf own) ≡ 0 = done-own (attributeCall r buffer own) buffer found (known .is) h in
     let holds : takes (attributeKind code) ≡ true =
-    unless-none (takes (attributeKind code)) 9 (omega arith) (or-second first wrong (first-none (orElse first wrong) (faultsOf later) none)) in
+    unless-none (takes (attributeKind code)) attributeWrong (omega arith) (or-second first wrong (first-none (orElse first wrong) (faultsOf later) none)) in
     go (leb 16 code) refl holds
   where
     go : (t : Bool) → leb 16 code ≡ t → takes (attributeKind code) ≡ true → code ≤ 255

@@ -1,21 +1,21 @@
 -- A record that a call answers can be: over the buffer as the call leaves it, no later piece finds it impossible.
 -- Assumes nothing.
 use native.Mathlib.Omega.{arith}
-use borrow.Author.Tests.{le-leb, leb-true, eq-eqb, eqb-true}
 use mathlib.Core.Path.{_≡_, refl, sym, ap, _∙_}
-use mathlib.Core.Bool.{Bool, true, not}
+use mathlib.Core.Bool.{true, not}
 use mathlib.Core.List.{List, [], _∷_, _++_}
 use Prim.Native.Nat.{ℕ, _+_, _≤_, _<_}
-use lib.Dec.{leb, eqb}
 use lib.ListN.{length, getD, length-append}
 use lib.Seq.{getD-take}
 use Rattle.wire.specs.Pick.{both}
 use Rattle.wire.specs.Bytes.{over, integerBytes}
 use Rattle.wire.specs.Packet.{head}
-use Rattle.wire.proofs.Tests.{both-first, both-second}
+use Rattle.wire.proofs.Tests.{both-first}
 use Rattle.wire.proofs.Field.{head-four}
+use Rattle.wire.specs.Refusal.{recordWrong}
 use Rattle.connection.specs.Cycle.{directionOf}
-use Rattle.payload.specs.Code.{codeOf}
+use Rattle.places.specs.Entries.{maxHeaders}
+use Rattle.payload.specs.Code.{codeOf, afterCodePlace, codePlace}
 use Rattle.fields.specs.Field.{Field, opening, faultsOf, bytesOf}
 use Rattle.fields.specs.Call.{Call, refusalOf, bufferAfter}
 use Rattle.fields.proofs.Sizes.{first-none, unless-none}
@@ -23,54 +23,12 @@ use Rattle.fields.proofs.Rows.{bytes-append}
 use Rattle.fields.proofs.Calls.{done-own, done-fits, after-length, after-written, after-before}
 use Rattle.building_record.specs.declared.Building.{Building}
 use Rattle.building_record.specs.declared.BuildingKind.{BuildingKind}
-use Rattle.building_record.specs.Record.{kindIn, isPossible, headerNow, attributeNow, countFault, withHeader, withAttribute, isForward}
+use Rattle.building_record.specs.Record.{kindIn, isPossible, headerNow, attributeNow, countFault, withHeader, withAttribute, isForward, Possible, countSize}
 use Rattle.pieces.specs.Fixed.{unset, fixed, fixedCall}
 use Rattle.pieces.specs.Header.{headerCall}
 use Rattle.pieces.specs.Attribute.{attributeCall}
-use Rattle.building_record.proofs.Laws.{possible-by}
+use Rattle.building_record.proofs.Laws.{possible-yes, yes-possible}
 use Rattle.pieces.proofs.Pieces.{Checked, header-room}
-
--- what a record that can be says of itself
-pub record Possible (r : Building) (buffer : List ℕ) : Type 0 where
-  pub within : r .next .0 ≤ 8192
-  pub inside : r .next .0 ≤ length buffer
-  pub behind : 4 ≤ r .count .0
-  pub apart : r .count .0 + 2 ≤ r .next .0
-  pub few : r .headers ≤ 100
-  pub code : getD buffer 4 0 ≡ codeOf (kindIn (r .kind))
-
-pub possible-yes : (r : Building) (buffer : List ℕ) → isPossible r buffer ≡ true → Possible r buffer
-unfolding isPossible
-possible-yes r buffer e =
-    let n : ℕ = r .next .0 in
-    let a : Bool = leb n 8192 in
-    let b : Bool = leb n (length buffer) in
-    let c : Bool = leb 4 (r .count .0) in
-    let d : Bool = leb (r .count .0 + 2) n in
-    let f : Bool = leb (r .headers) 100 in
-    let g : Bool = eqb (getD buffer 4 0) (codeOf (kindIn (r .kind))) in
-    let e1 : both b (both c (both d (both f g))) ≡ true = both-second a (both b (both c (both d (both f g)))) e in
-    let e2 : both c (both d (both f g)) ≡ true = both-second b (both c (both d (both f g))) e1 in
-    let e3 : both d (both f g) ≡ true = both-second c (both d (both f g)) e2 in
-    let e4 : both f g ≡ true = both-second d (both f g) e3 in
-    record {
-      within = leb-true n 8192 (both-first a (both b (both c (both d (both f g)))) e);
-      inside = leb-true n (length buffer) (both-first b (both c (both d (both f g))) e1);
-      behind = leb-true 4 (r .count .0) (both-first c (both d (both f g)) e2);
-      apart = leb-true (r .count .0 + 2) n (both-first d (both f g) e3);
-      few = leb-true (r .headers) 100 (both-first f g e4);
-      code = eqb-true (getD buffer 4 0) (codeOf (kindIn (r .kind))) (both-second f g e4);
-    }
-
-pub yes-possible : (r : Building) (buffer : List ℕ) → Possible r buffer → isPossible r buffer ≡ true
-yes-possible r buffer p =
-    sym (possible-by r buffer true true true true true true
-    (le-leb (r .next .0) 8192 (p .within))
-    (le-leb (r .next .0) (length buffer) (p .inside))
-    (le-leb 4 (r .count .0) (p .behind))
-    (le-leb (r .count .0 + 2) (r .next .0) (p .apart))
-    (le-leb (r .headers) 100 (p .few))
-    (eq-eqb (getD buffer 4 0) (codeOf (kindIn (r .kind))) (p .code)))
 
 -- a byte in front of what a call writes
 byte-kept : {A : Type 0} (call : Call A) (buffer : List ℕ) (i : ℕ) → refusalOf call (length buffer) ≡ 0 → i < call .at
@@ -83,7 +41,7 @@ byte-kept call buffer i none h =
 -- a piece that begins at the next place of a record that can be, and the record behind it
 module _ (r s : Building) (buffer : List ℕ) (call : Call Building) (can : Possible r buffer) (none : refusalOf call (length buffer) ≡ 0) where
   behind-possible : call .at ≡ r .next .0 → s .next .0 ≡ call .at + length (call .bytes) → s .count ≡ r .count → s .kind ≡ r .kind
-      → s .headers ≤ 100 → Possible s (bufferAfter call buffer)
+      → s .headers ≤ maxHeaders → Possible s (bufferAfter call buffer)
   behind-possible at next count kind few =
       let fits = done-fits call buffer (refusalOf call (length buffer)) refl none in
       let long : length (bufferAfter call buffer) ≡ length buffer = after-length call buffer in
@@ -94,7 +52,7 @@ module _ (r s : Building) (buffer : List ℕ) (call : Call Building) (can : Poss
         behind = omega (arith, can .behind, place);
         apart = omega (arith, can .apart, place, next, at);
         few = few;
-        code = byte-kept call buffer 4 none (omega (arith, can .behind, can .apart, at)) ∙ can .code ∙ ap (λ k. codeOf (kindIn k)) (sym kind);
+        code = byte-kept call buffer codePlace none (omega (arith, can .behind, can .apart, at)) ∙ can .code ∙ ap (λ k. codeOf (kindIn k)) (sym kind);
       }
 
 -- the record behind a header
@@ -106,7 +64,7 @@ header-possible r buffer own none =
     let known : Checked call buffer _ _ = record { told = refl; is = refl } in
     let ok : isPossible r buffer ≡ true =
     both-first (isPossible r buffer) (not (r .attributes))
-    (unless-none (both (isPossible r buffer) (not (r .attributes))) 16 (omega arith)
+    (unless-none (both (isPossible r buffer) (not (r .attributes))) recordWrong (omega arith)
     (first-none (headerNow r buffer) (faultsOf own ++ (countFault r ∷ [])) (done-own call buffer (refusalOf call (length buffer)) refl none))) in
     yes-possible (withHeader r (r .next .0 + length (bytesOf own))) (bufferAfter call buffer)
     (behind-possible r (withHeader r (r .next .0 + length (bytesOf own))) buffer call (possible-yes r buffer ok) none refl refl refl refl
@@ -120,14 +78,14 @@ attribute-possible r buffer own none =
     let call : Call Building = attributeCall r buffer own in
     let ok : isPossible r buffer ≡ true =
     both-first (isPossible r buffer) (isForward (r .kind))
-    (unless-none (both (isPossible r buffer) (isForward (r .kind))) 16 (omega arith)
+    (unless-none (both (isPossible r buffer) (isForward (r .kind))) recordWrong (omega arith)
     (first-none (attributeNow r buffer) (faultsOf own) (done-own call buffer (refusalOf call (length buffer)) refl none))) in
     let can : Possible r buffer = possible-yes r buffer ok in
     yes-possible (withAttribute r (r .next .0 + length (bytesOf own))) (bufferAfter call buffer)
     (behind-possible r (withAttribute r (r .next .0 + length (bytesOf own))) buffer call can none refl refl refl refl (can .few))
 
 -- the fixed fields are longer than the code's place and the count
-fixed-length : (kind : BuildingKind) (own : List Field) → 7 ≤ length (bytesOf (fixed kind own))
+fixed-length : (kind : BuildingKind) (own : List Field) → afterCodePlace + countSize ≤ length (bytesOf (fixed kind own))
 fixed-length kind own =
     let first : List ℕ = opening (kindIn kind) 0 in
     let four : List ℕ = head (directionOf (kindIn kind)) 0 in
@@ -142,7 +100,7 @@ fixed-length kind own =
 
 -- they have the packet's code at its place
 fixed-code : (kind : BuildingKind) (own : List Field) (buffer : List ℕ)
-    → getD (over buffer 0 (bytesOf (fixed kind own))) 4 0 ≡ codeOf (kindIn kind)
+    → getD (over buffer 0 (bytesOf (fixed kind own))) codePlace 0 ≡ codeOf (kindIn kind)
 unfolding over
 fixed-code BuildingKind.Forward own buffer = refl
 fixed-code BuildingKind.SendHeaders own buffer = refl
@@ -154,7 +112,7 @@ begun-possible kind buffer own none =
     let call : Call Building = fixedCall kind own in
     let fits = done-fits call buffer (refusalOf call (length buffer)) refl none in
     let long : length (bufferAfter call buffer) ≡ length buffer = after-length call buffer in
-    let least : 7 ≤ length (bytesOf (fixed kind own)) = fixed-length kind own in
+    let least : afterCodePlace + countSize ≤ length (bytesOf (fixed kind own)) = fixed-length kind own in
     yes-possible (call .answer) (bufferAfter call buffer)
     (record {
       within = omega (arith, fits .1);
@@ -162,5 +120,5 @@ begun-possible kind buffer own none =
       behind = omega (arith, least);
       apart = omega (arith, least);
       few = omega arith;
-      code = ap (λ (l : List ℕ). getD l 4 0) (after-written call buffer none) ∙ fixed-code kind own buffer;
+      code = ap (λ (l : List ℕ). getD l codePlace 0) (after-written call buffer none) ∙ fixed-code kind own buffer;
     })

@@ -81,8 +81,8 @@ written-none r fault w e = go r (eqb fault 0) e
     go : (r : Sent) (t : Bool) → meaning r ≡ pick t (done w) (refused fault) → isWritten r ≡ t
     go (Sent.Refused n) true e = absurd (let z : _≡_ {A = ℕ} 0 1 = cc in omega arith)
     go (Sent.Refused n) false e = refl
-    go (Sent.Written length connection) true e = refl
-    go (Sent.Written length connection) false e = absurd (let z : _≡_ {A = ℕ} 0 1 = cc in omega arith)
+    go (Sent.Written size connection) true e = refl
+    go (Sent.Written size connection) false e = absurd (let z : _≡_ {A = ℕ} 0 1 = cc in omega arith)
 
 -- an answer is a call's, and whether it says that the packet is written tells what becomes of the buffer: written, the packet fits and the
 -- buffer with it is the call's; not written, the buffer as it was is the call's

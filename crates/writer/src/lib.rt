@@ -140,15 +140,15 @@ fn bare(connection: Connection, buffer: &mut [u8], m: Move) -> Sent
     ensures { λ r. ⌜ meaning r ≡ outcome (bareCall connection m) (length (now (buffer .entry))) ⌝ }
     ensures { λ _. ⌜ now (buffer .exit) ≡ bufferAfter (bareCall connection m) (now (buffer .entry)) ⌝ }
 {
-    let sent = ready(
+    let answer = ready(
         connection.step(m),
         PAYLOAD_PLACE + BARE_PAYLOAD as usize,
         buffer.len(),
     );
-    if is_written(sent) {
+    if is_written(answer) {
         put::open(buffer, m.kind(), BARE_PAYLOAD);
     }
-    sent
+    answer
 }
 
 // Sends a CPing: the container is asked whether it is there.

@@ -4,6 +4,7 @@ use native.Mathlib.Omega.{arith}
 use borrow.Author.Needs.{needs}
 use mathlib.Core.Path.{sym, ap, _∙_}
 use lib.ListN.{length}
+use Rattle.payload.specs.Code.{payloadPlace}
 use Rattle.fields.specs.Field.{sizeTold}
 use Rattle.fields.proofs.Sizes.{told-exact}
 use Rattle.writer.proofs.Laws.{body-none, body-row}
@@ -11,7 +12,7 @@ use Rattle.writer.proofs.body_needs.Statement.{statement}
 use Rattle.writer.proofs.body_needs.Tie as tie
 
 returns : tie.Need-returns
-returns c = sym (ap (λ l. sizeTold (length l)) (body-none (c .before .before .args .bytes .now) (c .if1 .taken)) ∙ told-exact 4 (omega arith))
+returns c = sym (ap (λ l. sizeTold (length l)) (body-none (c .before .before .args .bytes .now) (c .if1 .taken)) ∙ told-exact payloadPlace (omega arith))
 
 cast-plus : tie.Need-cast-plus
 cast-plus c = search needs

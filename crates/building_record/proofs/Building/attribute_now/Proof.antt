@@ -2,6 +2,7 @@
 -- Assumes nothing.
 use mathlib.Core.Path.{ap, _∙_}
 use Rattle.wire.specs.Pick.{both}
+use Rattle.wire.specs.Refusal.{recordWrong}
 use Rattle.fields.specs.Fault.{unless}
 use Rattle.building_record.specs.Record.{isPossible, attributeNow}
 use borrow.Author.Needs.{needs}
@@ -21,8 +22,8 @@ returns : tie.Need-returns
 unfolding attributeNow
 returns c =
     let a = c .before .before .before .before .args in
-    c .unless .ensures ∙ ap (λ t. unless (both t (c .before .is-forward .result)) 16) (c .before .before .is-possible .ensures)
-    ∙ ap (λ t. unless (both (isPossible (a .self) (a .buffer .now)) t) 16) (c .before .is-forward .ensures)
+    c .unless .ensures ∙ ap (λ t. unless (both t (c .before .is-forward .result)) recordWrong) (c .before .before .is-possible .ensures)
+    ∙ ap (λ t. unless (both (isPossible (a .self) (a .buffer .now)) t) recordWrong) (c .before .is-forward .ensures)
 
 pub attribute-now-spec : {M : Type 1} → statement M
 attribute-now-spec =

@@ -3,6 +3,7 @@
 use mathlib.Core.Path.{ap, _∙_}
 use mathlib.Core.Bool.{not}
 use Rattle.wire.specs.Pick.{both}
+use Rattle.wire.specs.Refusal.{recordWrong}
 use Rattle.fields.specs.Fault.{unless}
 use Rattle.building_record.specs.Record.{headerNow}
 use borrow.Author.Needs.{needs}
@@ -19,7 +20,7 @@ returns : tie.Need-returns
 unfolding headerNow
 returns c =
     let a = c .before .before .before .before .args in
-    c .unless .ensures ∙ ap (λ t. unless (both t (not (a .self .attributes))) 16) (c .before .before .is-possible .ensures)
+    c .unless .ensures ∙ ap (λ t. unless (both t (not (a .self .attributes))) recordWrong) (c .before .before .is-possible .ensures)
 
 pub header-now-spec : {M : Type 1} → statement M
 header-now-spec = tie.close (tie.spec is-possible-requires unless-requires returns)

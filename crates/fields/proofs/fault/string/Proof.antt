@@ -2,6 +2,7 @@
 -- Assumes nothing.
 use mathlib.Core.Path.{ap, _∙_}
 use Rattle.wire.specs.Field.{stringAllowed}
+use Rattle.wire.specs.Refusal.{stringWrong}
 use Rattle.fields.specs.Fault.{unless, stringFault}
 use borrow.Author.Needs.{needs}
 use Rattle.fields.proofs.fault.string.Statement.{statement}
@@ -21,7 +22,7 @@ unfolding stringFault
 returns c =
     let a = c .before .before .before .before .args in
     c .unless .ensures
-    ∙ ap (λ t. unless t 6)
+    ∙ ap (λ t. unless t stringWrong)
     (c .before .allows-string .ensures ∙ ap (λ o. stringAllowed o (a .null) (a .text .now)) (c .before .before .is-optional .ensures))
 
 pub string-spec : {M : Type 1} → statement M

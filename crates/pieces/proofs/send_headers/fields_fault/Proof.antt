@@ -1,6 +1,7 @@
 -- `pieces::send_headers::fields_fault` meets its contract: the status, then the message.
 -- Assumes nothing.
 use mathlib.Core.Path.{sym, ap, _∙_}
+use Rattle.payload.specs.SendHeaders.{greatestStatus, leastStatus}
 use Rattle.fields.specs.Fault.{orElse, rangeFault}
 use Rattle.fields.proofs.Sizes.{or-none}
 use borrow.Author.Needs.{needs}
@@ -21,7 +22,7 @@ returns c =
     let a = c .before .before .before .before .args in
     c .or-else .ensures
     ∙ ap (λ f. orElse f (c .before .string .result)) (c .before .before .range .ensures)
-    ∙ ap (orElse (rangeFault 100 599 (a .status))) (c .before .string .ensures)
+    ∙ ap (orElse (rangeFault leastStatus greatestStatus (a .status))) (c .before .string .ensures)
     ∙ sym (or-none _)
 
 pub fields-fault-spec : {M : Type 1} → statement M
