@@ -9,7 +9,7 @@ ghost use Rattle.wire.specs.Bytes.{over};
 ghost use Rattle.wire.specs.Field.{isOptional, holdsBarred, afterLength, stringAt};
 ghost use Rattle.names.specs.Private.{TokenFlags};
 ghost use Rattle.names.specs.Header.{spelledFault};
-ghost use Rattle.places.specs.Entries.{maxPlace};
+ghost use Rattle.places.specs.Private.{maxPlace};
 ghost use Rattle.headers.specs.Headers.{nameAt, codeNameOf, spelledOf, declares, declaredBy, valueAt, valued, headerAt, headersAt};
 use names::header;
 use names::length;

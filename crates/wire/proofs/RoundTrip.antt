@@ -19,11 +19,7 @@ use Rattle.wire.specs.declared.read.StringRead.{StringRead}
 use Rattle.wire.proofs.Tests.{both-first, both-second}
 use Rattle.wire.proofs.Bytes.{length-part, part-middle, part-add, part-one}
 use Rattle.wire.proofs.Field.{number-read, boolean-is, string-is, after-is, text-closed, text-read, null-read}
-use Rattle.wire.specs.Facts.{TextRead, NullRead}
-
--- every element is a byte's value
-abbrev pub Bytes : List ℕ → Type 0
-Bytes s = (i : ℕ) → getD s i 0 < 256
+use Rattle.wire.specs.Facts.{TextRead, NullRead, Bytes, written}
 
 -- an integer that was written reads back
 pub integer-back : (a b : List ℕ) (n : ℕ) → n < 65536 → integerIn (a ++ (integerBytes n ++ b)) (length a) ≡ n
@@ -57,10 +53,6 @@ text-written p t b clean =
     let n : length s ≡ length p + (length t + suc (length b)) = length-append p (t ++ (0 ∷ b)) ∙ ap (λ (m : ℕ). length p + m) (length-append t (0 ∷ b)) in
     let last : getD s (length p + length t) 0 ≡ 0 = getD-append-add p (t ++ (0 ∷ b)) (length t) 0 ∙ getD-append-seam t 0 b 0 in
     sym (text-closed s (length p) (length t) false (omega arith) last (sym (ap holdsBarred (part-middle p t (0 ∷ b)) ∙ clean)))
-
--- what reading a string that was written answers
-abbrev pub written : ℕ → Bool → List ℕ → StringRead
-written at null text = pick null (StringRead.Null (at + 2)) (StringRead.Text (at + 2) (length text) (at + 2 + length text + 1))
 
 -- a text, where it may stand in the field
 text-back : (a b : List ℕ) (optional : Bool) (text : List ℕ) → length text < nullLength → stringAllowed optional false text ≡ true

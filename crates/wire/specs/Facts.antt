@@ -1,10 +1,12 @@
--- What the laws of reading say: what is answered lies inside the packet, and what a string is that was read.
+-- What the laws of reading and writing say: what is answered lies inside the packet, what a string is that was read, and what one that was
+-- written reads as.
 -- Assumes nothing.
 use mathlib.Core.Path.{_≡_}
 use mathlib.Core.Bool.{Bool, true, false}
 use mathlib.Core.List.{List}
-use Prim.Native.Nat.{ℕ, _+_, _≤_}
+use Prim.Native.Nat.{ℕ, _+_, _≤_, _<_}
 use lib.ListN.{length, getD}
+use Rattle.wire.specs.Pick.{pick}
 use Rattle.wire.specs.Bytes.{part, integerIn}
 use Rattle.wire.specs.Field.{nullLength, stringAllowed}
 use Rattle.wire.specs.declared.read.NumberRead.{NumberRead}
@@ -43,3 +45,11 @@ pub record NullRead (s : List ℕ) (at : ℕ) (optional : Bool) (next : ℕ) : T
   pub fits : next ≤ length s
   pub length-is : integerIn s at ≡ nullLength
   pub may-stand : optional ≡ true
+
+-- every element is a byte's value
+abbrev pub Bytes : List ℕ → Type 0
+Bytes s = (i : ℕ) → getD s i 0 < 256
+
+-- what reading a string that was written answers
+abbrev pub written : ℕ → Bool → List ℕ → StringRead
+written at null text = pick null (StringRead.Null (at + 2)) (StringRead.Text (at + 2) (length text) (at + 2 + length text + 1))
