@@ -18,13 +18,9 @@ use Rattle.wire.specs.declared.read.NumberRead.{NumberRead}
 use Rattle.wire.specs.declared.read.StringRead.{StringRead}
 use Rattle.wire.proofs.Bytes.{part-middle}
 use Rattle.wire.proofs.Field.{string-is, after-is, text-closed}
-<<<<<<< HEAD
-use Rattle.wire.proofs.RoundTrip.{integer-written, written, string-written}
-use Rattle.wire.specs.Refusal.{stringWrong}
-=======
 use Rattle.wire.proofs.RoundTrip.{integer-written, string-written}
 use Rattle.wire.specs.Facts.{written}
->>>>>>> a39bbc95d8512e4107175b78d30eb2c18f930f53
+use Rattle.wire.specs.Refusal.{stringWrong}
 use Rattle.fields.specs.Fault.{stringFault}
 
 -- a text that holds a byte which no string may hold
