@@ -91,4 +91,4 @@ andThen at (HeaderRead.Header value declared next) later = front at value (later
 unfoldable pub headersAt : Direction → List ℕ → ℕ → ℕ → Declared → Entries HeadersRead
 headersAt direction s at zero declared = ended (HeadersRead.Headers declared at)
 headersAt direction s at (suc count) declared =
-    andThen at (headerAt direction s at declared) (λ now next. headersAt direction s next count now)
+    andThen at (headerAt direction s at declared) (λ after next. headersAt direction s next count after)

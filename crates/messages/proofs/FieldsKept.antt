@@ -18,8 +18,9 @@ use Rattle.wire.specs.declared.StringField.{StringField}
 use Rattle.wire.specs.declared.read.NumberRead.{NumberRead}
 use Rattle.wire.specs.declared.read.StringRead.{StringRead}
 use Rattle.wire.proofs.Bytes.{part-none, part-one}
-use Rattle.wire.proofs.Field.{TextRead, text-read, NullRead, null-read}
-use Rattle.wire.proofs.RoundTrip.{Bytes, integer-kept, text-kept, null-kept}
+use Rattle.wire.proofs.Field.{text-read, null-read}
+use Rattle.wire.specs.Facts.{TextRead, NullRead, Bytes}
+use Rattle.wire.proofs.RoundTrip.{integer-kept, text-kept, null-kept}
 use Rattle.wire.proofs.Parts.{part-join}
 use Rattle.names.specs.Header.{beginsCode, codeFault, spelledFault}
 use Rattle.names.specs.Attribute.{attributeKind}

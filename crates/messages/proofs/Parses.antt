@@ -22,7 +22,8 @@ use Rattle.wire.specs.declared.read.NumberRead.{NumberRead}
 use Rattle.wire.proofs.Tests.{both-first}
 use Rattle.wire.proofs.Field.{head-four}
 use Rattle.wire.proofs.Bytes.{length-part}
-use Rattle.wire.proofs.RoundTrip.{Bytes, byte-written}
+use Rattle.wire.proofs.RoundTrip.{byte-written}
+use Rattle.wire.specs.Facts.{Bytes}
 use Rattle.connection.specs.Connection.{isIdle, isBusy, bodyDue}
 use Rattle.connection.specs.Cycle.{kindOf, directionOf, inState, inSize, allowed, after}
 use Rattle.connection.specs.declared.State.{State}

@@ -19,8 +19,9 @@ use Rattle.wire.specs.declared.StringField.{StringField}
 use Rattle.wire.specs.declared.read.NumberRead.{NumberRead}
 use Rattle.wire.specs.declared.read.BooleanRead.{BooleanRead}
 use Rattle.wire.specs.declared.read.StringRead.{StringRead}
-use Rattle.wire.proofs.Field.{BooleanInside, boolean-inside}
-use Rattle.wire.proofs.RoundTrip.{Bytes, boolean-kept}
+use Rattle.wire.proofs.Field.{boolean-inside}
+use Rattle.wire.specs.Facts.{BooleanInside, Bytes}
+use Rattle.wire.proofs.RoundTrip.{boolean-kept}
 use Rattle.wire.proofs.Parts.{rest-part, same-front, same-rest}
 use Rattle.names.specs.Length.{declaredLength}
 use Rattle.names.specs.declared.length.Declared.{Declared}

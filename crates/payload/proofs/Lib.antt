@@ -4,3 +4,4 @@ pub mod Below
 pub mod Listing
 pub mod Parsed
 pub mod Handed
+pub mod Refusals

@@ -11,3 +11,5 @@ pub mod Forward
 pub mod SendHeaders
 pub mod Kinds
 pub mod Handed
+pub mod Private
+pub mod Facts

@@ -30,7 +30,8 @@ use Rattle.payload.specs.declared.lists.ListsRead.{ListsRead}
 use Rattle.packet.specs.declared.SendHeaders.{SendHeaders}
 use Rattle.packet.specs.declared.Packet.{Packet}
 use Rattle.payload.specs.declared.found.PacketRead.{PacketRead}
-use Rattle.payload.proofs.Fields.{FieldInside, string-after-inside, integer-after-inside}
+use Rattle.payload.proofs.Fields.{string-after-inside, integer-after-inside}
+use Rattle.payload.specs.Facts.{FieldInside}
 use Rattle.payload.proofs.Laws.{body-inside, chunk-inside}
 use Rattle.payload.proofs.Parsed.{forward-places, send-headers-places, parsed-kind}
 use Rattle.reader.specs.Meaning.{Told, told}

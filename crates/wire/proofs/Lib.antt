@@ -5,3 +5,4 @@ pub mod Field
 pub mod RoundTrip
 pub mod Parts
 pub mod Blocks
+pub mod Refusals

@@ -1,7 +1,10 @@
 -- The refusal numbers of document 01, each under a name, in the order of its table. `refusal` in src/ has the same list.
 -- Assumes nothing.
+use mathlib.Core.Bool.{Bool}
 use mathlib.Core.List.{List, [], _∷_}
 use Prim.Native.Nat.{ℕ}
+use lib.Dec.{eqb}
+use Rattle.wire.specs.Pick.{either, oneOf}
 
 -- no fault
 abbrev pub none : ℕ
@@ -72,11 +75,10 @@ lentTooShort = 15
 abbrev pub recordWrong : ℕ
 recordWrong = 16
 
--- all of them, each at its own place
-abbrev pub numbers : List ℕ
-numbers =
-    none
-    ∷ leadingWrong
+-- all of them, in the order of the table
+abbrev pub refusals : List ℕ
+refusals =
+    leadingWrong
     ∷ tooLong
     ∷ cutShort
     ∷ codeWrong
@@ -93,3 +95,15 @@ numbers =
     ∷ lentTooShort
     ∷ recordWrong
     ∷ []
+
+-- none and all of them, each at its own place
+abbrev pub numbers : List ℕ
+numbers = none ∷ refusals
+
+-- a number of document 01's table of refusals
+abbrev pub isRefusal : ℕ → Bool
+isRefusal n = oneOf refusals n
+
+-- a fault: none, or such a number
+abbrev pub isFault : ℕ → Bool
+isFault n = either (eqb n none) (isRefusal n)

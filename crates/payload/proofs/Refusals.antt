@@ -1,0 +1,308 @@
+-- What reading a packet refuses with is a number of document 01.
+-- Assumes nothing.
+use mathlib.Core.Path.{_≡_, refl, subst}
+use mathlib.Core.Bool.{Bool, true, false}
+use mathlib.Core.List.{List, []}
+use Prim.Native.Nat.{ℕ, _+_}
+use lib.Dec.{leb, ltb, eqb}
+use lib.ListN.{length, getD}
+use Rattle.wire.specs.Pick.{pick, either, between}
+use Rattle.wire.specs.Refusal.{cutShort, codeWrong, codeNotServed, stringWrong, outOfRange, tooMany, leftOver, sizeWrong, isRefusal}
+use Rattle.wire.specs.Field.{byteAt, integerAt, booleanAt, stringAt, isOptional}
+use Rattle.wire.specs.declared.StringField.{StringField}
+use Rattle.wire.specs.declared.read.NumberRead.{NumberRead}
+use Rattle.wire.specs.declared.read.BooleanRead.{BooleanRead}
+use Rattle.wire.specs.declared.read.StringRead.{StringRead}
+use Rattle.wire.proofs.Refusals.{NumberRefusal, byte-refusal, integer-refusal, BooleanRefusal, boolean-refusal, StringRefusal, string-refusal}
+use Rattle.packet.specs.declared.Direction.{Direction}
+use Rattle.packet.specs.declared.Packet.{Packet}
+use Rattle.names.specs.Length.{declaredLength}
+use Rattle.names.specs.declared.length.Declared.{Declared}
+use Rattle.connection.specs.declared.Kind.{Kind}
+use Rattle.places.specs.Entries.{maxHeaders, maxAttributes}
+use Rattle.headers.specs.declared.HeadersRead.{HeadersRead}
+use Rattle.headers.proofs.Refusals.{HeadersRefusal, headers-refusal}
+use Rattle.attributes.specs.Attributes.{attributesAt}
+use Rattle.attributes.specs.declared.AttributesRead.{AttributesRead}
+use Rattle.attributes.proofs.Refusals.{AttributesRefusal, attributes-refusal}
+use Rattle.payload.specs.declared.KindRead.{KindRead}
+use Rattle.payload.specs.declared.field.FieldRead.{FieldRead}
+use Rattle.payload.specs.declared.lists.ListsRead.{ListsRead}
+use Rattle.payload.specs.declared.found.PacketRead.{PacketRead}
+use Rattle.payload.specs.Code.{payloadPlace, codePlace, afterCodePlace, codeOf, shutdownCode, pingCode, codeKind, kindOfCode, kindAt}
+use Rattle.payload.specs.Sequence.{afterCode, behind, stringField, stringFieldAt, stringAfter, booleanField, booleanFieldAt, booleanAfter, numberField, anyIntegerAfter, bounded, byteAfter, integerAfter}
+use Rattle.payload.specs.Packet.{partFrom, finished}
+use Rattle.payload.specs.End.{endOf, endAt}
+use Rattle.payload.specs.GetBody.{getOf, getAt}
+use Rattle.payload.specs.Body.{bodyStart, sizedAt, sizedOf, bodyAt}
+use Rattle.payload.specs.BodyChunk.{chunkStart, chunkOf, chunkBy, chunkAt}
+use Rattle.payload.specs.Lists.{headersAfter, listsOf, attributesBehind, behindHeaders, listsAt}
+use Rattle.payload.specs.Forward.{firstMethod, lastMethod, forwardOf, forwardAt}
+use Rattle.payload.specs.SendHeaders.{leastStatus, greatestStatus, sendHeadersOf, sendHeadersAt}
+use Rattle.payload.specs.Kinds.{packetAt}
+
+-- a packet's kind, where it is refused
+abbrev KindRefusal : KindRead → Type 0
+KindRefusal (KindRead.Refused n) = isRefusal n ≡ true
+KindRefusal (KindRead.Kind kind) = Unit
+
+code-refusal : (d : Direction) (code : ℕ) → KindRefusal (codeKind d code)
+unfolding codeKind
+code-refusal Direction.ToContainer code =
+    go (eqb code (codeOf Kind.Forward)) (eqb code (codeOf Kind.CPing)) (either (eqb code shutdownCode) (eqb code pingCode))
+  where
+    go : (a b c : Bool)
+        → KindRefusal
+        (pick a (KindRead.Kind Kind.Forward)
+        (pick b (KindRead.Kind Kind.CPing) (pick c (KindRead.Refused codeNotServed) (KindRead.Refused codeWrong))))
+    go true b c = tt
+    go false true c = tt
+    go false false true = refl
+    go false false false = refl
+code-refusal Direction.ToServer code =
+    go (eqb code (codeOf Kind.BodyChunk)) (eqb code (codeOf Kind.SendHeaders)) (eqb code (codeOf Kind.End)) (eqb code (codeOf Kind.GetBody))
+    (eqb code (codeOf Kind.CPong))
+  where
+    go : (a b c d e : Bool)
+        → KindRefusal
+        (pick a (KindRead.Kind Kind.BodyChunk)
+        (pick b (KindRead.Kind Kind.SendHeaders)
+        (pick c (KindRead.Kind Kind.End)
+        (pick d (KindRead.Kind Kind.GetBody) (pick e (KindRead.Kind Kind.CPong) (KindRead.Refused codeWrong))))))
+    go true b c d e = tt
+    go false true c d e = tt
+    go false false true d e = tt
+    go false false false true e = tt
+    go false false false false true = tt
+    go false false false false false = refl
+
+code-read-refusal : (d : Direction) (r : NumberRead) → NumberRefusal r → KindRefusal (kindOfCode d r)
+code-read-refusal d (NumberRead.Refused n) h = h
+code-read-refusal d (NumberRead.Number code next) h = code-refusal d code
+
+kind-at-refusal : (d : Direction) (body : Bool) (s : List ℕ) → KindRefusal (kindAt d body s)
+unfolding kindAt
+kind-at-refusal d true s = tt
+kind-at-refusal d false s = code-read-refusal d (byteAt s codePlace) (byte-refusal s codePlace (byteAt s codePlace) refl)
+
+-- a packet whose kind is refused is refused with a number of document 01
+pub kind-refusal : (d : Direction) (body : Bool) (s : List ℕ) (n : ℕ) → kindAt d body s ≡ KindRead.Refused n → isRefusal n ≡ true
+kind-refusal d body s n e = subst KindRefusal e (kind-at-refusal d body s)
+
+-- a fixed field, where it is refused
+abbrev FieldRefusal : FieldRead → Type 0
+FieldRefusal (FieldRead.Refused n) = isRefusal n ≡ true
+FieldRefusal (FieldRead.Field at value next) = Unit
+
+behind-refusal : (read : ℕ → FieldRead) (before : FieldRead) → ((at : ℕ) → FieldRefusal (read at)) → FieldRefusal before
+    → FieldRefusal (behind read before)
+behind-refusal read (FieldRead.Refused n) f h = h
+behind-refusal read (FieldRead.Field at value next) f h = f next
+
+string-after-refusal : (s : List ℕ) (field : StringField) (before : FieldRead) → FieldRefusal before → FieldRefusal (stringAfter s field before)
+unfolding stringAfter stringFieldAt
+string-after-refusal s field before =
+    behind-refusal (stringFieldAt s field) before
+    (λ at. go at (stringAt s at (isOptional field)) (string-refusal s at (isOptional field) (stringAt s at (isOptional field)) refl))
+  where
+    go : (at : ℕ) (r : StringRead) → StringRefusal r → FieldRefusal (stringField at r)
+    go at (StringRead.Refused n) h = h
+    go at (StringRead.Null next) h = tt
+    go at (StringRead.Text start len next) h = tt
+
+boolean-after-refusal : (s : List ℕ) (before : FieldRead) → FieldRefusal before → FieldRefusal (booleanAfter s before)
+unfolding booleanAfter booleanFieldAt
+boolean-after-refusal s before =
+    behind-refusal (booleanFieldAt s) before (λ at. go at (booleanAt s at) (boolean-refusal s at (booleanAt s at) refl))
+  where
+    go : (at : ℕ) (r : BooleanRead) → BooleanRefusal r → FieldRefusal (booleanField at r)
+    go at (BooleanRead.Refused n) h = h
+    go at (BooleanRead.Boolean value next) h = tt
+
+any-integer-refusal : (s : List ℕ) (before : FieldRead) → FieldRefusal before → FieldRefusal (anyIntegerAfter s before)
+unfolding anyIntegerAfter
+any-integer-refusal s before =
+    behind-refusal (λ at. numberField at (integerAt s at)) before (λ at. go at (integerAt s at) (integer-refusal s at (integerAt s at) refl))
+  where
+    go : (at : ℕ) (r : NumberRead) → NumberRefusal r → FieldRefusal (numberField at r)
+    go at (NumberRead.Refused n) h = h
+    go at (NumberRead.Number value next) h = tt
+
+bounded-refusal : (at low high fault : ℕ) (r : NumberRead) → isRefusal fault ≡ true → NumberRefusal r → FieldRefusal (bounded at low high fault r)
+bounded-refusal at low high fault (NumberRead.Refused n) f h = h
+bounded-refusal at low high fault (NumberRead.Number value next) f h = go (between low high value)
+  where
+    go : (t : Bool) → FieldRefusal (pick t (FieldRead.Field at value next) (FieldRead.Refused fault))
+    go true = tt
+    go false = f
+
+byte-after-refusal : (s : List ℕ) (low high fault : ℕ) (before : FieldRead) → isRefusal fault ≡ true → FieldRefusal before
+    → FieldRefusal (byteAfter s low high fault before)
+unfolding byteAfter
+byte-after-refusal s low high fault before f =
+    behind-refusal (λ at. bounded at low high fault (byteAt s at)) before
+    (λ at. bounded-refusal at low high fault (byteAt s at) f (byte-refusal s at (byteAt s at) refl))
+
+integer-after-refusal : (s : List ℕ) (low high fault : ℕ) (before : FieldRead) → isRefusal fault ≡ true → FieldRefusal before
+    → FieldRefusal (integerAfter s low high fault before)
+unfolding integerAfter
+integer-after-refusal s low high fault before f =
+    behind-refusal (λ at. bounded at low high fault (integerAt s at)) before
+    (λ at. bounded-refusal at low high fault (integerAt s at) f (integer-refusal s at (integerAt s at) refl))
+
+headers-after-refusal : (d : Direction) (s : List ℕ) (count : FieldRead) → FieldRefusal count → HeadersRefusal (headersAfter d s count .end)
+unfolding headersAfter
+headers-after-refusal d s (FieldRead.Refused n) h = h
+headers-after-refusal d s (FieldRead.Field at value next) h = headers-refusal d s next value Declared.Absent
+
+-- a Forward's lists, where they are refused
+abbrev ListsRefusal : ListsRead → Type 0
+ListsRefusal (ListsRead.Refused n) = isRefusal n ≡ true
+ListsRefusal (ListsRead.Lists declared attributes) = Unit
+
+lists-of-refusal : (size : ℕ) (declared : Declared) (r : AttributesRead) → AttributesRefusal r → ListsRefusal (listsOf size declared r)
+lists-of-refusal size declared (AttributesRead.Refused n) h = h
+lists-of-refusal size declared (AttributesRead.Attributes count next) h = go (eqb next size)
+  where
+    go : (t : Bool) → ListsRefusal (pick t (ListsRead.Lists (record { 0 = declaredLength declared }) count) (ListsRead.Refused leftOver))
+    go true = tt
+    go false = refl
+
+behind-headers-refusal : (s : List ℕ) (r : HeadersRead) → HeadersRefusal r → ListsRefusal (behindHeaders s r .end)
+unfolding attributesBehind
+behind-headers-refusal s (HeadersRead.Refused n) h = h
+behind-headers-refusal s (HeadersRead.Headers declared next) h =
+    lists-of-refusal (length s) declared (attributesAt s next maxAttributes [] .end) (attributes-refusal s next maxAttributes [])
+
+lists-refusal : (s : List ℕ) (count : FieldRead) → FieldRefusal count → ListsRefusal (listsAt s count .end)
+unfolding listsAt
+lists-refusal s count h =
+    behind-headers-refusal s (headersAfter Direction.ToContainer s count .end) (headers-after-refusal Direction.ToContainer s count h)
+
+-- a packet, where it is refused
+abbrev PacketRefusal : PacketRead → Type 0
+PacketRefusal (PacketRead.Refused n) = isRefusal n ≡ true
+PacketRefusal (PacketRead.Packet p) = Unit
+
+finished-refusal : (size next : ℕ) (found : Packet) → PacketRefusal (finished size next found)
+finished-refusal size next found = go (eqb next size)
+  where
+    go : (t : Bool) → PacketRefusal (pick t (PacketRead.Packet found) (PacketRead.Refused leftOver))
+    go true = tt
+    go false = refl
+
+forward-refusal : (s : List ℕ) → PacketRefusal (forwardAt s .end)
+unfolding forwardAt
+forward-refusal s =
+    let method = byteAfter s firstMethod lastMethod outOfRange afterCode in
+    let protocol = stringAfter s StringField.Protocol method in
+    let uri = stringAfter s StringField.ReqUri protocol in
+    let addr = stringAfter s StringField.RemoteAddr uri in
+    let host = stringAfter s StringField.RemoteHost addr in
+    let name = stringAfter s StringField.ServerName host in
+    let port = anyIntegerAfter s name in
+    let ssl = booleanAfter s port in
+    let headers = integerAfter s 0 maxHeaders tooMany ssl in
+    go method protocol uri addr host name port ssl headers (listsAt s headers .end)
+    (lists-refusal s headers
+    (integer-after-refusal s 0 maxHeaders tooMany ssl refl
+    (boolean-after-refusal s port
+    (any-integer-refusal s name
+    (string-after-refusal s StringField.ServerName host
+    (string-after-refusal s StringField.RemoteHost addr
+    (string-after-refusal s StringField.RemoteAddr uri
+    (string-after-refusal s StringField.ReqUri protocol
+    (string-after-refusal s StringField.Protocol method (byte-after-refusal s firstMethod lastMethod outOfRange afterCode refl tt))))))))))
+  where
+    go : (method protocol uri addr host name port ssl headers : FieldRead) (r : ListsRead) → ListsRefusal r
+        → PacketRefusal (forwardOf method protocol uri addr host name port ssl headers r)
+    go method protocol uri addr host name port ssl headers (ListsRead.Refused n) h = h
+    go method protocol uri addr host name port ssl headers (ListsRead.Lists declared attributes) h = tt
+
+send-headers-refusal : (s : List ℕ) → PacketRefusal (sendHeadersAt s .end)
+unfolding sendHeadersAt
+send-headers-refusal s =
+    let status = integerAfter s leastStatus greatestStatus outOfRange afterCode in
+    let message = stringAfter s StringField.Message status in
+    let headers = integerAfter s 0 maxHeaders tooMany message in
+    go status message headers (headersAfter Direction.ToServer s headers .end)
+    (headers-after-refusal Direction.ToServer s headers
+    (integer-after-refusal s 0 maxHeaders tooMany message refl
+    (string-after-refusal s StringField.Message status (integer-after-refusal s leastStatus greatestStatus outOfRange afterCode refl tt))))
+  where
+    go : (status message headers : FieldRead) (r : HeadersRead) → HeadersRefusal r
+        → PacketRefusal (sendHeadersOf (length s) status message headers r)
+    go status message headers (HeadersRead.Refused n) h = h
+    go status message headers (HeadersRead.Headers declared next) h = finished-refusal (length s) next _
+
+end-refusal : (s : List ℕ) → PacketRefusal (endAt s)
+unfolding endAt
+end-refusal s = go (booleanAt s afterCodePlace) (boolean-refusal s afterCodePlace (booleanAt s afterCodePlace) refl)
+  where
+    go : (r : BooleanRead) → BooleanRefusal r → PacketRefusal (endOf (length s) r)
+    go (BooleanRead.Refused n) h = h
+    go (BooleanRead.Boolean reuse next) h = finished-refusal (length s) next (Packet.End reuse)
+
+get-refusal : (s : List ℕ) → PacketRefusal (getAt s)
+unfolding getAt
+get-refusal s = go (integerAt s afterCodePlace) (integer-refusal s afterCodePlace (integerAt s afterCodePlace) refl)
+  where
+    go : (r : NumberRead) → NumberRefusal r → PacketRefusal (getOf (length s) r)
+    go (NumberRead.Refused n) h = h
+    go (NumberRead.Number asked next) h = finished-refusal (length s) next (Packet.GetBody asked)
+
+sized-refusal : (size len : ℕ) → PacketRefusal (sizedAt size len)
+unfolding sizedAt
+sized-refusal size len = go (ltb size (bodyStart + len)) (ltb (bodyStart + len) size) (eqb len 0)
+  where
+    go : (t u v : Bool)
+        → PacketRefusal
+        (pick t (PacketRead.Refused cutShort)
+        (pick u (PacketRead.Refused leftOver)
+        (pick v (PacketRead.Refused sizeWrong) (PacketRead.Packet (Packet.Body (partFrom bodyStart len))))))
+    go true u v = refl
+    go false true v = refl
+    go false false true = refl
+    go false false false = tt
+
+body-refusal : (s : List ℕ) → PacketRefusal (bodyAt s)
+unfolding bodyAt
+body-refusal s = go (eqb (length s) payloadPlace) (integerAt s payloadPlace) (integer-refusal s payloadPlace (integerAt s payloadPlace) refl)
+  where
+    go : (t : Bool) (r : NumberRead) → NumberRefusal r
+        → PacketRefusal (pick t (PacketRead.Packet (Packet.Body (partFrom payloadPlace 0))) (sizedOf (length s) r))
+    go true r h = tt
+    go false (NumberRead.Refused n) h = h
+    go false (NumberRead.Number len next) h = sized-refusal (length s) len
+
+chunk-refusal : (s : List ℕ) → PacketRefusal (chunkAt s)
+unfolding chunkAt chunkOf
+chunk-refusal s = go (integerAt s afterCodePlace) (integer-refusal s afterCodePlace (integerAt s afterCodePlace) refl)
+  where
+    by : (len : ℕ) (t u : Bool)
+        → PacketRefusal
+        (pick t
+        (pick u (finished (length s) (chunkStart + len + 1) (Packet.BodyChunk (partFrom chunkStart len))) (PacketRead.Refused stringWrong))
+        (PacketRead.Refused cutShort))
+    by len true true = finished-refusal (length s) (chunkStart + len + 1) (Packet.BodyChunk (partFrom chunkStart len))
+    by len true false = refl
+    by len false u = refl
+
+    go : (r : NumberRead) → NumberRefusal r → PacketRefusal (chunkBy s r)
+    go (NumberRead.Refused n) h = h
+    go (NumberRead.Number len next) h = by len (leb (chunkStart + (len + 1)) (length s)) (eqb (getD s (chunkStart + len) 0) 0)
+
+-- a packet of any kind
+read-refusal : (kind : Kind) (s : List ℕ) → PacketRefusal (packetAt kind s .end)
+read-refusal Kind.CPing s = finished-refusal (length s) afterCodePlace Packet.CPing
+read-refusal Kind.CPong s = finished-refusal (length s) afterCodePlace Packet.CPong
+read-refusal Kind.Forward s = forward-refusal s
+read-refusal Kind.Body s = body-refusal s
+read-refusal Kind.GetBody s = get-refusal s
+read-refusal Kind.SendHeaders s = send-headers-refusal s
+read-refusal Kind.BodyChunk s = chunk-refusal s
+read-refusal Kind.End s = end-refusal s
+
+-- a packet of any kind is refused with a number of document 01
+pub packet-refusal : (kind : Kind) (s : List ℕ) (n : ℕ) → packetAt kind s .end ≡ PacketRead.Refused n → isRefusal n ≡ true
+packet-refusal kind s n e = subst PacketRefusal e (read-refusal kind s)
