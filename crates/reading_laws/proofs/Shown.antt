@@ -18,8 +18,8 @@ use Rattle.packet.specs.declared.Direction.{Direction}
 use Rattle.wire.specs.declared.StringField.{StringField}
 use Rattle.wire.specs.declared.read.NumberRead.{NumberRead}
 use Rattle.wire.specs.declared.read.StringRead.{StringRead}
-use Rattle.wire.proofs.Field.{text-read, null-read}
 use Rattle.wire.specs.Facts.{TextRead, NullRead}
+use Rattle.wire.proofs.Field.{text-read, null-read}
 use Rattle.names.specs.Attribute.{attributeKind}
 use Rattle.names.specs.Header.{beginsCode, codeFault, spelledFault}
 use Rattle.headers.specs.Headers.{codeNameOf, spelledAt, spelledOf, nameAt}
