@@ -16,12 +16,14 @@ use Rattle.wire.specs.Field.{integerAt, stringAt, isOptional}
 use Rattle.wire.specs.declared.StringField.{StringField}
 use Rattle.wire.specs.declared.read.NumberRead.{NumberRead}
 use Rattle.wire.specs.declared.read.StringRead.{StringRead}
-use Rattle.wire.proofs.Field.{StringInside, string-inside, NumberInside, integer-inside}
+use Rattle.wire.specs.Facts.{StringInside, NumberInside}
+use Rattle.wire.proofs.Field.{string-inside, integer-inside}
 use Rattle.names.specs.Attribute.{attributeKind, attributeFault}
 use Rattle.packet.specs.declared.AttributeKind.{AttributeKind}
-use Rattle.places.specs.Entries.{Entries, ended, front}
+use Rattle.places.specs.Entries.{Entries, ended, front, maxAttributes}
 use Rattle.places.proofs.Filling.{Filling, filling-start, filling-turn, filling-stop, filling-end}
-use Rattle.attributes.specs.Seen.{bit, withBit}
+use Rattle.attributes.specs.Private.{setRoom, bit, withBit}
+use Rattle.attributes.specs.Facts.{AttributeInside, AttributesEnd, AttributesInside}
 use Rattle.attributes.specs.declared.ValueRead.{ValueRead}
 use Rattle.attributes.specs.declared.AttributeRead.{AttributeRead}
 use Rattle.attributes.specs.declared.AttributesRead.{AttributesRead}
@@ -109,33 +111,27 @@ value-inside s at AttributeKind.Text = text-inside s at
 value-inside s at AttributeKind.Integer = number-value-inside s at
 value-inside s at AttributeKind.Pair = pair-inside s at
 
--- no code of 16 or more is served
-pub high-unserved : (code : ℕ) → 16 ≤ code → attributeKind code ≡ AttributeKind.NotServed
+-- no code that a set cannot hold is served
+pub high-unserved : (code : ℕ) → setRoom ≤ code → attributeKind code ≡ AttributeKind.NotServed
 unfolding attributeKind
 high-unserved code h =
     rw (le-leb 3 code (omega arith), lt-leb code 9 (omega arith), ne-eqb code 10 (omega arith), ne-eqb code 11 (omega arith), le-leb 12 code (omega arith), lt-leb code 13 (omega arith))
 
--- a code without fault is below 16
-fine-low : (code : ℕ) (again : Bool) → eqb (attributeFault code again) none ≡ true → code < 16
+-- a code without fault is one that a set can hold
+fine-low : (code : ℕ) (again : Bool) → eqb (attributeFault code again) none ≡ true → code < setRoom
 unfolding attributeFault
-fine-low code again e = go (leb 16 code) refl
+fine-low code again e = go (leb setRoom code) refl
   where
-    go : (t : Bool) → leb 16 code ≡ t → code < 16
-    go true h = absurd (false≢true (rw (high-unserved code (leb-true 16 code h)) at e))
-    go false h = leb-false 16 code h
-
--- an attribute that is answered: its code is below 16; its value lies behind its code, and its end inside a packet of n bytes
-abbrev pub AttributeInside : ℕ → ℕ → AttributeRead → Type 0
-AttributeInside n at (AttributeRead.Refused k) = Unit
-AttributeInside n at (AttributeRead.Last next) = (next ≡ at + 1) × (next ≤ n)
-AttributeInside n at (AttributeRead.Attribute code value next) = (at + 1 ≤ value) × ((value + 2 ≤ next) × ((next ≤ n) × (code < 16)))
+    go : (t : Bool) → leb setRoom code ≡ t → code < setRoom
+    go true h = absurd (false≢true (rw (high-unserved code (leb-true setRoom code h)) at e))
+    go false h = leb-false setRoom code h
 
 -- an attribute whose code is known lies inside
 coded-inside : (s : List ℕ) (at code : ℕ) (again : Bool) → AttributeInside (length s) at (codedAt s (at + 1) code again)
 unfolding codedAt
 coded-inside s at code again = go (eqb (attributeFault code again) none) refl
   where
-    valued : (r : ValueRead) → code < 16 → ValueInside (length s) (at + 1) r → AttributeInside (length s) at (withValue code r)
+    valued : (r : ValueRead) → code < setRoom → ValueInside (length s) (at + 1) r → AttributeInside (length s) at (withValue code r)
     valued (ValueRead.Refused k) low h = tt
     valued (ValueRead.Value value next) low h = (h .0, (h .1 .0, (h .1 .1, low)))
 
@@ -176,18 +172,6 @@ full-none s at seen code value next e = go (leb (at + 1) (length s)) (eqb (getD 
     go true true q = let z : _≡_ {A = ℕ} 0 1 = cc in omega arith
     go true false q = let z : _≡_ {A = ℕ} 0 1 = cc in omega arith
     go false u q = let z : _≡_ {A = ℕ} 0 1 = cc in omega arith
-
--- how attributes end that are not refused: they have two places each, and the end lies behind the place and inside a packet of n bytes
-abbrev pub AttributesEnd : ℕ → ℕ → ℕ → ℕ → ℕ → AttributesRead → Type 0
-AttributesEnd n at most before places (AttributesRead.Refused k) = Unit
-AttributesEnd n at most before places (AttributesRead.Attributes count next) =
-    (places + (before + before) ≡ count + count) × ((next ≤ n) × ((at < next) × (count ≤ most + before)))
-
--- attributes from a place on, at most `most`, with `before` of them before: few places, each inside a packet of n bytes
-pub record AttributesInside (n at most before : ℕ) (r : Entries AttributesRead) : Type 0 where
-  pub few : length (r .places) ≤ most + most
-  pub within : all (λ p. ltb p n) (r .places) ≡ true
-  pub ends : AttributesEnd n at most before (length (r .places)) (r .end)
 
 -- an end stays one where an attribute more stands in front
 end-front : (n at most before places code value next : ℕ) (r : AttributesRead) → AttributeInside n at (AttributeRead.Attribute code value next)
@@ -251,10 +235,10 @@ attribute-seen s at full f g h = rw (h (getD s at 0))
 -- After `count` attributes: the set has their codes, the place is behind them, and the table has their places.
 pub record Reading (s : List ℕ) (at : ℕ) (entry table : List ℕ) (from set place count : ℕ) : Type 0 where
   pub codes : List ℕ
-  pub low : count ≤ 64
+  pub low : count ≤ maxAttributes
   pub many : length codes ≡ count
   pub known : (k : ℕ) → bit set k ≡ oneOf codes k
-  pub filling : Filling (attributesAt s at 64 []) (attributesAt s place (64 - count) codes) entry table from count
+  pub filling : Filling (attributesAt s at maxAttributes []) (attributesAt s place (maxAttributes - count) codes) entry table from count
 
 -- before the first attribute
 pub start : (s : List ℕ) (at : ℕ) (table : List ℕ) (from : ℕ) → Reading s at table table from 0 at 0
@@ -263,36 +247,36 @@ start s at table from = record {
   low = omega arith;
   many = refl;
   known = bit-none;
-  filling = filling-start (attributesAt s at 64 []) table from;
+  filling = filling-start (attributesAt s at maxAttributes []) table from;
 }
 
 -- an answered end is that of all attributes, and the table has the places of all
 abbrev pub Done : List ℕ → ℕ → List ℕ → List ℕ → ℕ → AttributesRead → Type 0
-Done s at entry table from end = (end ≡ attributesAt s at 64 [] .end) × (table ≡ over entry from (attributesAt s at 64 [] .places))
+Done s at entry table from end = (end ≡ attributesAt s at maxAttributes [] .end) × (table ≡ over entry from (attributesAt s at maxAttributes [] .places))
 
 module _ (s : List ℕ) (at : ℕ) (entry table : List ℕ) (from set place count : ℕ) (R : Reading s at entry table from set place count) where
   -- what is still to be read
   abbrev left : Entries AttributesRead
-  left = attributesAt s place (64 - count) (R .codes)
+  left = attributesAt s place (maxAttributes - count) (R .codes)
 
   -- the same, by what the next attribute reads as
-  left-is : (r : AttributeRead) → count < 64 → attributeAt s place false (bit set) ≡ r
-      → left ≡ andThen place count r (λ code next. attributesAt s next (64 - (count + 1)) (code ∷ R .codes))
+  left-is : (r : AttributeRead) → count < maxAttributes → attributeAt s place false (bit set) ≡ r
+      → left ≡ andThen place count r (λ code next. attributesAt s next (maxAttributes - (count + 1)) (code ∷ R .codes))
   unfolding attributesAt
   left-is r h e =
-      let q : 64 - count ≡ suc (64 - (count + 1)) = omega arith in
+      let q : maxAttributes - count ≡ suc (maxAttributes - (count + 1)) = omega arith in
       rw (q, ← attribute-seen s place false (bit set) (oneOf (R .codes)) (R .known), e, R .many)
 
   -- the same, where no more may come
-  left-full : (r : AttributeRead) → 64 ≤ count → attributeAt s place true (bit set) ≡ r
+  left-full : (r : AttributeRead) → maxAttributes ≤ count → attributeAt s place true (bit set) ≡ r
       → left ≡ andThen place count r (λ code next. ended (AttributesRead.Refused tooMany))
   unfolding attributesAt
   left-full r h e =
-      let q : 64 - count ≡ 0 = omega arith in
+      let q : maxAttributes - count ≡ 0 = omega arith in
       rw (q, ← attribute-seen s place true (bit set) (oneOf (R .codes)) (R .known), e, R .many)
 
   -- one attribute more
-  pub turn : (code value next : ℕ) → count < 64 → from + 128 ≤ length entry
+  pub turn : (code value next : ℕ) → count < maxAttributes → from + (maxAttributes + maxAttributes) ≤ length entry
       → attributeAt s place false (bit set) ≡ AttributeRead.Attribute code value next
       → Reading s at entry (put table (from + (count + count)) (place ∷ value ∷ [])) from (withBit set code) next (count + 1)
   turn code value next h room e =
@@ -304,8 +288,8 @@ module _ (s : List ℕ) (at : ℕ) (entry table : List ℕ) (from set place coun
         many = omega (arith, R .many);
         known = λ k. bit-with set code k (omega arith) ∙ ap (either (eqb code k)) (R .known k);
         filling =
-            filling-turn (attributesAt s at 64 []) entry from left table count (R .filling) place value
-            (attributesAt s next (64 - (count + 1)) (code ∷ R .codes))
+            filling-turn (attributesAt s at maxAttributes []) entry from left table count (R .filling) place value
+            (attributesAt s next (maxAttributes - (count + 1)) (code ∷ R .codes))
             (left-is (AttributeRead.Attribute code value next) h e)
             (omega arith);
       }
@@ -313,19 +297,19 @@ module _ (s : List ℕ) (at : ℕ) (entry table : List ℕ) (from set place coun
   -- where only an end is left, the table has the places of all, and the end is that of all
   done : (end : AttributesRead) → left ≡ ended end → Done s at entry table from end
   done end e =
-      let whole = attributesAt s at 64 [] in (
+      let whole = attributesAt s at maxAttributes [] in (
         sym (filling-end whole entry from left table count (R .filling) end e),
         filling-stop whole entry from left table count (R .filling) end e,
       )
 
   -- the next attribute is refused, or is the byte behind the last one
-  pub stop : (r : AttributeRead) (end : AttributesRead) → count < 64 → attributeAt s place false (bit set) ≡ r
-      → andThen place count r (λ code next. attributesAt s next (64 - (count + 1)) (code ∷ R .codes)) ≡ ended end
+  pub stop : (r : AttributeRead) (end : AttributesRead) → count < maxAttributes → attributeAt s place false (bit set) ≡ r
+      → andThen place count r (λ code next. attributesAt s next (maxAttributes - (count + 1)) (code ∷ R .codes)) ≡ ended end
       → Done s at entry table from end
   stop r end h e f = done end (left-is r h e ∙ f)
 
-  -- the same after 64 of them, where no more may come
-  pub last : (r : AttributeRead) (end : AttributesRead) → 64 ≤ count → attributeAt s place true (bit set) ≡ r
+  -- the same after as many as may come, where no more may come
+  pub last : (r : AttributeRead) (end : AttributesRead) → maxAttributes ≤ count → attributeAt s place true (bit set) ≡ r
       → andThen place count r (λ code next. ended (AttributesRead.Refused tooMany)) ≡ ended end
       → Done s at entry table from end
   last r end h e f = done end (left-full r h e ∙ f)

@@ -1,2 +1,3 @@
-pub mod Seen
+pub mod Private
 pub mod Attributes
+pub mod Facts

@@ -1,6 +1,6 @@
 // The attribute codes that came before, as the bits of a u16. No served code is above 15.
 ghost use mathlib.Core.Path.{_≡_};
-ghost use Rattle.attributes.specs.Seen.{bit, withBit};
+ghost use Rattle.attributes.specs.Private.{bit, withBit};
 
 // The codes that have a bit.
 const BITS: u8 = 16;

@@ -35,7 +35,7 @@ use Rattle.reader.specs.Frame.{leadingDiffers, lengthAt, frameOf, frameAt}
 use Rattle.reader.specs.Meaning as read
 use Rattle.reader.specs.Reading.{parsedOf, parseWhole, parseFrame, parse, readAsBody, accepting, judging, reading}
 use Rattle.reader.proofs.Framing.{length-is}
-use Rattle.reading_laws.proofs.Later.{Answered}
+use Rattle.reading_laws.specs.Acceptance.{Answered}
 use Rattle.reading_laws.proofs.Acceptance.{accepted-is, accepting-answers}
 use Rattle.reading_laws.proofs.Aside.{aside}
 use Rattle.closing.specs.Closing.{closedLength, closingFault, closed, closedPacket, judgement, verdict, closeOutcome, whereDone, closeBuffer}

@@ -10,7 +10,8 @@ use lib.ListN.{length, getD, take, drop}
 use lib.Seq.{getD-take, length-take-le, drop-drop}
 use Rattle.wire.specs.Bytes.{part, over, integerIn, integerBytes}
 use Rattle.wire.proofs.Bytes.{length-part, part-one, length-over, over-before, over-behind, over-again, over-same}
-use Rattle.wire.proofs.RoundTrip.{Bytes, integer-back, integer-kept}
+use Rattle.wire.proofs.RoundTrip.{integer-back, integer-kept}
+use Rattle.wire.specs.Facts.{Bytes}
 use Rattle.packet.specs.declared.Place.{Place}
 use Rattle.building_record.specs.declared.BuildingKind.{BuildingKind}
 use Rattle.building_record.specs.declared.Building.{Building}

@@ -19,6 +19,7 @@ use Rattle.connection.specs.declared.Move.{Move}
 use Rattle.connection.specs.declared.Step.{Step}
 use Rattle.connection.specs.Connection.{maxBody, isIdle, isPinged, isBusy, fields, bare, busy, counted, bodyDue}
 use Rattle.connection.specs.Cycle.{kindOf, directionOf, inState, largestBody, sizeAllowed, inSize, allowed, after, stepOf, numberIn, connectionIn}
+use Rattle.connection.specs.Facts.{Commuting, BodyWithin, Ignored}
 use Rattle.connection.proofs.Laws.{largest-by, step-by}
 
 -- two constructors are never equal
@@ -50,12 +51,6 @@ server-not-idle c (Move.GetBody r) p e = wrong-way p
 server-not-idle c Move.SendHeaders p e = wrong-way p
 server-not-idle c (Move.BodyChunk k) p e = wrong-way p
 server-not-idle c (Move.End reuse) p e = wrong-way p
-
--- two moves that a connection allows both may be made in either order, and come to the same
-pub record Commuting (c : Connection) (m n : Move) : Type 0 where
-  pub first-then : allowed (after c m) n ≡ true
-  pub second-then : allowed (after c n) m ≡ true
-  pub meets : after (after c m) n ≡ after (after c n) m
 
 is-idle : (s : State) → isIdle s ≡ true → s ≡ State.Idle
 is-idle State.Idle e = refl
@@ -110,12 +105,7 @@ size-within most k e = go (eqb most 0) e
     go false u = leb-true k most (both-second (leb 1 k) (leb k most) u)
 
 -- a body packet that is allowed holds no more than is left, than a packet can hold, and than may come
-pub record Within (c : Connection) (k : ℕ) : Type 0 where
-  pub of-left : k ≤ c .left .0
-  pub of-packet : k ≤ maxBody
-  pub of-largest : k ≤ largestBody c
-
-pub body-within : (c : Connection) (k : ℕ) → allowed c (Move.Body k) ≡ true → Within c k
+pub body-within : (c : Connection) (k : ℕ) → allowed c (Move.Body k) ≡ true → BodyWithin c k
 body-within c k f =
     let most : largestBody c ≡ _ = largest-by c true (both-first (bodyDue c) (sizeAllowed (largestBody c) k) f) in
     let fits : k ≤ largestBody c = size-within (largestBody c) k (both-second (bodyDue c) (sizeAllowed (largestBody c) k) f) in
@@ -141,12 +131,6 @@ settled c Move.SendHeaders = sym (busy-twice _ _ _ _)
 settled c (Move.BodyChunk k) = sym (busy-twice _ _ _ _)
 settled c (Move.End true) = refl
 settled c (Move.End false) = refl
-
--- what does not count is not looked at. Where a move is not allowed, `after` may tell the two records apart; a step does not.
-pub record Ignored (c : Connection) (m : Move) : Type 0 where
-  pub allows : allowed (counted c) m ≡ allowed c m
-  pub goes : allowed c m ≡ true → after (counted c) m ≡ after c m
-  pub steps : stepOf (counted c) m ≡ stepOf c m
 
 -- a record and what counts of it have the same state, and in Busy the same answer to any test of due and headers
 same-state : (s : State) (l : ℕ) (d : Bool) (a : ℕ) (h : Bool) → counted (fields s l d a h) .state ≡ s

@@ -1,2 +1,3 @@
 pub mod Connection
 pub mod Cycle
+pub mod Facts

@@ -18,7 +18,8 @@ use Rattle.wire.specs.declared.read.NumberRead.{NumberRead}
 use Rattle.wire.specs.declared.read.StringRead.{StringRead}
 use Rattle.wire.proofs.Bytes.{part-middle}
 use Rattle.wire.proofs.Field.{string-is, after-is, text-closed}
-use Rattle.wire.proofs.RoundTrip.{integer-written, written, string-written}
+use Rattle.wire.proofs.RoundTrip.{integer-written, string-written}
+use Rattle.wire.specs.Facts.{written}
 use Rattle.wire.specs.Refusal.{stringWrong}
 use Rattle.fields.specs.Fault.{stringFault}
 

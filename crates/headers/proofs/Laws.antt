@@ -17,7 +17,8 @@ use Rattle.packet.specs.declared.Direction.{Direction}
 use Rattle.wire.specs.declared.StringField.{StringField}
 use Rattle.wire.specs.declared.read.NumberRead.{NumberRead}
 use Rattle.wire.specs.declared.read.StringRead.{StringRead}
-use Rattle.wire.proofs.Field.{NumberInside, integer-inside, StringInside, string-inside}
+use Rattle.wire.specs.Facts.{NumberInside, StringInside}
+use Rattle.wire.proofs.Field.{integer-inside, string-inside}
 use Rattle.names.specs.Header.{beginsCode, codeFault, spelledFault}
 use Rattle.names.specs.Length.{declare}
 use Rattle.names.specs.declared.length.Declared.{Declared}
@@ -25,6 +26,7 @@ use Rattle.names.specs.declared.length.Declaring.{Declaring}
 use Rattle.places.specs.Entries.{Entries, ended, front}
 use Rattle.places.proofs.Filling.{Filling, filling-start, filling-turn, filling-stop, filling-end}
 use Rattle.headers.specs.Headers.{codeNameOf, spelledAt, spelledOf, nameAt, declaredBy, valued, valueOf, valueAt, headerOf, headerAt, andThen, headersAt}
+use Rattle.headers.specs.Facts.{NameInside, HeaderInside, HeadersInside}
 use Rattle.headers.specs.declared.NameRead.{NameRead}
 use Rattle.headers.specs.declared.HeaderRead.{HeaderRead}
 use Rattle.headers.specs.declared.HeadersRead.{HeadersRead}
@@ -118,12 +120,6 @@ pub header-is : (d : Direction) (s : List ℕ) (at : ℕ) (before : Declared) (r
 unfolding headerAt
 header-is d s at before r e = ap (headerOf d s before) (sym e)
 
--- what is answered lies inside a packet of n bytes: a name at a place, with its end behind its code or behind its zero
-abbrev pub NameInside : ℕ → ℕ → NameRead → Type 0
-NameInside n at (NameRead.Refused k) = Unit
-NameInside n at (NameRead.Code code next) = (next ≡ at + 2) × (next ≤ n)
-NameInside n at (NameRead.Spelled start len next) = (start ≡ at + 2) × ((next ≡ start + len + 1) × (next ≤ n))
-
 -- a name by its code lies where the code does
 code-inside : (n at : ℕ) (d : Direction) (r : NumberRead) → NumberInside n at 2 r → NameInside n at (codeNameOf d r)
 unfolding codeNameOf
@@ -151,15 +147,10 @@ unfolding nameAt
 name-inside d s at r e = subst (NameInside (length s) at) e (go (leb (at + 2) (length s)) (beginsCode (getD s at 0)))
   where
     go : (t u : Bool)
-        → NameInside (length s) at (pick t (pick u (codeNameOf d (integerAt s at)) (spelledOf d s (stringAt s at false))) (NameRead.Refused cutShort))
+        → NameInside (length s) at (pick t (pick u (codeNameOf d (integerAt s at)) (spelledOf d s (stringAt s at (isOptional StringField.HeaderName)))) (NameRead.Refused cutShort))
     go true true = code-inside (length s) at d (integerAt s at) (integer-inside s at (integerAt s at) refl)
-    go true false = spelled-inside (length s) at d s (stringAt s at false) (string-inside s at false (stringAt s at false) refl)
+    go true false = spelled-inside (length s) at d s (stringAt s at (isOptional StringField.HeaderName)) (string-inside s at (isOptional StringField.HeaderName) (stringAt s at (isOptional StringField.HeaderName)) refl)
     go false u = tt
-
--- a header at a place: its name, then its value, then its end
-abbrev pub HeaderInside : ℕ → ℕ → HeaderRead → Type 0
-HeaderInside n at (HeaderRead.Refused k) = Unit
-HeaderInside n at (HeaderRead.Header value declared next) = (at + 2 ≤ value) × ((value + 2 ≤ next) × (next ≤ n))
 
 -- a header lies inside whatever its value declares, where the value's ends do
 valued-inside : (n at value next : ℕ) → at + 2 ≤ value → value + 2 ≤ next → next ≤ n → (r : Declaring) → HeaderInside n at (valued value next r)
@@ -195,12 +186,6 @@ pub header-inside : (d : Direction) (s : List ℕ) (at : ℕ) (before : Declared
 unfolding headerAt
 header-inside d s at before r e =
     subst (HeaderInside (length s) at) e (header-of-inside d s at before (nameAt d s at) (name-inside d s at (nameAt d s at) refl))
-
--- headers from a place on, by their places and their end: where none is refused, they have two places each and end behind that place
-abbrev pub HeadersInside : ℕ → ℕ → ℕ → List ℕ → HeadersRead → Type 0
-HeadersInside n at count places (HeadersRead.Refused k) = Unit
-HeadersInside n at count places (HeadersRead.Headers declared next) =
-    (length places ≡ count + count) × ((at ≤ next) × (at ≤ n → next ≤ n))
 
 -- headers that were read: at most two places each, every one with two bytes or more in the packet
 record Read (n at count : ℕ) (h : Entries HeadersRead) : Type 0 where

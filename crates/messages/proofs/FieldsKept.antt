@@ -18,8 +18,9 @@ use Rattle.wire.specs.declared.StringField.{StringField}
 use Rattle.wire.specs.declared.read.NumberRead.{NumberRead}
 use Rattle.wire.specs.declared.read.StringRead.{StringRead}
 use Rattle.wire.proofs.Bytes.{part-none, part-one}
-use Rattle.wire.proofs.Field.{TextRead, text-read, NullRead, null-read}
-use Rattle.wire.proofs.RoundTrip.{Bytes, integer-kept, text-kept, null-kept}
+use Rattle.wire.proofs.Field.{text-read, null-read}
+use Rattle.wire.specs.Facts.{TextRead, NullRead, Bytes}
+use Rattle.wire.proofs.RoundTrip.{integer-kept, text-kept, null-kept}
 use Rattle.wire.proofs.Parts.{part-join}
 use Rattle.names.specs.Header.{beginsCode, codeFault, spelledFault}
 use Rattle.names.specs.Attribute.{attributeKind}
@@ -31,12 +32,12 @@ use Rattle.headers.specs.declared.NameRead.{NameRead}
 use Rattle.headers.specs.declared.HeaderRead.{HeaderRead}
 use Rattle.headers.specs.declared.HeadersRead.{HeadersRead}
 use Rattle.attributes.specs.Attributes.{lastMark}
+use Rattle.payload.specs.Handed.{StringEnds, NumberEnds, StringThere, ValueThere, AttributesHanded}
 use Rattle.fields.specs.Fault.{orElse, stringFault, faultAfter}
 use Rattle.fields.specs.Field.{Field, plain, stringField, faultsOf, bytesOf}
 use Rattle.pieces.specs.Header.{codedName, spelledName, declaringFault, valueFault, headerValue}
 use Rattle.pieces.specs.Attribute.{isText, isInteger, isPair, codeField}
 use Rattle.views.specs.View.{integerView, textView}
-use Rattle.reading_laws.proofs.Handed.{StringEnds, NumberEnds, StringThere, ValueThere, AttributesHanded}
 use Rattle.reading_laws.proofs.Shown.{integer-shown, text-shown, code-shown, spelled-shown}
 use Rattle.messages.specs.Message.{Text, null, text, Name, coded, spelled, isNull, bytesIn, NameFits, HeadersFit, ValueFits, AttributesFit}
 use Rattle.messages.specs.Bytes.{fieldsBy, headersBytes, fieldsOf, attributesBytes}

@@ -23,13 +23,13 @@ use Rattle.packet.specs.declared.AttributeKind.{AttributeKind}
 use Rattle.headers.specs.Headers.{declares, nameAt}
 use Rattle.headers.specs.declared.NameRead.{NameRead}
 use Rattle.attributes.specs.Attributes.{lastMark}
+use Rattle.payload.specs.Handed.{StringThere, NameEnds, HeadersHanded, ValueThere, AttributesHanded}
 use Rattle.fields.specs.Fault.{unless, stringFault}
 use Rattle.fields.specs.Field.{faultsOf, bytesOf}
 use Rattle.fields.proofs.Faults.{faultless}
 use Rattle.pieces.specs.Header.{spelledName}
 use Rattle.pieces.specs.Attribute.{isText, isInteger, isPair}
 use Rattle.views.specs.View.{nullView, textView}
-use Rattle.reading_laws.proofs.Handed.{StringThere, NameEnds, HeadersHanded, ValueThere, AttributesHanded}
 use Rattle.reading_laws.proofs.Shown.{integer-shown, text-shown, code-shown, spelled-shown}
 use Rattle.messages.specs.Message.{Text, null, text, Name, coded, spelled, Header, Value, string, integer, pair, Attribute, isNull, bytesIn, ValueFits, AttributesFit}
 use Rattle.messages.specs.Bytes.{fieldsBy, headerFields, headersBytes, fieldsOf, attributesBytes}

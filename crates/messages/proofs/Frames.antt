@@ -18,7 +18,8 @@ use Rattle.packet.specs.declared.Direction.{Direction}
 use Rattle.wire.specs.declared.read.NumberRead.{NumberRead}
 use Rattle.wire.proofs.Field.{number-read}
 use Rattle.wire.proofs.Bytes.{length-part, part-add, part-one}
-use Rattle.wire.proofs.RoundTrip.{Bytes, integer-kept}
+use Rattle.wire.proofs.RoundTrip.{integer-kept}
+use Rattle.wire.specs.Facts.{Bytes}
 use Rattle.reader.specs.Frame.{differs, leadingDiffers, lengthAt, frameAt}
 use Rattle.reader.specs.declared.frame.FrameRead.{FrameRead}
 use Rattle.reader.proofs.Framing.{frame-inside, length-is, frame-is}

@@ -19,6 +19,7 @@ use Rattle.connection.specs.declared.Connection.{Connection}
 use Rattle.payload.specs.Code.{codeOf, kindAt}
 use Rattle.payload.specs.Kinds.{kindIn, moveIn}
 use Rattle.payload.specs.declared.KindRead.{KindRead}
+use Rattle.payload.proofs.Handed.{forward-handed}
 use Rattle.packet.specs.declared.Part.{Part}
 use Rattle.packet.specs.declared.Forward.{Forward}
 use Rattle.packet.specs.declared.SendHeaders.{SendHeaders}
@@ -29,7 +30,6 @@ use Rattle.building_record.specs.declared.BuildingKind.{BuildingKind}
 use Rattle.writer.specs.Meaning.{Written}
 use Rattle.reader.specs.Meaning.{accepted, told}
 use Rattle.reader.specs.Reading.{parse, readAsBody, judging, reading}
-use Rattle.reading_laws.proofs.Handed.{forward-handed}
 use Rattle.reading_laws.proofs.Aside.{aside}
 use Rattle.messages.specs.Message.{Request, Response, Message, forward, sendHeaders, Header, Attribute, wayOf}
 use Rattle.messages.specs.Bytes.{payloadOf, messageBytes}
@@ -162,7 +162,7 @@ forward-back f d c s table bytes r a room buffer fits =
     let kept =
     forward-kept s f (headerPlaces (told (Packet.Forward f)) (tableOf (Packet.Forward f) s table))
     (attributePlaces (told (Packet.Forward f)) (tableOf (Packet.Forward f) s table)) bytes q
-    (rw (places .0, places .1) (lists .are)) (rw (places .0) (lists .many)) in
+    (rw (places .0, places .1) (lists .are)) (rw (places .0) (lists .headers-many)) in
     kept-back BuildingKind.Forward q a (both-first (inState c Kind.Forward) true a) fits (kept .2)
     (rw (kept .1) (forward-writes c (kept .0) buffer)))
     r

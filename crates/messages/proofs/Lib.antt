@@ -16,3 +16,4 @@ pub mod FieldsKept
 pub mod PiecesKept
 pub mod InPieces
 pub mod RoundTrips
+pub mod Declared

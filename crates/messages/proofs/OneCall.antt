@@ -21,7 +21,8 @@ use Rattle.wire.specs.declared.read.BooleanRead.{BooleanRead}
 use Rattle.wire.proofs.Tests.{both-first, both-second}
 use Rattle.wire.proofs.Bytes.{length-part, part-middle, part-add, part-one}
 use Rattle.wire.proofs.Field.{boolean-inside}
-use Rattle.wire.proofs.RoundTrip.{Bytes, integer-written, integer-kept, boolean-kept}
+use Rattle.wire.proofs.RoundTrip.{integer-written, integer-kept, boolean-kept}
+use Rattle.wire.specs.Facts.{Bytes}
 use Rattle.wire.proofs.Parts.{part-zero, rest-part, stands-there}
 use Rattle.connection.specs.Cycle.{kindOf, directionOf, inState, inSize, allowed, after}
 use Rattle.connection.specs.declared.Connection.{Connection}

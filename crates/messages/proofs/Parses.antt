@@ -22,7 +22,8 @@ use Rattle.wire.specs.declared.read.NumberRead.{NumberRead}
 use Rattle.wire.proofs.Tests.{both-first}
 use Rattle.wire.proofs.Field.{head-four}
 use Rattle.wire.proofs.Bytes.{length-part}
-use Rattle.wire.proofs.RoundTrip.{Bytes, byte-written}
+use Rattle.wire.proofs.RoundTrip.{byte-written}
+use Rattle.wire.specs.Facts.{Bytes}
 use Rattle.connection.specs.Connection.{isIdle, isBusy, bodyDue}
 use Rattle.connection.specs.Cycle.{kindOf, directionOf, inState, inSize, allowed, after}
 use Rattle.connection.specs.declared.State.{State}
@@ -45,7 +46,8 @@ use Rattle.reader.specs.Reading.{readAsBody, reading}
 use Rattle.reader.specs.declared.frame.FrameRead.{FrameRead}
 use Rattle.reader.proofs.Framing.{frame-inside}
 use Rattle.reading_laws.proofs.Acceptance.{accepted-by, accepted-is}
-use Rattle.reading_laws.proofs.Later.{Answered, later-answer}
+use Rattle.reading_laws.specs.Acceptance.{Answered}
+use Rattle.reading_laws.proofs.Later.{later-answer}
 use Rattle.reading_laws.proofs.Inside.{told-inside}
 use Rattle.messages.proofs.Frames.{part-whole, frame-written, head-kept}
 

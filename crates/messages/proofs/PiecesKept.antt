@@ -19,8 +19,9 @@ use Rattle.wire.specs.declared.StringField.{StringField}
 use Rattle.wire.specs.declared.read.NumberRead.{NumberRead}
 use Rattle.wire.specs.declared.read.BooleanRead.{BooleanRead}
 use Rattle.wire.specs.declared.read.StringRead.{StringRead}
-use Rattle.wire.proofs.Field.{BooleanInside, boolean-inside}
-use Rattle.wire.proofs.RoundTrip.{Bytes, boolean-kept}
+use Rattle.wire.proofs.Field.{boolean-inside}
+use Rattle.wire.specs.Facts.{BooleanInside, Bytes}
+use Rattle.wire.proofs.RoundTrip.{boolean-kept}
 use Rattle.wire.proofs.Parts.{rest-part, same-front, same-rest}
 use Rattle.names.specs.Length.{declaredLength}
 use Rattle.names.specs.declared.length.Declared.{Declared}
@@ -42,13 +43,14 @@ use Rattle.packet.specs.declared.Forward.{Forward}
 use Rattle.packet.specs.declared.SendHeaders.{SendHeaders}
 use Rattle.packet.specs.declared.Packet.{Packet}
 use Rattle.payload.specs.declared.found.PacketRead.{PacketRead}
+use Rattle.payload.specs.Handed.{StringEnds}
+use Rattle.payload.proofs.Handed.{FieldEnds, forward-same, head-same, attributes-handed}
 use Rattle.fields.specs.Fault.{rangeFault}
 use Rattle.fields.specs.Field.{Field, plain, byteWithin, integerWithin, bytesOf}
 use Rattle.fields.proofs.Faults.{range-most}
 use Rattle.building_record.specs.Record.{kindIn}
 use Rattle.building_record.specs.declared.BuildingKind.{BuildingKind}
 use Rattle.reader.specs.Meaning.{told}
-use Rattle.reading_laws.proofs.Handed.{FieldEnds, forward-same, head-same, StringEnds, attributes-handed}
 use Rattle.closing.specs.Closing.{lastBytes}
 use Rattle.messages.specs.Message.{Header, Attribute, Request, Response, Message, forward, sendHeaders, wayOf, Fit}
 use Rattle.messages.specs.Bytes.{attributesBytes, requestFields, responseFields, piecesPayload, payloadOf, messageBytes}

@@ -12,10 +12,14 @@ use Rattle.wire.specs.Bytes.{integerBytes}
 use Rattle.wire.specs.Field.{booleanBytes}
 use Rattle.packet.specs.declared.Direction.{Direction}
 use Rattle.wire.specs.declared.StringField.{StringField}
+use Rattle.wire.specs.declared.read.NumberRead.{NumberRead}
+use Rattle.wire.specs.declared.read.BooleanRead.{BooleanRead}
+use Rattle.wire.proofs.Field.{byte-inside, integer-inside, boolean-inside}
 use Rattle.connection.specs.declared.Kind.{Kind}
 use Rattle.places.specs.Entries.{Entries}
 use Rattle.headers.specs.declared.HeadersRead.{HeadersRead}
 use Rattle.attributes.specs.Attributes.{lastMark}
+use Rattle.payload.specs.Code.{afterCodePlace}
 use Rattle.payload.specs.Sequence.{booleanNumber, placeOf, valueOf}
 use Rattle.payload.specs.Forward.{forwardOf, forwardAt}
 use Rattle.payload.specs.SendHeaders.{sendHeadersOf, sendHeadersAt}
@@ -26,12 +30,11 @@ use Rattle.packet.specs.declared.Forward.{Forward}
 use Rattle.packet.specs.declared.SendHeaders.{SendHeaders}
 use Rattle.packet.specs.declared.Packet.{Packet}
 use Rattle.payload.specs.declared.found.PacketRead.{PacketRead}
-use Rattle.payload.proofs.Parsed.{send-headers-places}
+use Rattle.payload.proofs.Handed.{forward-handed, head-handed}
 use Rattle.fields.specs.Field.{opening, faultsOf, bytesOf}
 use Rattle.fields.proofs.Sizes.{boolean-one}
 use Rattle.fields.proofs.Faults.{faultless, range-most}
 use Rattle.reader.specs.Meaning.{told}
-use Rattle.reading_laws.proofs.Handed.{forward-handed, head-handed}
 use Rattle.messages.specs.Message.{Request, Response, forward, sendHeaders, isNull, bytesIn, AttributesFit}
 use Rattle.messages.specs.Bytes.{headersBytes, attributesBytes, numbersOf, nullsOf, requestFields, responseFields, payloadOf, messageBytes}
 use Rattle.messages.specs.Shown.{headersShown, attributesShown, shownBy, messageShown}
@@ -109,12 +112,14 @@ module _ {s : List ℕ} (short : length s ≤ 8192) (request : Request) (own : F
       let none = faultless (faultsOf (requestFields request)) own in
       let handed = forward-handed s f e in
       let fields : Ahead s 5 (request .method ∷ t1) = simp append-assoc at stands in
-      let r1 : Ahead s (f .protocol .0) t1 = rw (handed .protocol-place) (ahead-next (request .method ∷ []) t1 fields) in
+      let first : f .protocol .0 ≡ afterCodePlace + 1 =
+      byte-inside s afterCodePlace (NumberRead.Number (f .method) (f .protocol .0)) (handed .method-read) .0 in
+      let r1 : Ahead s (f .protocol .0) t1 = rw first (ahead-next (request .method ∷ []) t1 fields) in
       let r2 = string-shows short t2 StringField.Protocol (request .protocol) r1 (none .1 .0) (f .«req_uri» .0) (handed .protocol-there) in
       let r3 = string-shows short t3 StringField.ReqUri (request .uri) (r2 .1) (none .1 .1 .0) (f .«remote_addr» .0) (handed .uri-there) in
       let r4 = string-shows short t4 StringField.RemoteAddr (request .addr) (r3 .1) (none .1 .1 .1 .0) (f .«remote_host» .0) (handed .addr-there) in
       let r5 = string-shows short t5 StringField.RemoteHost (request .host) (r4 .1) (none .1 .1 .1 .1 .0) (f .«server_name» .0) (handed .host-there) in
-      let r6 = string-shows short t6 StringField.ServerName (request .name) (r5 .1) (none .1 .1 .1 .1 .1 .0) (handed .port) (handed .name-there) in
+      let r6 = string-shows short t6 StringField.ServerName (request .name) (r5 .1) (none .1 .1 .1 .1 .1 .0) (handed .port-place) (handed .name-there) in
       let numbers =
       forward-counts f e (string-fits short t2 (request .protocol) r1) (string-fits short t3 (request .uri) (r2 .1))
       (string-fits short t4 (request .addr) (r3 .1)) (string-fits short t5 (request .host) (r4 .1)) (string-fits short t6 (request .name) (r5 .1)) in
@@ -122,9 +127,13 @@ module _ {s : List ℕ} (short : length s ≤ 8192) (request : Request) (own : F
       let counted =
       ahead-next (integerBytes (length (request .headers))) b
       (ahead-next (booleanBytes (request .ssl)) t8 (ahead-next (integerBytes (request .port)) t7 (r6 .1))) in
-      let place : handed .port + 2 + length (booleanBytes (request .ssl)) + 2 ≡ handed .port + 5 = omega (arith, boolean-one (request .ssl)) in
-      let behind : Ahead s (handed .port + 5) b = subst (λ (at : ℕ). Ahead s at b) place counted in
-      let many : length (lists .of-headers) ≡ length (request .headers) + length (request .headers) = omega (arith, lists .many, numbers .3) in
+      let ssl-at = integer-inside s (handed .port-place) (NumberRead.Number (f .«server_port») (handed .ssl-place)) (handed .port-read) .0 in
+      let count-at = boolean-inside s (handed .ssl-place) (BooleanRead.Boolean (f .«is_ssl») (handed .count-place)) (handed .ssl-read) .0 in
+      let lists-at = integer-inside s (handed .count-place) (NumberRead.Number (f .headers) (handed .lists-place)) (handed .count-read) .0 in
+      let place : handed .port-place + 2 + length (booleanBytes (request .ssl)) + 2 ≡ handed .lists-place =
+      omega (arith, boolean-one (request .ssl), ssl-at, count-at, lists-at) in
+      let behind : Ahead s (handed .lists-place) b = subst (λ (at : ℕ). Ahead s at b) place counted in
+      let many : length (lists .of-headers) ≡ length (request .headers) + length (request .headers) = omega (arith, lists .headers-many, numbers .3) in
       let headers =
       headers-show short (attributesBytes (request .attributes) ++ (lastMark ∷ [])) Direction.ToContainer (request .headers) headers-fine behind
       (lists .of-headers) many (lists .middle) (lists .headers-there) in
@@ -183,12 +192,17 @@ module _ {s : List ℕ} (short : length s ≤ 8192) (response : Response) (own :
       let none = faultless (faultsOf (responseFields response)) own in
       let handed = head-handed s h e in
       let fields : Ahead s 5 (integerBytes (response .status) ++ t1) = simp append-assoc at stands in
-      let r1 : Ahead s (h .message .0) t1 = rw (handed .message-place) (ahead-next (integerBytes (response .status)) t1 fields) in
-      let r2 = string-shows short t2 StringField.Message (response .message) r1 (none .1 .0) (handed .count) (handed .message-there) in
+      let first : h .message .0 ≡ afterCodePlace + 2 =
+      integer-inside s afterCodePlace (NumberRead.Number (h .status) (h .message .0)) (handed .status-read) .0 in
+      let r1 : Ahead s (h .message .0) t1 = rw first (ahead-next (integerBytes (response .status)) t1 fields) in
+      let r2 = string-shows short t2 StringField.Message (response .message) r1 (none .1 .0) (handed .count-place) (handed .message-there) in
       let numbers = send-headers-counts h e (string-fits short t2 (response .message) r1) in
-      let behind = ahead-next (integerBytes (length (response .headers))) t3 (r2 .1) in
+      let headers-at : handed .headers-place ≡ handed .count-place + 2 =
+      integer-inside s (handed .count-place) (NumberRead.Number (h .headers) (handed .headers-place)) (handed .count-read) .0 in
+      let behind : Ahead s (handed .headers-place) t3 =
+      rw headers-at (ahead-next (integerBytes (length (response .headers))) t3 (r2 .1)) in
       let many : length (sendHeadersAt s .places) ≡ length (response .headers) + length (response .headers) =
-      omega (arith, send-headers-places s h e .many, numbers .1) in
+      omega (arith, handed .headers-many, numbers .1) in
       let headers =
       headers-show short [] Direction.ToServer (response .headers) headers-fine behind (sendHeadersAt s .places) many (length s)
       (handed .headers-there) in

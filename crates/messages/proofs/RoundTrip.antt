@@ -10,7 +10,7 @@ use lib.ListN.{length}
 use lib.Seq.{take-append-seam}
 use Rattle.wire.specs.Bytes.{part, over}
 use Rattle.packet.specs.declared.Direction.{Direction}
-use Rattle.wire.proofs.RoundTrip.{Bytes}
+use Rattle.wire.specs.Facts.{Bytes}
 use Rattle.wire.proofs.Parts.{bytes-part}
 use Rattle.connection.specs.Cycle.{directionOf, allowed, after}
 use Rattle.connection.specs.declared.Connection.{Connection}

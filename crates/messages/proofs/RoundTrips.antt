@@ -8,7 +8,7 @@ use Prim.Native.Nat.{ℕ, _≤_}
 use lib.ListN.{length}
 use Rattle.wire.specs.Bytes.{part, over}
 use Rattle.packet.specs.declared.Direction.{Direction}
-use Rattle.wire.proofs.RoundTrip.{Bytes}
+use Rattle.wire.specs.Facts.{Bytes}
 use Rattle.connection.specs.declared.Connection.{Connection}
 use Rattle.payload.specs.Kinds.{moveIn}
 use Rattle.packet.specs.declared.Packet.{Packet}

@@ -5,7 +5,7 @@ use native.Mathlib.Omega.{arith}
 use mathlib.Core.Path.{_≡_, refl, sym, ap, _∙_}
 use mathlib.Core.List.{List, [], _++_, append-nil}
 use Prim.Native.Nat.{ℕ, _*_}
-use lib.ListN.{length, length-append}
+use lib.ListN.{length}
 use Rattle.wire.specs.Bytes.{part, over}
 use Rattle.packet.specs.declared.Direction.{Direction}
 use Rattle.wire.proofs.Parts.{over-first, over-second}
@@ -18,11 +18,11 @@ use Rattle.packet.specs.declared.Forward.{Forward}
 use Rattle.packet.specs.declared.SendHeaders.{SendHeaders}
 use Rattle.packet.specs.declared.Packet.{Packet}
 use Rattle.payload.specs.declared.found.PacketRead.{PacketRead}
-use Rattle.payload.proofs.Parsed.{parsed-kind, forward-places, send-headers-places}
+use Rattle.payload.proofs.Parsed.{parsed-kind}
+use Rattle.payload.proofs.Handed.{forward-handed, head-handed}
 use Rattle.reader.specs.Meaning.{Told, accepted, told}
 use Rattle.reader.specs.Reading.{reading, tableAfter}
 use Rattle.reading_laws.proofs.Acceptance.{accepted-is, accepted-fills}
-use Rattle.reading_laws.proofs.Handed.{forward-handed}
 use Rattle.messages.specs.Shown.{headerPlaces, attributePlaces}
 
 -- the table with a packet's places
@@ -54,7 +54,7 @@ table-filled d c s table p n next e =
 module _ (p : Packet) (s table headers attributes : List ℕ) (are : packetAt (kindIn p) s .places ≡ headers ++ attributes)
     (many : length headers ≡ 2 * told p .headers) where
   -- the places of its headers in the table, whatever its length
-  header-places : headerPlaces (told p) (tableOf p s table) ≡ headers
+  pub header-places : headerPlaces (told p) (tableOf p s table) ≡ headers
   header-places = rw (are, ← many) (over-first table headers attributes)
 
   -- and those of its attributes
@@ -66,8 +66,7 @@ pub forward-many : (s : List ℕ) (f : Forward) (e : forwardAt s .end ≡ Packet
     (length (lists .of-headers) ≡ 2 * f .headers) × (length (lists .of-attributes) ≡ 2 * f .attributes))
 forward-many s f e =
     let lists = forward-handed s f e .lists in
-    let joined = length-append (lists .of-headers) (lists .of-attributes) in
-    (omega (arith, lists .many), omega (arith, forward-places s f e .many, ap length (lists .are), lists .many))
+    (omega (arith, lists .headers-many), omega (arith, lists .attributes-many))
 
 -- they are those in the table
 pub forward-table : (s table : List ℕ) (f : Forward) (e : forwardAt s .end ≡ PacketRead.Packet (Packet.Forward f)) → (let lists = forward-handed s f e .lists in
@@ -83,7 +82,7 @@ forward-table s table f e =
 -- a Send Headers has two places for each header
 pub send-headers-many : (s : List ℕ) (h : SendHeaders) → sendHeadersAt s .end ≡ PacketRead.Packet (Packet.SendHeaders h)
     → length (sendHeadersAt s .places) ≡ 2 * h .headers
-send-headers-many s h e = omega (arith, send-headers-places s h e .many)
+send-headers-many s h e = omega (arith, head-handed s h e .headers-many)
 
 -- they are those in the table
 pub send-headers-table : (s table : List ℕ) (h : SendHeaders) → sendHeadersAt s .end ≡ PacketRead.Packet (Packet.SendHeaders h)

@@ -2,3 +2,4 @@ pub mod Message
 pub mod Bytes
 pub mod Writing
 pub mod Shown
+pub mod Declared

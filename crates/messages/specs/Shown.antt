@@ -1,5 +1,5 @@
 -- The message that an accepted packet shows: what acceptance tells, and what the views show at the places that it hands out and that stand
--- in the table. Each part is what a call of `reader::view` promises: `place_at`, `is_null_at`, `text_at`, `name_at`, `integer_at`,
+-- in the table. Each part is what a call of `views` promises: `place_at`, `is_null_at`, `text_at`, `name_at`, `integer_at`,
 -- `attribute_code_at`, `attribute_kind_at`, `attribute_name_at`, `bytes_of`.
 -- Document 01, 'Refusal numbers': what acceptance tells, and the table of places.
 -- Assumes nothing.
@@ -14,6 +14,7 @@ use Rattle.packet.specs.declared.AttributeKind.{AttributeKind}
 use Rattle.connection.specs.declared.Kind.{Kind}
 use Rattle.packet.specs.declared.HeaderName.{HeaderName}
 use Rattle.reader.specs.Meaning.{Told}
+use Rattle.reading_laws.specs.Handed.{numberTold, placeTold}
 use Rattle.views.specs.View.{integerView, nullView, textView, nameView}
 use Rattle.messages.specs.Message.{Text, null, text, Name, coded, spelled, Header, Value, string, integer, pair, Attribute, Message, cping, cpong, forward, body, getBody, sendHeaders, bodyChunk, end}
 
@@ -56,12 +57,9 @@ headerPlaces t table = part table 0 (2 * t .headers)
 abbrev pub attributePlaces : Told → List ℕ → List ℕ
 attributePlaces t table = part table (2 * t .headers) (2 * t .attributes)
 
--- what was told, in its order
-abbrev pub numberTold : Told → ℕ → ℕ
-numberTold t i = getD (t .numbers) i 0
-
+-- the string that is told at an index
 abbrev pub stringTold : List ℕ → Told → ℕ → Text
-stringTold s t i = textShown s (getD (t .strings) i 0)
+stringTold s t i = textShown s (placeTold t i)
 
 -- the message of a packet, by its kind and by where its headers and attributes are
 abbrev pub shownBy : Told → List ℕ → List ℕ → List ℕ → Kind → Message

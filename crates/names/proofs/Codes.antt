@@ -19,10 +19,10 @@ use Rattle.names.specs.declared.CodeFound.{CodeFound}
 use Rattle.names.specs.Token.{tokenByte, isToken}
 use Rattle.names.specs.Attribute.{attributeKind, isServed}
 use Rattle.names.specs.Header.{headerNames, isFound, unlistedFault, spelledFault}
-use Rattle.names.specs.Length.{isContentLength}
+use Rattle.names.specs.Length.{contentLengthCode, isContentLength}
 use Rattle.names.specs.Names.{ascii, methodNames, requestNames, responseNames, attributeNames, namesIn, firstCode, ignoresCase, isListed, nameFor, letter, sameName, codeFrom, codeIn}
 use Rattle.names.specs.Row.{nameRoom, padded, bytesOf}
-use Rattle.names.specs.Sets.{inSet, hasAll, placeOf}
+use Rattle.names.specs.Private.{inSet, hasAll, placeOf}
 use Rattle.names.proofs.Rule.{values, agree}
 use Rattle.names.proofs.Rows.{all-short, name-room}
 use Rattle.names.proofs.Laws.{bytes-padded, same-length, same-first, name-from}
@@ -214,7 +214,7 @@ module _ (list : NameList) (text : List ℕ) where
 -- the code of content-length is that of its name in the list
 pub content-length : (n : ℕ) → isContentLength n ≡ true → nameFor NameList.RequestHeaders n ≡ ascii "content-length"
 unfolding nameFor requestNames
-content-length n e = let q : n ≡ 0xA008 = eqb-true n 0xA008 e in rw q
+content-length n e = let q : n ≡ contentLengthCode = eqb-true n contentLengthCode e in rw q
 
 -- the attribute codes that are served are those that have a name
 pub served-listed : (n : ℕ) → n < 256 → isServed (attributeKind n) ≡ isListed NameList.Attributes n

@@ -13,7 +13,7 @@ use lib.ListN.{length, getD, drop, drop-of-length-le}
 use lib.Seq.{drop-cons}
 use Rattle.wire.specs.Pick.{pick, between}
 use Rattle.names.specs.declared.length.Decimal.{Decimal}
-use Rattle.names.specs.Length.{within, digits, decimalOf}
+use Rattle.names.specs.Length.{maxDigits, within, digits, decimalOf}
 
 -- one digit more, or none
 digits-step : (n : ℕ) (text : List ℕ) (i : ℕ) (t : Bool) → i < length text → between 48 57 (getD text i 0) ≡ t
@@ -21,8 +21,8 @@ digits-step : (n : ℕ) (text : List ℕ) (i : ℕ) (t : Bool) → i < length te
 unfolding digits
 digits-step n text i t h e = rw (add-one, drop-cons text i 0 h, e)
 
--- the text has 1 to 10 bytes, or not
-pub decimal-long : (text : List ℕ) (t : Bool) → between 1 10 (length text) ≡ t
+-- the text has as many bytes as a length may have digits, or not
+pub decimal-long : (text : List ℕ) (t : Bool) → between 1 maxDigits (length text) ≡ t
     → decimalOf text ≡ pick t (digits 0 text) Decimal.Bad
 unfolding decimalOf
 decimal-long text t e = rw e
@@ -34,12 +34,12 @@ pub record Reading (text : List ℕ) (sum i : ℕ) : Type 0 where
   pub same : decimalOf text ≡ digits sum (drop i text)
 
 -- nothing is read yet
-pub start : (text : List ℕ) → between 1 10 (length text) ≡ true → Reading text 0 0
+pub start : (text : List ℕ) → between 1 maxDigits (length text) ≡ true → Reading text 0 0
 start text h = record { below = omega arith; small = lit< tt; same = decimal-long text true h }
 
--- ten digits at most: room for one more
-pub room : (text : List ℕ) (sum i : ℕ) → Reading text sum i → i < length text → length text ≤ 10 → sum < 10 ^ 9
-room text sum i R h k = omega (arith, R .small, pow-le-pow-right {n = 10} (lit< tt) {i = i} {j = 9} (omega arith))
+-- where there is one more digit, room for it
+pub room : (text : List ℕ) (sum i : ℕ) → Reading text sum i → i < length text → length text ≤ maxDigits → sum < 10 ^ (maxDigits - 1)
+room text sum i R h k = omega (arith, R .small, pow-le-pow-right {n = 10} (lit< tt) {i = i} {j = maxDigits - 1} (omega arith))
 
 -- one digit is read
 pub turn : (text : List ℕ) (sum i : ℕ) → Reading text sum i → i < length text → 48 ≤ getD text i 0 → getD text i 0 ≤ 57

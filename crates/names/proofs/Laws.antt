@@ -17,7 +17,8 @@ use Rattle.packet.specs.declared.Name.{Name}
 use Rattle.names.specs.declared.NameList.{NameList}
 use Rattle.names.specs.declared.CodeFound.{CodeFound}
 use Rattle.names.specs.Names.{methodNames, requestNames, responseNames, attributeNames, namesIn, firstCode, ignoresCase, isListed, nameFor, letter, sameName, codeFrom, codeIn}
-use Rattle.names.specs.Row.{nameRoom, firstOf, rowOf, padded, bytesOf}
+use Rattle.names.specs.Row.{nameRoom, rowOf, padded, bytesOf}
+use Rattle.names.specs.Private.{firstOf}
 
 -- the bytes of a name that is handed out are the name's
 pub bytes-padded : (name : List ℕ) → bytesOf (padded name) ≡ name

@@ -13,7 +13,8 @@ use lib.Dec.{leb, lit≤}
 use Rattle.wire.specs.Pick.{all}
 use Rattle.names.specs.declared.NameList.{NameList}
 use Rattle.names.specs.Names.{methodNames, requestNames, responseNames, attributeNames, namesIn, ignoresCase, letter}
-use Rattle.names.specs.Row.{lengthsIn, firstOf, firstsIn, nameRoom, rowOf}
+use Rattle.names.specs.Row.{nameRoom, rowOf}
+use Rattle.names.specs.Private.{mostNames, lengthsIn, firstOf, firstsIn}
 use Rattle.wire.proofs.Tests.{both-first, both-second}
 
 -- a row of the table of a list of names
@@ -41,7 +42,7 @@ number-of f e (name ∷ names) n (suc k) = number-of f e names n k
 
 -- the length at a place of the table of lengths
 pub length-in : (list : NameList) (k : ℕ) → getD (lengthsIn list) k 0 ≡ length (getD (namesIn list) k [])
-length-in list k = number-of length refl (namesIn list) (27 - length (namesIn list)) k
+length-in list k = number-of length refl (namesIn list) (mostNames - length (namesIn list)) k
 
 -- 0 is no letter
 no-letter : (ignoring : Bool) → letter ignoring 0 ≡ 0
@@ -51,17 +52,17 @@ no-letter false = refl
 
 -- the letter at a place of the table of first letters
 pub first-in : (list : NameList) (k : ℕ) → getD (firstsIn list) k 0 ≡ firstOf (ignoresCase list) (getD (namesIn list) k [])
-first-in list k = number-of (firstOf (ignoresCase list)) (no-letter (ignoresCase list)) (namesIn list) (27 - length (namesIn list)) k
+first-in list k = number-of (firstOf (ignoresCase list)) (no-letter (ignoresCase list)) (namesIn list) (mostNames - length (namesIn list)) k
 
--- no list is longer than 27
-pub most-names : (list : NameList) → length (namesIn list) ≤ 27
+-- no list is longer
+pub most-names : (list : NameList) → length (namesIn list) ≤ mostNames
 unfolding methodNames requestNames responseNames attributeNames
 most-names NameList.Methods = lit≤ tt
 most-names NameList.RequestHeaders = lit≤ tt
 most-names NameList.ResponseHeaders = lit≤ tt
 most-names NameList.Attributes = lit≤ tt
 
-pub length-past : (list : NameList) (k : ℕ) → 27 ≤ k → length (getD (namesIn list) k []) ≡ 0
+pub length-past : (list : NameList) (k : ℕ) → mostNames ≤ k → length (getD (namesIn list) k []) ≡ 0
 length-past list k h = ap length (List·getD-eq-default (namesIn list) [] (omega (arith, most-names list)))
 
 -- where the lengths of a list of names are all within the room, so is the length of the name at any place
@@ -72,7 +73,7 @@ within-room [] k h = lit≤ tt
 within-room (name ∷ names) zero h = leb-true (length name) nameRoom (both-first (leb (length name) nameRoom) _ h)
 within-room (name ∷ names) (suc k) h = within-room names k (both-second (leb (length name) nameRoom) _ h)
 
--- every listed name has at most 17 bytes: antt computes the lengths
+-- every listed name has as many bytes as there is room for, or fewer: antt computes the lengths
 pub all-short : (list : NameList) → all (λ n. leb n nameRoom) (map length (namesIn list)) ≡ true
 unfolding all methodNames requestNames responseNames attributeNames
 all-short NameList.Methods = refl

@@ -12,9 +12,17 @@ use Rattle.names.specs.declared.length.Decimal.{Decimal}
 use Rattle.names.specs.declared.length.Declared.{Declared}
 use Rattle.names.specs.declared.length.Declaring.{Declaring}
 
--- a number of at most 4294967295
+-- the greatest length that can be declared
+abbrev pub maxDeclared : ℕ
+maxDeclared = 4294967295
+
+-- the most digits that declare it
+abbrev pub maxDigits : ℕ
+maxDigits = 10
+
+-- a number that can be declared
 abbrev pub within : ℕ → Decimal
-within n = pick (leb n 4294967295) (Decimal.Value n) Decimal.Bad
+within n = pick (leb n maxDeclared) (Decimal.Value n) Decimal.Bad
 
 -- digits behind those that make n
 unfoldable pub digits : ℕ → List ℕ → Decimal
@@ -23,16 +31,20 @@ digits n (b ∷ bs) = pick (between 48 57 b) (digits (n * 10 + (b - 48)) bs) Dec
 
 -- 1 to 10 digits
 unfoldable pub decimalOf : List ℕ → Decimal
-decimalOf text = pick (between 1 10 (length text)) (digits 0 text) Decimal.Bad
+decimalOf text = pick (between 1 maxDigits (length text)) (digits 0 text) Decimal.Bad
 
 -- what a number declares; a bad one is 10
 abbrev pub asDeclared : Decimal → Declaring
 asDeclared (Decimal.Value n) = Declaring.Now (Declared.Known n)
 asDeclared Decimal.Bad = Declaring.Refused lengthWrong
 
+-- the code of content-length in a request
+abbrev pub contentLengthCode : ℕ
+contentLengthCode = 0xA008
+
 -- whether a request header's code is that of content-length
 abbrev pub isContentLength : ℕ → Bool
-isContentLength n = eqb n 0xA008
+isContentLength n = eqb n contentLengthCode
 
 -- what a content-length declares, by what was declared before it: once, and not by null
 abbrev pub declare : Declared → Bool → List ℕ → Declaring

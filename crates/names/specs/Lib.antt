@@ -1,7 +1,7 @@
 pub mod Token
 pub mod Names
 pub mod Row
-pub mod Sets
 pub mod Header
 pub mod Attribute
 pub mod Length
+pub mod Private

@@ -1,11 +1,9 @@
 -- Which bytes a header name may hold: those of an RFC 9110 token, 77 of the 256.
 -- Document 01, 'Server to container', Header.
 -- Assumes nothing.
-use mathlib.Core.Bool.{Bool, false}
+use mathlib.Core.Bool.{Bool}
 use mathlib.Core.List.{List, [], _∷_}
-use mathlib.Core.Path.{_≡_}
-use Prim.Native.Nat.{ℕ, _<_}
-use lib.ListN.{getD}
+use Prim.Native.Nat.{ℕ}
 use Rattle.wire.specs.Pick.{either, between, oneOf, all}
 
 -- ! # $ % & ' * + - . ^ _ ` | ~
@@ -19,7 +17,3 @@ tokenByte b = either (oneOf marks b) (either (between 48 57 b) (either (between 
 -- every byte is one of these
 abbrev pub isToken : List ℕ → Bool
 isToken = all tokenByte
-
--- flags that say of each byte whether it is one of these
-unfoldable pub TokenFlags : List Bool → Type 0
-TokenFlags flags = (b : ℕ) → b < 256 → getD flags b false ≡ tokenByte b

@@ -1,6 +1,7 @@
 // RFC 9110 tokens.
 ghost use mathlib.Core.Path.{_≡_};
-ghost use Rattle.names.specs.Token.{isToken, TokenFlags};
+ghost use Rattle.names.specs.Token.{isToken};
+ghost use Rattle.names.specs.Private.{TokenFlags};
 
 // How many values a byte has.
 pub const BYTES: usize = 256;

@@ -13,7 +13,8 @@ use Rattle.headers.specs.declared.HeadersRead.{HeadersRead}
 use Rattle.headers.proofs.Laws.{headers-inside}
 use Rattle.attributes.specs.Attributes.{attributesAt}
 use Rattle.attributes.specs.declared.AttributesRead.{AttributesRead}
-use Rattle.attributes.proofs.Laws.{AttributesEnd, attributes-inside}
+use Rattle.attributes.proofs.Laws.{attributes-inside}
+use Rattle.attributes.specs.Facts.{AttributesEnd}
 
 -- headers that are all read have two places each
 pub headers-many : (d : Direction) (s : List ℕ) (at count : ℕ) (declared : Declared) (next : ℕ)
@@ -33,6 +34,6 @@ pub attributes-many : (s : List ℕ) (at count next : ℕ) → attributesAt s at
     → length (attributesAt s at maxAttributes [] .places) ≡ count + count
 attributes-many s at count next e = omega (arith, attributes-end s at count next e .0)
 
--- and they are at most 64
-pub attributes-few : (s : List ℕ) (at count next : ℕ) → attributesAt s at maxAttributes [] .end ≡ AttributesRead.Attributes count next → count ≤ 64
+-- and they are no more than may come
+pub attributes-few : (s : List ℕ) (at count next : ℕ) → attributesAt s at maxAttributes [] .end ≡ AttributesRead.Attributes count next → count ≤ maxAttributes
 attributes-few s at count next e = omega (arith, attributes-end s at count next e .1 .1 .1)

@@ -15,15 +15,13 @@ use Rattle.wire.specs.declared.read.NumberRead.{NumberRead}
 use Rattle.wire.specs.declared.read.BooleanRead.{BooleanRead}
 use Rattle.wire.specs.declared.read.StringRead.{StringRead}
 use Rattle.wire.proofs.Tests.{both-second}
-use Rattle.wire.proofs.Field.{NumberInside, BooleanInside, StringInside, byte-inside, integer-inside, boolean-inside, string-inside}
+use Rattle.wire.specs.Facts.{NumberInside, BooleanInside, StringInside}
+use Rattle.wire.proofs.Field.{byte-inside, integer-inside, boolean-inside, string-inside}
 use Rattle.connection.specs.Connection.{maxPacket}
 use Rattle.payload.specs.declared.field.FieldRead.{FieldRead}
-use Rattle.payload.specs.Sequence.{behind, stringField, stringFieldAt, stringAfter, booleanField, booleanFieldAt, booleanAfter, numberField, anyIntegerAfter, bounded, byteAfter, integerAfter, valueOf, Within, Counts}
-
--- a field that lies inside a packet of `size` bytes: its place is before the end, and the place after it is the end or before it
-abbrev pub FieldInside : ℕ → FieldRead → Type 0
-FieldInside size (FieldRead.Refused n) = Unit
-FieldInside size (FieldRead.Field at value next) = (at < size) × (next ≤ size)
+use Rattle.payload.specs.Sequence.{behind, stringField, stringFieldAt, stringAfter, booleanField, booleanFieldAt, booleanAfter, numberField, anyIntegerAfter, bounded, byteAfter, integerAfter, valueOf}
+use Rattle.payload.specs.Facts.{FieldInside}
+use Rattle.payload.specs.Private.{Within, Counts}
 
 -- a field behind another lies inside, whatever that other is, if each one that is read does
 behind-inside : (size : ℕ) (read : ℕ → FieldRead) (before : FieldRead) → ((at : ℕ) → FieldInside size (read at)) → FieldInside size (behind read before)
@@ -96,7 +94,7 @@ pub inside-within : (size most : ℕ) (f : FieldRead) → size ≤ most → Fiel
 inside-within size most (FieldRead.Refused n) h i = tt
 inside-within size most (FieldRead.Field at value next) h i = omega arith
 
--- the place of a string behind a field, in a packet of at most 8192 bytes, is at most that
+-- the place of a string behind a field, in a packet that is not too long, is at most a packet's size
 pub string-within : (s : List ℕ) (field : StringField) (before r : FieldRead) → length s ≤ maxPacket → r ≡ stringAfter s field before
     → Within maxPacket r
 string-within s field before r h e =

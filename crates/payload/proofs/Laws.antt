@@ -25,6 +25,7 @@ use Rattle.payload.specs.declared.found.PacketRead.{PacketRead}
 use Rattle.payload.specs.declared.field.FieldRead.{FieldRead}
 use Rattle.payload.specs.Code.{payloadPlace, codePlace, afterCodePlace, codeOf, shutdownCode, pingCode, codeKind, kindOfCode, kindAt}
 use Rattle.payload.specs.Sequence.{numberField, anyIntegerAfter, bounded, byteAfter, integerAfter, stringField, stringFieldAt, booleanField, booleanFieldAt}
+use Rattle.payload.specs.Facts.{PlainInside}
 use Rattle.payload.specs.Packet.{partFrom, finished}
 use Rattle.payload.specs.End.{endOf, endAt}
 use Rattle.payload.specs.GetBody.{getOf, getAt}
@@ -121,19 +122,6 @@ module _ (s : List ℕ) (len : ℕ) where
       → finished (length s) (chunkStart + len + 1) (Packet.BodyChunk (partFrom chunkStart len)) ≡ chunkOf s len
   unfolding chunkOf
   chunk-closed h z = simp (le-leb, z)
-
--- the bytes of a body packet or a chunk in a packet of n bytes: a body's end with the packet; a chunk's start at 7 and end one before the
--- packet's end
-abbrev pub PlainInside : ℕ → PacketRead → Type 0
-PlainInside n (PacketRead.Refused k) = Unit
-PlainInside n (PacketRead.Packet Packet.CPing) = Unit
-PlainInside n (PacketRead.Packet Packet.CPong) = Unit
-PlainInside n (PacketRead.Packet (Packet.Forward f)) = Unit
-PlainInside n (PacketRead.Packet (Packet.Body p)) = p .start .0 + p .len ≡ n
-PlainInside n (PacketRead.Packet (Packet.GetBody k)) = Unit
-PlainInside n (PacketRead.Packet (Packet.SendHeaders h)) = Unit
-PlainInside n (PacketRead.Packet (Packet.BodyChunk p)) = (p .start .0 ≡ chunkStart) × (p .start .0 + p .len + 1 ≡ n)
-PlainInside n (PacketRead.Packet (Packet.End reuse)) = Unit
 
 -- a body packet that tells its size
 sized-inside : (n len : ℕ) → PlainInside n (sizedAt n len)

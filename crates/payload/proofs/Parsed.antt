@@ -30,6 +30,7 @@ use Rattle.packet.specs.declared.Packet.{Packet}
 use Rattle.payload.specs.declared.found.PacketRead.{PacketRead}
 use Rattle.payload.specs.Code.{payloadPlace, afterCodePlace}
 use Rattle.payload.specs.Sequence.{afterCode, stringAfter, booleanAfter, byteAfter, anyIntegerAfter, integerAfter, valueOf}
+use Rattle.payload.specs.Facts.{ForwardPlaces, HeadPlaces}
 use Rattle.payload.specs.Packet.{partFrom, finished}
 use Rattle.payload.specs.End.{endOf, endAt}
 use Rattle.payload.specs.GetBody.{getOf, getAt}
@@ -43,11 +44,11 @@ use Rattle.payload.proofs.Fields.{integer-most}
 use Rattle.payload.proofs.Below.{attributes-many, attributes-few}
 use Rattle.payload.proofs.Listing.{HeadersPlaces, headers-places}
 
--- the places of lists that are read: two for each of `count` headers and for each attribute, of which there are at most 64
+-- the places of lists that are read: two for each of `count` headers and for each attribute, of which there are no more than may come
 abbrev ListsPlaces : ℕ → ℕ → ListsRead → Type 0
 ListsPlaces count many (ListsRead.Refused n) = Unit
 ListsPlaces count many (ListsRead.Lists declared attributes) =
-    (many ≡ (count + attributes) + (count + attributes)) × (attributes ≤ 64)
+    (many ≡ (count + attributes) + (count + attributes)) × (attributes ≤ maxAttributes)
 
 -- the attributes of a Forward have two places each
 attributes-places : (s : List ℕ) (declared : Declared) (at : ℕ)
@@ -86,15 +87,9 @@ lists-places s count = go (headersAfter Direction.ToContainer s count .end) refl
         (omega (arith, length-append p q, headers-places Direction.ToContainer s count (HeadersRead.Headers declared next) e))
         (attributes-places s declared next)
 
--- the places of a Forward: two for each header and for each attribute, at most 100 and 64
-pub record ForwardPlaces (forward : Forward) (places : List ℕ) : Type 0 where
-  pub many : length places ≡ (forward .headers + forward .attributes) + (forward .headers + forward .attributes)
-  pub headers-most : forward .headers ≤ 100
-  pub attributes-most : forward .attributes ≤ 64
-
 -- a Forward that is found has the places of its lists
 forward-found : (method protocol uri addr host name port ssl headers : FieldRead) (r : ListsRead) (places : List ℕ) (forward : Forward)
-    → valueOf headers ≤ 100 → ListsPlaces (valueOf headers) (length places) r
+    → valueOf headers ≤ maxHeaders → ListsPlaces (valueOf headers) (length places) r
     → forwardOf method protocol uri addr host name port ssl headers r ≡ PacketRead.Packet (Packet.Forward forward)
     → ForwardPlaces forward places
 forward-found method protocol uri addr host name port ssl headers (ListsRead.Refused n) places forward few h e =
@@ -108,9 +103,9 @@ forward-found method protocol uri addr host name port ssl headers (ListsRead.Lis
       attributes-most = omega arith;
     }
 
--- what holds for any fixed fields, with at most 100 headers counted, and the lists behind them, holds for a Forward
+-- what holds for any fixed fields, with no more headers counted than may come, and the lists behind them, holds for a Forward
 forward-by : (s : List ℕ) (P : PacketRead → List ℕ → Type 0)
-    → ((method protocol uri addr host name port ssl headers : FieldRead) → valueOf headers ≤ 100
+    → ((method protocol uri addr host name port ssl headers : FieldRead) → valueOf headers ≤ maxHeaders
     → P (forwardOf method protocol uri addr host name port ssl headers (listsAt s headers .end)) (listsAt s headers .places))
     → P (forwardAt s .end) (forwardAt s .places)
 unfolding forwardAt
@@ -133,11 +128,6 @@ forward-places s forward =
     (λ method protocol uri addr host name port ssl headers few.
     forward-found method protocol uri addr host name port ssl headers (listsAt s headers .end) (listsAt s headers .places) forward few (lists-places s headers))
 
--- the places of Send Headers: two for each header, of which there are at most 100
-pub record HeadPlaces (head : SendHeaders) (places : List ℕ) : Type 0 where
-  pub many : length places ≡ head .headers + head .headers
-  pub headers-most : head .headers ≤ 100
-
 -- a packet behind whose last field nothing stands is the one that was found
 finished-packet : (size next : ℕ) (found p : Packet) → finished size next found ≡ PacketRead.Packet p → found ≡ p
 finished-packet size next found p = go (eqb next size)
@@ -148,7 +138,7 @@ finished-packet size next found p = go (eqb next size)
 
 -- a Send Headers that is found has the places of its headers
 head-found : (size : ℕ) (status message headers : FieldRead) (r : HeadersRead) (places : List ℕ) (head : SendHeaders)
-    → valueOf headers ≤ 100 → HeadersPlaces (valueOf headers) (length places) r
+    → valueOf headers ≤ maxHeaders → HeadersPlaces (valueOf headers) (length places) r
     → sendHeadersOf size status message headers r ≡ PacketRead.Packet (Packet.SendHeaders head) → HeadPlaces head places
 head-found size status message headers (HeadersRead.Refused n) places head few h e =
     let z : _≡_ {A = ℕ} 0 1 = cc in absurd (omega arith)
@@ -160,9 +150,9 @@ head-found size status message headers (HeadersRead.Headers declared next) place
       headers-most = omega arith;
     }
 
--- what holds for any fixed fields, with at most 100 headers counted, and the headers behind them, holds for Send Headers
+-- what holds for any fixed fields, with no more headers counted than may come, and the headers behind them, holds for Send Headers
 head-by : (s : List ℕ) (P : PacketRead → List ℕ → Type 0)
-    → ((status message headers : FieldRead) → valueOf headers ≤ 100
+    → ((status message headers : FieldRead) → valueOf headers ≤ maxHeaders
     → P (sendHeadersOf (length s) status message headers (headersAfter Direction.ToServer s headers .end)) (headersAfter Direction.ToServer s headers .places))
     → P (sendHeadersAt s .end) (sendHeadersAt s .places)
 unfolding sendHeadersAt

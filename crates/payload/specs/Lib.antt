@@ -10,3 +10,6 @@ pub mod Lists
 pub mod Forward
 pub mod SendHeaders
 pub mod Kinds
+pub mod Handed
+pub mod Private
+pub mod Facts

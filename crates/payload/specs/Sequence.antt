@@ -3,7 +3,7 @@
 -- Assumes nothing.
 use mathlib.Core.Bool.{Bool, true, false}
 use mathlib.Core.List.{List}
-use Prim.Native.Nat.{ℕ, _≤_}
+use Prim.Native.Nat.{ℕ}
 use Rattle.wire.specs.Pick.{pick, between}
 use Rattle.wire.specs.Field.{byteAt, integerAt, booleanAt, stringAt, isOptional}
 use Rattle.wire.specs.declared.StringField.{StringField}
@@ -87,13 +87,3 @@ placeOf (FieldRead.Field at value next) = record { 0 = at }
 abbrev pub valueOf : FieldRead → ℕ
 valueOf (FieldRead.Refused n) = 0
 valueOf (FieldRead.Field at value next) = value
-
--- a field whose place is at most this, or refused
-abbrev pub Within : ℕ → FieldRead → Type 0
-Within most (FieldRead.Refused n) = Unit
-Within most (FieldRead.Field at value next) = at ≤ most
-
--- a field whose number is at most this, or refused
-abbrev pub Counts : ℕ → FieldRead → Type 0
-Counts most (FieldRead.Refused n) = Unit
-Counts most (FieldRead.Field at value next) = value ≤ most

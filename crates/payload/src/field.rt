@@ -1,7 +1,8 @@
 // The fixed fields of a packet, one after the other: each is read where the one before it ends, and a refusal stays.
 ghost use mathlib.Core.Path.{_≡_};
 ghost use Rattle.connection.specs.Connection.{maxPacket};
-ghost use Rattle.payload.specs.Sequence.{afterCode, bounded, stringFieldAt, stringAfter, booleanFieldAt, booleanAfter, byteAfter, numberField, anyIntegerAfter, integerAfter, placeOf, valueOf, Within};
+ghost use Rattle.payload.specs.Sequence.{afterCode, bounded, stringFieldAt, stringAfter, booleanFieldAt, booleanAfter, byteAfter, numberField, anyIntegerAfter, integerAfter, placeOf, valueOf};
+ghost use Rattle.payload.specs.Private.{Within};
 use crate::AFTER_CODE;
 use crate::CODE_PLACE;
 use packet::Place;

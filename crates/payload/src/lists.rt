@@ -6,7 +6,7 @@ ghost use lib.ListN.{length};
 ghost use Rattle.wire.specs.Bytes.{over};
 ghost use Rattle.connection.specs.Connection.{maxPacket};
 ghost use Rattle.places.specs.Entries.{maxHeaders, maxAttributes, maxPlaces};
-ghost use Rattle.payload.specs.Sequence.{Counts};
+ghost use Rattle.payload.specs.Private.{Counts};
 ghost use Rattle.payload.specs.Lists.{headersAfter, attributesBehind, listsAt};
 use crate::field::FieldRead;
 use crate::field::value_of;

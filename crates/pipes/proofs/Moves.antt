@@ -8,7 +8,8 @@ use Rattle.packet.specs.declared.Direction.{Direction}
 use Rattle.connection.specs.Cycle.{kindOf, directionOf, allowed, after}
 use Rattle.connection.specs.declared.Connection.{Connection}
 use Rattle.connection.specs.declared.Move.{Move}
-use Rattle.connection.proofs.Commute.{Commuting, commute}
+use Rattle.connection.proofs.Commute.{commute}
+use Rattle.connection.specs.Facts.{Commuting}
 
 -- the other direction
 abbrev pub opposite : Direction → Direction

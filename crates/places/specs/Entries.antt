@@ -16,10 +16,6 @@ maxAttributes = 64
 abbrev pub maxPlaces : ℕ
 maxPlaces = 328
 
--- the greatest place that a table of 16-bit places can hold
-abbrev pub maxPlace : ℕ
-maxPlace = 65535
-
 -- entries that were read: their places in the table's order, and how they end. Where one is refused, the places of those before it
 pub record Entries (A : Type 0) : Type 0 where
   pub places : List ℕ

@@ -10,6 +10,7 @@ use borrow.Author.Tests.{leb-true, le-leb}
 use lib.Dec.{leb}
 use lib.ListN.{length}
 use Rattle.wire.specs.Pick.{pick}
+use Rattle.wire.specs.Refusal.{notNow, sizeWrong, lentTooShort}
 use Rattle.wire.specs.Bytes.{part, over}
 use Rattle.packet.specs.declared.Direction.{Direction}
 use Rattle.wire.proofs.Tests.{both-first, both-second}
@@ -19,6 +20,7 @@ use Rattle.connection.specs.declared.Kind.{Kind}
 use Rattle.connection.specs.declared.Connection.{Connection}
 use Rattle.connection.specs.declared.Step.{Step}
 use Rattle.connection.proofs.Laws.{step-by}
+use Rattle.places.specs.Entries.{maxPlaces}
 use Rattle.payload.specs.Code.{kindAt}
 use Rattle.payload.specs.Kinds.{packetAt, moveIn}
 use Rattle.payload.specs.declared.KindRead.{KindRead}
@@ -31,21 +33,9 @@ use Rattle.reader.specs.Meaning.{Told, Meaning, needs, refused, accepted, told,
 use Rattle.reader.specs.Reading.{parsedOf, parseWhole, parseFrame, parse, readAsBody, stepped, accepting, judging, withRoom, reading, tableAfter}
 use Rattle.reader.proofs.Framing.{frame-inside}
 use Rattle.reader.proofs.Below.{places-fit}
-use Rattle.reading_laws.proofs.Later.{Answered}
+use Rattle.reading_laws.specs.Acceptance.{Acceptance, Answered, NeedsMore}
 
--- what is behind an accepted packet
-pub record Acceptance (direction : Direction) (c : Connection) (s : List ℕ) (room : ℕ) (t : Told) (taken : ℕ) (next : Connection) : Type 0 where
-  pub kind : Kind
-  pub packet : Packet
-  pub whole-is : frameAt direction s ≡ FrameRead.Whole taken
-  pub kind-is : kindAt direction (readAsBody direction c) (part s 0 taken) ≡ KindRead.Kind kind
-  pub fields-are : packetAt kind (part s 0 taken) .end ≡ PacketRead.Packet packet
-  pub allows : allowed c (moveIn packet) ≡ true
-  pub tells : t ≡ told packet
-  pub steps : next ≡ after c (moveIn packet)
-  pub has-room : placesNeeded t ≤ room
-
--- of an answer
+-- what is behind an answer, where it accepts
 abbrev Accepts : Direction → Connection → List ℕ → ℕ → Meaning → Type 0
 Accepts direction c s room (needs n) = Unit
 Accepts direction c s room (refused n) = Unit
@@ -85,7 +75,7 @@ module _ (direction : Direction) (c : Connection) (s : List ℕ) where
             → packetAt kind (part s 0 n) .end ≡ PacketRead.Packet packet → allowed c (moveIn packet) ≡ true
             → (enough : Bool) → leb (placesNeeded (told packet)) room ≡ enough
             → Accepts direction c s room
-            (pick enough (accepted (told packet) (length (part s 0 n)) (after c (moveIn packet))) (refused 15))
+            (pick enough (accepted (told packet) (length (part s 0 n)) (after c (moveIn packet))) (refused lentTooShort))
         by-room n kind packet w k f a false e = tt
         by-room n kind packet w k f a true e =
             subst (λ (taken : ℕ). Acceptance direction c s room (told packet) taken (after c (moveIn packet))) (sym (taken-is n w))
@@ -106,7 +96,7 @@ module _ (direction : Direction) (c : Connection) (s : List ℕ) where
             → packetAt kind (part s 0 n) .end ≡ PacketRead.Packet packet → inState c (kindOf (moveIn packet)) ≡ true
             → (size : Bool) → inSize c (moveIn packet) ≡ size
             → Accepts direction c s room
-            (withRoom room (stepped packet (length (part s 0 n)) (pick size (Step.Next (after c (moveIn packet))) (Step.Refused 14))))
+            (withRoom room (stepped packet (length (part s 0 n)) (pick size (Step.Next (after c (moveIn packet))) (Step.Refused sizeWrong))))
         by-size n kind packet w k f a false e = tt
         by-size n kind packet w k f a true e =
             by-room n kind packet w k f (rw (a, e)) (leb (placesNeeded (told packet)) room) refl
@@ -123,8 +113,8 @@ module _ (direction : Direction) (c : Connection) (s : List ℕ) where
             (by-size n kind packet w k e in-state (inSize c m) refl)
 
         by-state : (n : ℕ) (kind : Kind) → frameAt direction s ≡ FrameRead.Whole n
-            → kindAt direction (readAsBody direction c) (part s 0 n) ≡ KindRead.Kind kind → (now : Bool) → inState c kind ≡ now
-            → Accepts direction c s room (withRoom room (pick now (accepting c (length (part s 0 n)) (packetAt kind (part s 0 n) .end)) (refused 13)))
+            → kindAt direction (readAsBody direction c) (part s 0 n) ≡ KindRead.Kind kind → (t : Bool) → inState c kind ≡ t
+            → Accepts direction c s room (withRoom room (pick t (accepting c (length (part s 0 n)) (packetAt kind (part s 0 n) .end)) (refused notNow)))
         by-state n kind w k false e = tt
         by-state n kind w k true e = by-fields n kind w k e (packetAt kind (part s 0 n) .end) refl
 
@@ -167,7 +157,7 @@ same-told direction c e s room more t u taken used next other b p q =
 pub accepted-fills : (direction : Direction) (c : Connection) (s table : List ℕ) (t : Told) (taken : ℕ) (next : Connection)
     (e : reading direction c s (length table) ≡ accepted t taken next) → let a = accepted-is direction c s (length table) t taken next e in
     let places = packetAt (a .kind) (part s 0 taken) .places in
-    (tableAfter direction c s table ≡ over table 0 places) × ((length places ≡ placesNeeded t) × (placesNeeded t ≤ 328))
+    (tableAfter direction c s table ≡ over table 0 places) × ((length places ≡ placesNeeded t) × (placesNeeded t ≤ maxPlaces))
 unfolding tableAfter parse parseWhole
 accepted-fills direction c s table t taken next e =
     let a = accepted-is direction c s (length table) t taken next e in
@@ -187,11 +177,11 @@ pub needs-keeps : (direction : Direction) (c : Connection) (s table : List ℕ) 
 unfolding tableAfter
 needs-keeps direction c s table n e = rw e
 
--- a "needs" asks for more bytes than there are, and for no more than a packet may have
-abbrev NeedsMore : ℕ → Meaning → Type 0
-NeedsMore size (needs n) = (size < n) × (n ≤ 8192)
-NeedsMore size (refused n) = Unit
-NeedsMore size (accepted t taken next) = Unit
+-- how many bytes an answer asks for, where it asks
+abbrev Asks : ℕ → Meaning → Type 0
+Asks size (needs n) = NeedsMore size n
+Asks size (refused n) = Unit
+Asks size (accepted t taken next) = Unit
 
 -- a packet that was read is not answered with "needs"
 pub accepting-answers : (c : Connection) (taken : ℕ) (r : PacketRead) → Answered (accepting c taken r)
@@ -203,29 +193,30 @@ accepting-answers c taken (PacketRead.Packet packet) = go (stepOf c (moveIn pack
     go (Step.Refused n) = tt
     go (Step.Next next) = tt
 
+-- a "needs" asks for more bytes than there are, and for no more than a packet may have
 pub needs-more : (direction : Direction) (c : Connection) (s : List ℕ) (room n : ℕ) → reading direction c s room ≡ needs n
-    → (length s < n) × (n ≤ 8192)
+    → NeedsMore (length s) n
 unfolding reading parse parseWhole
-needs-more direction c s room n e = subst (NeedsMore (length s)) e (by-frame (frameAt direction s) refl)
+needs-more direction c s room n e = subst (Asks (length s)) e (by-frame (frameAt direction s) refl)
   where
-    lent : (m : Meaning) → Answered m → NeedsMore (length s) (withRoom room m)
+    lent : (m : Meaning) → Answered m → Asks (length s) (withRoom room m)
     lent (needs k) h = absurd h
     lent (refused k) h = tt
     lent (accepted t taken next) h = go (leb (placesNeeded t) room)
       where
-        go : (enough : Bool) → NeedsMore (length s) (pick enough (accepted t taken next) (refused 15))
+        go : (enough : Bool) → Asks (length s) (pick enough (accepted t taken next) (refused lentTooShort))
         go true = tt
         go false = tt
 
-    by-state : (now : Bool) (m : Meaning) → Answered m → NeedsMore (length s) (withRoom room (pick now m (refused 13)))
+    by-state : (t : Bool) (m : Meaning) → Answered m → Asks (length s) (withRoom room (pick t m (refused notNow)))
     by-state true m h = lent m h
     by-state false m h = tt
 
-    by-kind : (packet : List ℕ) (r : KindRead) → NeedsMore (length s) (withRoom room (judging c (parsedOf packet r)))
+    by-kind : (packet : List ℕ) (r : KindRead) → Asks (length s) (withRoom room (judging c (parsedOf packet r)))
     by-kind packet (KindRead.Refused k) = tt
     by-kind packet (KindRead.Kind kind) = by-state (inState c kind) (accepting c (length packet) (packetAt kind packet .end)) (accepting-answers c (length packet) (packetAt kind packet .end))
 
-    by-frame : (f : FrameRead) → frameAt direction s ≡ f → NeedsMore (length s) (withRoom room (judging c (parseFrame direction (readAsBody direction c) s f)))
+    by-frame : (f : FrameRead) → frameAt direction s ≡ f → Asks (length s) (withRoom room (judging c (parseFrame direction (readAsBody direction c) s f)))
     by-frame (FrameRead.Needs k) q = frame-inside direction s (FrameRead.Needs k) q
     by-frame (FrameRead.Refused k) q = tt
     by-frame (FrameRead.Whole k) q = by-kind (part s 0 k) (kindAt direction (readAsBody direction c) (part s 0 k))

@@ -7,19 +7,22 @@ use mathlib.Core.Bool.{Bool}
 use mathlib.Core.List.{List}
 use Prim.Native.Nat.{ℕ, _≤_}
 use Rattle.wire.specs.Pick.{pick}
+use Rattle.wire.specs.Refusal.{lentTooShort}
 use Rattle.wire.specs.Bytes.{part}
 use Rattle.packet.specs.declared.Direction.{Direction}
 use Rattle.connection.specs.declared.Connection.{Connection}
+use Rattle.places.specs.Entries.{maxPlaces}
 use Rattle.reader.specs.Meaning.{Told, Meaning, needs, refused, accepted, placesNeeded}
 use Rattle.reader.specs.Reading.{parse, readAsBody, judging, withRoom, reading}
-use Rattle.reading_laws.proofs.Acceptance.{Acceptance, accepted-is}
+use Rattle.reading_laws.specs.Acceptance.{Acceptance}
+use Rattle.reading_laws.proofs.Acceptance.{accepted-is}
 use Rattle.reading_laws.proofs.Inside.{told-inside}
 
 -- a table that has room for the places that are asked for
 room-enough : (t : Told) (taken : ℕ) (next : Connection) (room : ℕ) → placesNeeded t ≤ room
     → withRoom room (accepted t taken next) ≡ accepted t taken next
 room-enough t taken next room h =
-    ap (λ (enough : Bool). pick enough (accepted t taken next) (refused 15)) (le-leb (placesNeeded t) room h)
+    ap (λ (enough : Bool). pick enough (accepted t taken next) (refused lentTooShort)) (le-leb (placesNeeded t) room h)
 
 module _ (d : Direction) (c : Connection) (s : List ℕ) where
   -- what bytes are judged to be
@@ -27,7 +30,7 @@ module _ (d : Direction) (c : Connection) (s : List ℕ) where
   judged = judging c (parse d (readAsBody d c) s)
 
   -- a packet that passes asks for no more than 328 places
-  few-places : (t : Told) (taken : ℕ) (next : Connection) → judged ≡ accepted t taken next → placesNeeded t ≤ 328
+  few-places : (t : Told) (taken : ℕ) (next : Connection) → judged ≡ accepted t taken next → placesNeeded t ≤ maxPlaces
   unfolding reading
   few-places t taken next e =
       let room : ℕ = placesNeeded t in
@@ -37,7 +40,7 @@ module _ (d : Direction) (c : Connection) (s : List ℕ) where
       omega (arith, most, ap placesNeeded (a .tells))
 
   -- reading with 328 places or more is judging with the table aside
-  pub aside : (room : ℕ) → 328 ≤ room → reading d c s room ≡ judging c (parse d (readAsBody d c) s)
+  pub aside : (room : ℕ) → maxPlaces ≤ room → reading d c s room ≡ judging c (parse d (readAsBody d c) s)
   unfolding reading
   aside room h = go judged refl
     where

@@ -22,22 +22,20 @@ use Rattle.attributes.proofs.Laws.{attributes-inside}
 use Rattle.connection.specs.declared.Kind.{Kind}
 use Rattle.payload.specs.Sequence.{afterCode, stringAfter, booleanAfter, byteAfter, anyIntegerAfter, integerAfter, placeOf}
 use Rattle.payload.specs.Lists.{headersAfter, attributesBehind, behindHeaders, listsAt}
-use Rattle.payload.specs.Forward.{forwardOf, forwardAt}
-use Rattle.payload.specs.SendHeaders.{sendHeadersOf, sendHeadersAt}
+use Rattle.payload.specs.Forward.{firstMethod, lastMethod, forwardOf, forwardAt}
+use Rattle.payload.specs.SendHeaders.{leastStatus, greatestStatus, sendHeadersOf, sendHeadersAt}
 use Rattle.payload.specs.Kinds.{packetAt, kindIn}
 use Rattle.payload.specs.declared.field.FieldRead.{FieldRead}
 use Rattle.payload.specs.declared.lists.ListsRead.{ListsRead}
 use Rattle.packet.specs.declared.SendHeaders.{SendHeaders}
 use Rattle.packet.specs.declared.Packet.{Packet}
 use Rattle.payload.specs.declared.found.PacketRead.{PacketRead}
-use Rattle.payload.proofs.Fields.{FieldInside, string-after-inside, integer-after-inside}
+use Rattle.payload.proofs.Fields.{string-after-inside, integer-after-inside}
+use Rattle.payload.specs.Facts.{FieldInside}
 use Rattle.payload.proofs.Laws.{body-inside, chunk-inside}
 use Rattle.payload.proofs.Parsed.{forward-places, send-headers-places, parsed-kind}
-use Rattle.reader.specs.Meaning.{Told, told, placesNeeded}
-
--- every place is before the end of a packet of `size` bytes
-abbrev AllBelow : ℕ → List ℕ → Type 0
-AllBelow size places = all (λ (p : ℕ). ltb p size) places ≡ true
+use Rattle.reader.specs.Meaning.{Told, told}
+use Rattle.reading_laws.specs.Inside.{AllBelow, ToldInside}
 
 -- where every element passes a test, it passes a weaker one
 all-weaker : (p q : ℕ → Bool) → ((n : ℕ) → p n ≡ true → q n ≡ true) → (l : List ℕ) → all p l ≡ true → all q l ≡ true
@@ -82,7 +80,7 @@ lists-below s count =
     (headers-below Direction.ToContainer s count) (attributes-below s (headers .end))
 
 -- every place that a packet has for the table is inside the packet
-pub places-inside : (kind : Kind) (s : List ℕ) → all (λ (p : ℕ). ltb p (length s)) (packetAt kind s .places) ≡ true
+pub places-inside : (kind : Kind) (s : List ℕ) → AllBelow (length s) (packetAt kind s .places)
 unfolding forwardAt sendHeadersAt
 places-inside Kind.CPing s = none-below (length s)
 places-inside Kind.CPong s = none-below (length s)
@@ -92,14 +90,6 @@ places-inside Kind.GetBody s = none-below (length s)
 places-inside Kind.SendHeaders s = headers-below Direction.ToServer s _
 places-inside Kind.BodyChunk s = none-below (length s)
 places-inside Kind.End s = none-below (length s)
-
--- what a packet of `size` bytes tells: each string's place and the part are inside it; at most 100 headers, 64 attributes and 328 places
-pub record ToldInside (size : ℕ) (t : Told) : Type 0 where
-  pub strings-in : all (λ (p : ℕ). ltb p size) (t .strings) ≡ true
-  pub part-in : t .start + t .len ≤ size
-  pub headers-most : t .headers ≤ 100
-  pub attributes-most : t .attributes ≤ 64
-  pub places-most : placesNeeded t ≤ 328
 
 -- the places of the strings that are told, where a packet is read, are inside a packet of `size` bytes
 abbrev StringsIn : ℕ → PacketRead → Type 0
@@ -131,7 +121,7 @@ forward-strings s method protocol uri addr host name port ssl (FieldRead.Field a
 forward-in : (s : List ℕ) → StringsIn (length s) (forwardAt s .end)
 unfolding forwardAt
 forward-in s =
-    let method = byteAfter s 1 27 outOfRange afterCode in
+    let method = byteAfter s firstMethod lastMethod outOfRange afterCode in
     let protocol = stringAfter s StringField.Protocol method in
     let uri = stringAfter s StringField.ReqUri protocol in
     let addr = stringAfter s StringField.RemoteAddr uri in
@@ -164,7 +154,7 @@ head-strings s status message (FieldRead.Field at value next) h1 h = go (headers
 head-in : (s : List ℕ) → StringsIn (length s) (sendHeadersAt s .end)
 unfolding sendHeadersAt
 head-in s =
-    let status = integerAfter s 100 599 outOfRange afterCode in
+    let status = integerAfter s leastStatus greatestStatus outOfRange afterCode in
     let message = stringAfter s StringField.Message status in
     head-strings s status message (integerAfter s 0 maxHeaders tooMany message)
     (string-after-inside s StringField.Message status) (integer-after-inside s 0 maxHeaders tooMany message)

@@ -11,6 +11,7 @@ use lib.Dec.{leb, ltb, eqb}
 use lib.ListN.{length, getD, length-append, List·getD-append}
 use lib.Seq.{take-append-le}
 use Rattle.wire.specs.Pick.{pick, either}
+use Rattle.wire.specs.Refusal.{leadingWrong, tooLong}
 use Rattle.wire.specs.Bytes.{part, integerIn}
 use Rattle.wire.specs.Field.{integerAt}
 use Rattle.wire.specs.Packet.{leading}
@@ -18,19 +19,16 @@ use Rattle.packet.specs.declared.Direction.{Direction}
 use Rattle.wire.specs.declared.read.NumberRead.{NumberRead}
 use Rattle.wire.proofs.Tests.{both-first}
 use Rattle.wire.proofs.Field.{integer-inside}
+use Rattle.connection.specs.Connection.{maxPayload}
 use Rattle.connection.specs.declared.Connection.{Connection}
 use Rattle.reader.specs.declared.frame.FrameRead.{FrameRead}
-use Rattle.reader.specs.Frame.{differs, leadingDiffers, lengthAt, frameOf, frameAt}
+use Rattle.reader.specs.Frame.{headSize, lengthPlace, differs, leadingDiffers, lengthAt, frameOf, frameAt}
 use Rattle.reader.specs.Meaning.{Meaning, needs, refused, accepted}
 use Rattle.reader.specs.Reading.{Parsed, parseWhole, parseFrame, parse, readAsBody, judging, withRoom, reading, tableAfter}
 use Rattle.reader.proofs.Framing.{frame-inside}
+use Rattle.reading_laws.specs.Acceptance.{Answered}
 
--- an answer that is not "needs"
-abbrev pub Answered : Meaning → Type 0
-Answered (needs n) = ⊥
-Answered (refused n) = Unit
-Answered (accepted t taken after) = Unit
-
+-- a frame that is not short of bytes
 abbrev Framed : FrameRead → Type 0
 Framed (FrameRead.Needs n) = ⊥
 Framed (FrameRead.Refused n) = Unit
@@ -77,50 +75,50 @@ module _ (s rest : List ℕ) where
       (still-differs 0 (getD (leading direction) 0 0)) (still-differs 1 (getD (leading direction) 1 0)) e
 
   -- where the length is there, so are the leading bytes
-  same-leading : (direction : Direction) → 4 ≤ length s → leadingDiffers direction (s ++ rest) ≡ leadingDiffers direction s
+  same-leading : (direction : Direction) → headSize ≤ length s → leadingDiffers direction (s ++ rest) ≡ leadingDiffers direction s
   unfolding leadingDiffers
   same-leading direction h =
       let a = same-differs 0 (getD (leading direction) 0 0) (omega arith) in
       let b = same-differs 1 (getD (leading direction) 1 0) (omega arith) in
       rw (a, b)
 
-  same-length : 4 ≤ length s → integerAt (s ++ rest) 2 ≡ integerAt s 2
+  same-length : headSize ≤ length s → integerAt (s ++ rest) lengthPlace ≡ integerAt s lengthPlace
   unfolding integerAt integerIn
   same-length h =
-      let a : leb 4 (length s) ≡ true = le-leb 4 (length s) h in
-      let b : leb 4 (length (s ++ rest)) ≡ true = le-leb 4 (length (s ++ rest)) (omega (arith, longer)) in
-      rw (a, b, same-byte 2 (omega arith), same-byte 3 (omega arith))
+      let a : leb headSize (length s) ≡ true = le-leb headSize (length s) h in
+      let b : leb headSize (length (s ++ rest)) ≡ true = le-leb headSize (length (s ++ rest)) (omega (arith, longer)) in
+      rw (a, b, same-byte lengthPlace (omega arith), same-byte (lengthPlace + 1) (omega arith))
 
   -- a length whose packet is refused or whole
   same-sized : (payload : ℕ) → Framed (lengthAt (length s) payload) → lengthAt (length (s ++ rest)) payload ≡ lengthAt (length s) payload
   unfolding lengthAt
-  same-sized payload = go (leb payload 8188) (ltb (length s) (4 + payload)) refl
+  same-sized payload = go (leb payload maxPayload) (ltb (length s) (headSize + payload)) refl
     where
-      go : (fits lacks : Bool) → ltb (length s) (4 + payload) ≡ lacks
-          → Framed (pick fits (pick lacks (FrameRead.Needs (4 + payload)) (FrameRead.Whole (4 + payload))) (FrameRead.Refused 2))
-          → pick fits (pick (ltb (length (s ++ rest)) (4 + payload)) (FrameRead.Needs (4 + payload)) (FrameRead.Whole (4 + payload))) (FrameRead.Refused 2)
-          ≡ pick fits (pick lacks (FrameRead.Needs (4 + payload)) (FrameRead.Whole (4 + payload))) (FrameRead.Refused 2)
+      go : (fits lacks : Bool) → ltb (length s) (headSize + payload) ≡ lacks
+          → Framed (pick fits (pick lacks (FrameRead.Needs (headSize + payload)) (FrameRead.Whole (headSize + payload))) (FrameRead.Refused tooLong))
+          → pick fits (pick (ltb (length (s ++ rest)) (headSize + payload)) (FrameRead.Needs (headSize + payload)) (FrameRead.Whole (headSize + payload))) (FrameRead.Refused tooLong)
+          ≡ pick fits (pick lacks (FrameRead.Needs (headSize + payload)) (FrameRead.Whole (headSize + payload))) (FrameRead.Refused tooLong)
       go false lacks e h = refl
       go true true e h = absurd h
       go true false e h =
-          let q : 4 + payload ≤ length s = ltb-false (length s) (4 + payload) e in
-          let p : ltb (length (s ++ rest)) (4 + payload) ≡ false = le-ltb (length (s ++ rest)) (4 + payload) (omega (arith, longer)) in
+          let q : headSize + payload ≤ length s = ltb-false (length s) (headSize + payload) e in
+          let p : ltb (length (s ++ rest)) (headSize + payload) ≡ false = le-ltb (length (s ++ rest)) (headSize + payload) (omega (arith, longer)) in
           rw p
 
   -- a frame that is refused or whole
   same-frame : (direction : Direction) → Framed (frameAt direction s) → frameAt direction (s ++ rest) ≡ frameAt direction s
   unfolding frameAt
-  same-frame direction = go (leadingDiffers direction s) (integerAt s 2) refl refl
+  same-frame direction = go (leadingDiffers direction s) (integerAt s lengthPlace) refl refl
     where
-      go : (differ : Bool) (number : NumberRead) → leadingDiffers direction s ≡ differ → integerAt s 2 ≡ number
-          → Framed (pick differ (FrameRead.Refused 1) (frameOf (length s) number))
-          → pick (leadingDiffers direction (s ++ rest)) (FrameRead.Refused 1) (frameOf (length (s ++ rest)) (integerAt (s ++ rest) 2))
-          ≡ pick differ (FrameRead.Refused 1) (frameOf (length s) number)
+      go : (differ : Bool) (number : NumberRead) → leadingDiffers direction s ≡ differ → integerAt s lengthPlace ≡ number
+          → Framed (pick differ (FrameRead.Refused leadingWrong) (frameOf (length s) number))
+          → pick (leadingDiffers direction (s ++ rest)) (FrameRead.Refused leadingWrong) (frameOf (length (s ++ rest)) (integerAt (s ++ rest) lengthPlace))
+          ≡ pick differ (FrameRead.Refused leadingWrong) (frameOf (length s) number)
       go true number e q h = rw (still-differing direction e)
       go false (NumberRead.Refused n) e q h = absurd h
       go false (NumberRead.Number payload next) e q h =
-          let inside = integer-inside s 2 (NumberRead.Number payload next) q in
-          let four : 4 ≤ length s = omega (arith, inside) in
+          let inside = integer-inside s lengthPlace (NumberRead.Number payload next) q in
+          let four : headSize ≤ length s = omega (arith, inside) in
           rw (same-leading direction four ∙ e, same-length four ∙ q) (same-sized payload h)
 
   -- what bytes are parsed as

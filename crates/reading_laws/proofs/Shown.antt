@@ -13,12 +13,14 @@ use lib.Seq.{take-append-le, drop-append-le}
 use Rattle.wire.specs.Pick.{pick}
 use Rattle.wire.specs.Refusal.{none, cutShort}
 use Rattle.wire.specs.Bytes.{part, integerIn}
-use Rattle.wire.specs.Field.{integerAt, stringAt, isOptional}
+use Rattle.wire.specs.Field.{integerAt, nullLength, stringAt, isOptional}
 use Rattle.packet.specs.declared.Direction.{Direction}
 use Rattle.wire.specs.declared.StringField.{StringField}
 use Rattle.wire.specs.declared.read.NumberRead.{NumberRead}
 use Rattle.wire.specs.declared.read.StringRead.{StringRead}
-use Rattle.wire.proofs.Field.{TextRead, text-read, NullRead, null-read}
+use Rattle.wire.specs.Facts.{TextRead, NullRead}
+use Rattle.wire.proofs.Field.{text-read, null-read}
+use Rattle.names.specs.Attribute.{attributeKind}
 use Rattle.names.specs.Header.{beginsCode, codeFault, spelledFault}
 use Rattle.headers.specs.Headers.{codeNameOf, spelledAt, spelledOf, nameAt}
 use Rattle.headers.specs.declared.NameRead.{NameRead}
@@ -42,7 +44,7 @@ pub text-shown : (s : List ℕ) (at : ℕ) (optional : Bool) (start len next : �
 text-shown s at optional start len next e =
     let r : TextRead s at optional start len next = text-read s at optional start len next e in
     let n : len ≡ integerView s at = r .length-is ∙ sym (number-there s at (omega (arith, r .starts, r .ends, r .fits))) in
-    let some : eqb len 65535 ≡ false = ne-eqb len 65535 (r .not-null) in
+    let some : eqb len nullLength ≡ false = ne-eqb len nullLength (r .not-null) in
     (sym (null-is s at len n) ∙ some, sym (text-is s at len n some) ∙ ap (λ (k : ℕ). part s k len) (sym (r .starts)))
 
 -- a string that was read as null is shown as null, with no bytes
@@ -50,8 +52,8 @@ pub null-shown : (s : List ℕ) (at : ℕ) (optional : Bool) (next : ℕ) → st
     → (nullView s at ≡ true) × (textView s at ≡ [])
 null-shown s at optional next e =
     let r : NullRead s at optional next = null-read s at optional next e in
-    let n : 65535 ≡ integerView s at = sym (r .length-is) ∙ sym (number-there s at (omega (arith, r .ends, r .fits))) in
-    (sym (null-is s at 65535 n), sym (text-null s at 65535 n refl) ∙ part-none s)
+    let n : nullLength ≡ integerView s at = sym (r .length-is) ∙ sym (number-there s at (omega (arith, r .ends, r .fits))) in
+    (sym (null-is s at nullLength n), sym (text-null s at nullLength n refl) ∙ part-none s)
 
 -- what is shown of a name, by what it was read as
 abbrev NameShown : List ℕ → ℕ → NameRead → Type 0
@@ -170,6 +172,14 @@ module _ (s : List ℕ) (n at : ℕ) (there : at + 2 ≤ length (part s 0 n)) wh
 
   pub name-lent : nameView s at ≡ nameView (part s 0 n) at
   name-lent = ap (λ (l : List ℕ). nameView l at) (sym (lent-is s n)) ∙ name-more (part s 0 n) (drop n s) at there
+
+-- and an attribute's code, and by it the kind of its value
+module _ (s : List ℕ) (n at : ℕ) (there : at + 1 ≤ length (part s 0 n)) where
+  pub attribute-code-lent : getD s at 0 ≡ getD (part s 0 n) at 0
+  attribute-code-lent = ap (λ (l : List ℕ). getD l at 0) (sym (lent-is s n)) ∙ List·getD-append (part s 0 n) (drop n s) 0 at (omega arith)
+
+  pub attribute-kind-lent : attributeKind (getD s at 0) ≡ attributeKind (getD (part s 0 n) at 0)
+  attribute-kind-lent = ap attributeKind attribute-code-lent
 
 -- and a body or a chunk is the same part of both
 pub bytes-lent : (s : List ℕ) (n start len : ℕ) → start + len ≤ length (part s 0 n) → part s start len ≡ part (part s 0 n) start len

@@ -5,6 +5,7 @@ use mathlib.Core.List.{map}
 use Rattle.wire.specs.Pick.{all, any}
 use Rattle.wire.specs.Bytes.{part, integerIn}
 use Rattle.wire.specs.Field.{byteAt, integerAt, booleanAt, textAt, afterLength, stringAt}
+use Rattle.names.specs.Names.{methodNames, nameFor}
 use Rattle.connection.specs.Cycle.{largestBody, stepOf}
 use Rattle.headers.specs.Headers.{headersAt}
 use Rattle.attributes.specs.Attributes.{attributeAt, attributesAt}
@@ -19,8 +20,9 @@ use Rattle.payload.specs.Forward.{forwardAt}
 use Rattle.payload.specs.SendHeaders.{sendHeadersAt}
 use Rattle.reader.specs.Frame.{leadingDiffers, lengthAt, frameAt}
 use Rattle.reader.specs.Reading.{parseWhole, parse, accepting, reading}
+use Rattle.views.specs.View.{integerView, nullView, textView}
 use Rattle.reading_laws.specs.Starred.{answered, expected, starred}
 
 pub starred-set : map answered starred ≡ map expected starred
-unfolding all any part integerIn byteAt integerAt booleanAt textAt afterLength stringAt largestBody stepOf headersAt attributeAt attributesAt codeKind kindAt stringFieldAt stringAfter booleanFieldAt booleanAfter byteAfter anyIntegerAfter integerAfter endAt getAt sizedAt bodyAt chunkOf chunkAt headersAfter attributesBehind listsAt forwardAt sendHeadersAt leadingDiffers lengthAt frameAt parseWhole parse accepting reading
+unfolding all any part integerIn byteAt integerAt booleanAt textAt afterLength stringAt largestBody stepOf headersAt attributeAt attributesAt codeKind kindAt stringFieldAt stringAfter booleanFieldAt booleanAfter byteAfter anyIntegerAfter integerAfter endAt getAt sizedAt bodyAt chunkOf chunkAt headersAfter attributesBehind listsAt forwardAt sendHeadersAt leadingDiffers lengthAt frameAt parseWhole parse accepting reading integerView nullView textView methodNames nameFor
 starred-set = refl

@@ -1,1 +1,4 @@
+pub mod Acceptance
+pub mod Inside
+pub mod Handed
 pub mod Starred

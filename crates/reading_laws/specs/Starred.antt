@@ -1,53 +1,67 @@
 -- The starred packets of document 01, 'Packets on both sides of the line', each with every state that its line names; where none is named,
--- with one that allows the packet.
+-- with one that allows the packet. Refusals are written as document 01's numbers and texts as they are, so that no name stands between.
 -- Assumes nothing.
 use mathlib.Core.Bool.{true, false}
 use mathlib.Core.List.{List, [], _∷_}
 use Prim.Native.Nat.{ℕ}
-use Rattle.wire.specs.Refusal.{cutShort, stringWrong, outOfRange, sizeWrong}
 use Rattle.wire.specs.Bytes.{part}
 use Rattle.packet.specs.declared.Direction.{Direction}
-use Rattle.names.specs.Names.{ascii}
+use Rattle.names.specs.Names.{ascii, nameFor}
+use Rattle.names.specs.declared.NameList.{NameList}
 use Rattle.connection.specs.Connection.{fields, bare, fresh}
 use Rattle.connection.specs.declared.State.{State}
 use Rattle.connection.specs.declared.Kind.{Kind}
 use Rattle.connection.specs.declared.Connection.{Connection}
 use Rattle.reader.specs.Meaning.{Told, Meaning, needs, refused, accepted, numbered, parted}
 use Rattle.reader.specs.Reading.{reading}
+use Rattle.views.specs.View.{textView}
+use Rattle.reading_laws.specs.Handed.{numberTold, placeTold}
 
--- a packet that comes in a direction to an end with this connection, its answer, and the body or chunk that it hands out; no table is lent
+-- a packet that comes in a direction to an end with this connection, its answer, and the texts that it shows; no table is lent
 pub record Case : Type 0 where
   pub direction : Direction
   pub connection : Connection
   pub bytes : List ℕ
   pub answer : Meaning
-  pub handed : List ℕ
+  pub texts : List (List ℕ)
 
--- what an answer hands out of the lent bytes: the body or the chunk
-abbrev pub handedOut : List ℕ → Meaning → List ℕ
-handedOut s (needs n) = []
-handedOut s (refused n) = []
-handedOut s (accepted t taken after) = part s (t .start) (t .len)
+-- the texts that a packet shows, as the views show them: a Forward the name of its method, its protocol and its req_uri; a Send Headers its
+-- message; a body packet and a chunk their bytes
+abbrev pub textsBy : List ℕ → Told → Kind → List (List ℕ)
+textsBy s t Kind.CPing = []
+textsBy s t Kind.CPong = []
+textsBy s t Kind.Forward = nameFor NameList.Methods (numberTold t 0) ∷ textView s (placeTold t 0) ∷ textView s (placeTold t 1) ∷ []
+textsBy s t Kind.Body = part s (t .start) (t .len) ∷ []
+textsBy s t Kind.GetBody = []
+textsBy s t Kind.SendHeaders = textView s (placeTold t 0) ∷ []
+textsBy s t Kind.BodyChunk = part s (t .start) (t .len) ∷ []
+textsBy s t Kind.End = []
 
--- what reading answers, and hands out
-abbrev pub answered : Case → Meaning × List ℕ
+-- the texts that an answer shows of the lent bytes
+abbrev pub textsShown : List ℕ → Meaning → List (List ℕ)
+textsShown s (needs n) = []
+textsShown s (refused n) = []
+textsShown s (accepted t taken after) = textsBy s t (t .kind)
+
+-- what reading answers, and shows
+abbrev pub answered : Case → Meaning × List (List ℕ)
 answered c =
     let answer = reading (c .direction) (c .connection) (c .bytes) 0 in
-    (answer, handedOut (c .bytes) answer)
+    (answer, textsShown (c .bytes) answer)
 
 -- what document 01 says
-abbrev pub expected : Case → Meaning × List ℕ
-expected c = (c .answer, c .handed)
+abbrev pub expected : Case → Meaning × List (List ℕ)
+expected c = (c .answer, c .texts)
 
 -- a packet for the container's end
-abbrev toContainer : Connection → List ℕ → Meaning → List ℕ → Case
-toContainer connection bytes answer handed =
-    record { direction = Direction.ToContainer; connection = connection; bytes = bytes; answer = answer; handed = handed }
+abbrev toContainer : Connection → List ℕ → Meaning → List (List ℕ) → Case
+toContainer connection bytes answer texts =
+    record { direction = Direction.ToContainer; connection = connection; bytes = bytes; answer = answer; texts = texts }
 
 -- a packet for the server's end
-abbrev toServer : Connection → List ℕ → Meaning → List ℕ → Case
-toServer connection bytes answer handed =
-    record { direction = Direction.ToServer; connection = connection; bytes = bytes; answer = answer; handed = handed }
+abbrev toServer : Connection → List ℕ → Meaning → List (List ℕ) → Case
+toServer connection bytes answer texts =
+    record { direction = Direction.ToServer; connection = connection; bytes = bytes; answer = answer; texts = texts }
 
 -- a connection with a body packet due: bytes left, bytes asked for
 abbrev due : ℕ → ℕ → Connection
@@ -147,16 +161,16 @@ abbrev pub starred : List Case
 starred =
     toContainer fresh cping (accepted (numbered Kind.CPing []) 5 (bare State.Pinged)) []
     ∷ toServer (bare State.Pinged) cpong (accepted (numbered Kind.CPong []) 5 fresh) []
-    ∷ toContainer (due 0 8186) emptyBody (accepted (parted Kind.Body 4 0) 4 unanswered) []
-    ∷ toContainer (due 1 1) emptyBody (refused sizeWrong) []
-    ∷ toContainer fresh emptyBody (refused cutShort) []
-    ∷ toContainer (due 2 8186) hiBody (accepted (parted Kind.Body 6 2) 8 unanswered) (ascii "hi")
-    ∷ toContainer (due 1 8186) hiBody (refused sizeWrong) []
+    ∷ toContainer (due 0 8186) emptyBody (accepted (parted Kind.Body 4 0) 4 unanswered) (ascii "" ∷ [])
+    ∷ toContainer (due 1 1) emptyBody (refused 14) []
+    ∷ toContainer fresh emptyBody (refused 3) []
+    ∷ toContainer (due 2 8186) hiBody (accepted (parted Kind.Body 6 2) 8 unanswered) (ascii "hi" ∷ [])
+    ∷ toContainer (due 1 8186) hiBody (refused 14) []
     ∷ toServer answering endReuse (accepted (numbered Kind.End (1 ∷ [])) 6 fresh) []
-    ∷ toServer answering endTwo (refused outOfRange) []
+    ∷ toServer answering endTwo (refused 7) []
     ∷ toServer unanswered getAll (accepted (numbered Kind.GetBody (8186 ∷ [])) 7 (due 0 8186)) []
-    ∷ toServer answering okChunk (accepted (parted Kind.BodyChunk 7 2) 10 answering) (ascii "ok")
-    ∷ toServer answering openChunk (refused stringWrong) []
-    ∷ toServer unanswered okHead (accepted okTold 14 answering) []
-    ∷ toContainer fresh getRoot (accepted getTold 33 unanswered) []
+    ∷ toServer answering okChunk (accepted (parted Kind.BodyChunk 7 2) 10 answering) (ascii "ok" ∷ [])
+    ∷ toServer answering openChunk (refused 6) []
+    ∷ toServer unanswered okHead (accepted okTold 14 answering) (ascii "OK" ∷ [])
+    ∷ toContainer fresh getRoot (accepted getTold 33 unanswered) (ascii "GET" ∷ ascii "HTTP/1.1" ∷ ascii "/" ∷ [])
     ∷ []

@@ -9,9 +9,11 @@ use borrow.Author.Tests.{le-leb, lt-leb, lt-ltb, le-ltb, ne-eqb, leb-true, eqb-t
 use lib.Dec.{leb, eqb}
 use lib.ListN.{length, getD, length-append}
 use Rattle.wire.specs.Pick.{pick, both, either}
+use Rattle.wire.specs.Refusal.{cutShort, stringWrong, outOfRange}
 use Rattle.wire.specs.Bytes.{part, put, integerIn, integerBytes}
-use Rattle.wire.specs.Field.{numberAt, byteAt, integerAt, booleanOf, booleanAt, lacks, holdsBarred, textAt, afterLength, stringOf, stringAt, stringBytes, stringAllowed, putString}
+use Rattle.wire.specs.Field.{numberAt, byteAt, integerAt, booleanOf, booleanAt, nullLength, lacks, holdsBarred, textAt, afterLength, stringOf, stringAt, stringBytes, stringAllowed, putString}
 use Rattle.wire.specs.Packet.{leading, head}
+use Rattle.wire.specs.Facts.{NumberInside, BooleanInside, StringInside, TextRead, NullRead}
 use Rattle.packet.specs.declared.Direction.{Direction}
 use Rattle.wire.specs.declared.read.NumberRead.{NumberRead}
 use Rattle.wire.specs.declared.read.BooleanRead.{BooleanRead}
@@ -23,7 +25,7 @@ module _ (width value : ℕ) (s : List ℕ) (at : ℕ) where
   pub number-read : at + width ≤ length s → NumberRead.Number value (at + width) ≡ numberAt width value s at
   number-read h = simp (le-leb (at + width) (length s) h)
 
-  pub number-short : length s < at + width → NumberRead.Refused 3 ≡ numberAt width value s at
+  pub number-short : length s < at + width → NumberRead.Refused cutShort ≡ numberAt width value s at
   number-short h = simp (lt-leb (at + width) (length s) h)
 
 -- a boolean, by what the byte reads as
@@ -37,23 +39,23 @@ unfolding stringAt
 string-is s at optional r e = ap (stringOf s optional) e
 
 -- what follows a length, by the two tests on it; a proof that does not reach a test says `refl`
-pub after-is : (s : List ℕ) (optional : Bool) (len start : ℕ) (lack null : Bool) → lacks optional (eqb len 65535) len ≡ lack → eqb len 65535 ≡ null
-    → pick lack (StringRead.Refused 6) (pick null (StringRead.Null start) (textAt s start len)) ≡ afterLength s optional len start
+pub after-is : (s : List ℕ) (optional : Bool) (len start : ℕ) (lack null : Bool) → lacks optional (eqb len nullLength) len ≡ lack → eqb len nullLength ≡ null
+    → pick lack (StringRead.Refused stringWrong) (pick null (StringRead.Null start) (textAt s start len)) ≡ afterLength s optional len start
 unfolding afterLength
 after-is s optional len start lack null p q = rw (p, q)
 
 -- the outcomes of a string's bytes
 module _ (s : List ℕ) (start len : ℕ) where
-  pub text-short : length s < start + (len + 1) → StringRead.Refused 3 ≡ textAt s start len
+  pub text-short : length s < start + (len + 1) → StringRead.Refused cutShort ≡ textAt s start len
   unfolding textAt
   text-short h = simp lt-leb
 
-  pub text-open : start + (len + 1) ≤ length s → (getD s (start + len) 0 ≡ 0 → ⊥) → StringRead.Refused 6 ≡ textAt s start len
+  pub text-open : start + (len + 1) ≤ length s → (getD s (start + len) 0 ≡ 0 → ⊥) → StringRead.Refused stringWrong ≡ textAt s start len
   unfolding textAt
   text-open h z = simp (le-leb, ne-eqb)
 
   pub text-closed : (t : Bool) → start + (len + 1) ≤ length s → getD s (start + len) 0 ≡ 0 → t ≡ holdsBarred (part s start len)
-      → pick t (StringRead.Refused 6) (StringRead.Text start len (start + len + 1)) ≡ textAt s start len
+      → pick t (StringRead.Refused stringWrong) (StringRead.Text start len (start + len + 1)) ≡ textAt s start len
   unfolding textAt
   text-closed true h z e = simp (le-leb, z, ← e)
   text-closed false h z e = simp (le-leb, z, ← e)
@@ -80,18 +82,18 @@ module _ (null : Bool) (text : List ℕ) where
 
 -- the outcomes of writing a string
 module _ (l : List ℕ) (at : ℕ) (null : Bool) (text : List ℕ) where
-  pub string-null : null ≡ true → put l at (integerBytes 65535) ≡ putString l at null text
+  pub string-null : null ≡ true → put l at (integerBytes nullLength) ≡ putString l at null text
   unfolding putString stringBytes
   string-null e = rw e
 
-  pub string-long : null ≡ false → 65535 ≤ length text → l ≡ putString l at null text
+  pub string-long : null ≡ false → nullLength ≤ length text → l ≡ putString l at null text
   unfolding putString
-  string-long e h = rw (e, le-ltb (length text) 65535 h)
+  string-long e h = rw (e, le-ltb (length text) nullLength h)
 
-  pub string-text : null ≡ false → length text < 65535
+  pub string-text : null ≡ false → length text < nullLength
       → put l at (integerBytes (length text) ++ (text ++ (0 ∷ []))) ≡ putString l at null text
   unfolding putString stringBytes
-  string-text e h = rw (e, lt-ltb (length text) 65535 h)
+  string-text e h = rw (e, lt-ltb (length text) nullLength h)
 
 -- a packet's leading bytes are two, and its head four
 pub length-leading : (d : Direction) → length (leading d) ≡ 2
@@ -102,16 +104,12 @@ pub head-four : (d : Direction) (n : ℕ) → length (head d n) ≡ 4
 head-four Direction.ToContainer n = refl
 head-four Direction.ToServer n = refl
 
--- what is answered lies inside a packet of n bytes: a number of a width at a place
-abbrev pub NumberInside : ℕ → ℕ → ℕ → NumberRead → Type 0
-NumberInside n at width (NumberRead.Refused k) = Unit
-NumberInside n at width (NumberRead.Number value next) = (next ≡ at + width) × (next ≤ n)
-
+-- what is answered lies inside the packet: a number
 pub number-inside : (width value : ℕ) (s : List ℕ) (at : ℕ) → NumberInside (length s) at width (numberAt width value s at)
 number-inside width value s at = go (leb (at + width) (length s)) refl
   where
     go : (t : Bool) → leb (at + width) (length s) ≡ t
-        → NumberInside (length s) at width (pick t (NumberRead.Number value (at + width)) (NumberRead.Refused 3))
+        → NumberInside (length s) at width (pick t (NumberRead.Number value (at + width)) (NumberRead.Refused cutShort))
     go true h = (refl, leb-true (at + width) (length s) h)
     go false h = tt
 
@@ -124,15 +122,11 @@ unfolding integerAt
 integer-inside s at r e = subst (NumberInside (length s) at 2) e (number-inside 2 (integerIn s at) s at)
 
 -- a boolean
-abbrev pub BooleanInside : ℕ → ℕ → BooleanRead → Type 0
-BooleanInside n at (BooleanRead.Refused k) = Unit
-BooleanInside n at (BooleanRead.Boolean value next) = (next ≡ at + 1) × (next ≤ n)
-
 boolean-of-inside : (n at : ℕ) (r : NumberRead) → NumberInside n at 1 r → BooleanInside n at (booleanOf r)
 boolean-of-inside n at (NumberRead.Refused k) h = tt
 boolean-of-inside n at (NumberRead.Number value next) h = go (eqb value 0) (eqb value 1)
   where
-    go : (t u : Bool) → BooleanInside n at (pick t (BooleanRead.Boolean false next) (pick u (BooleanRead.Boolean true next) (BooleanRead.Refused 7)))
+    go : (t u : Bool) → BooleanInside n at (pick t (BooleanRead.Boolean false next) (pick u (BooleanRead.Boolean true next) (BooleanRead.Refused outOfRange)))
     go true u = h
     go false true = h
     go false false = tt
@@ -141,23 +135,7 @@ pub boolean-inside : (s : List ℕ) (at : ℕ) (r : BooleanRead) → booleanAt s
 unfolding booleanAt
 boolean-inside s at r e = subst (BooleanInside (length s) at) e (boolean-of-inside (length s) at (byteAt s at) (byte-inside s at (byteAt s at) refl))
 
--- what a string that reads as a text is
-pub record TextRead (s : List ℕ) (at : ℕ) (optional : Bool) (start len next : ℕ) : Type 0 where
-  pub starts : start ≡ at + 2
-  pub ends : next ≡ start + len + 1
-  pub fits : next ≤ length s
-  pub length-is : len ≡ integerIn s at
-  pub not-null : len ≡ 65535 → ⊥
-  pub zero-last : getD s (start + len) 0 ≡ 0
-  pub may-stand : stringAllowed optional false (part s start len) ≡ true
-
--- what a string that reads as null is
-pub record NullRead (s : List ℕ) (at : ℕ) (optional : Bool) (next : ℕ) : Type 0 where
-  pub ends : next ≡ at + 2
-  pub fits : next ≤ length s
-  pub length-is : integerIn s at ≡ 65535
-  pub may-stand : optional ≡ true
-
+-- what a string that is read is, by how it reads
 abbrev Found : List ℕ → ℕ → Bool → StringRead → Type 0
 Found s at optional (StringRead.Refused k) = Unit
 Found s at optional (StringRead.Null next) = NullRead s at optional next
@@ -170,14 +148,14 @@ standing s start len optional p q h =
     sym (allowed-is optional false (part s start len) false false false (ap (lacks optional false) (length-part s start len (omega arith)) ∙ p) refl q)
 
 -- a text's bytes
-found-text : (s : List ℕ) (at : ℕ) (optional : Bool) (len : ℕ) → len ≡ integerIn s at → (len ≡ 65535 → ⊥) → lacks optional false len ≡ false
+found-text : (s : List ℕ) (at : ℕ) (optional : Bool) (len : ℕ) → len ≡ integerIn s at → (len ≡ nullLength → ⊥) → lacks optional false len ≡ false
     → Found s at optional (textAt s (at + 2) len)
 unfolding textAt
 found-text s at optional len e k present =
     go (leb (at + 2 + (len + 1)) (length s)) (eqb (getD s (at + 2 + len) 0) 0) (holdsBarred (part s (at + 2) len)) refl refl refl
   where
     go : (t u v : Bool) → leb (at + 2 + (len + 1)) (length s) ≡ t → eqb (getD s (at + 2 + len) 0) 0 ≡ u → holdsBarred (part s (at + 2) len) ≡ v
-        → Found s at optional (pick t (pick (both u (not v)) (StringRead.Text (at + 2) len (at + 2 + len + 1)) (StringRead.Refused 6)) (StringRead.Refused 3))
+        → Found s at optional (pick t (pick (both u (not v)) (StringRead.Text (at + 2) len (at + 2 + len + 1)) (StringRead.Refused stringWrong)) (StringRead.Refused cutShort))
     go true true false h z c =
         let f : at + 2 + (len + 1) ≤ length s = leb-true (at + 2 + (len + 1)) (length s) h in
         record {
@@ -200,27 +178,27 @@ null-optional false len e = absurd (false≢true (sym e))
 
 found-length : (s : List ℕ) (at : ℕ) (optional : Bool) → at + 2 ≤ length s → Found s at optional (afterLength s optional (integerIn s at) (at + 2))
 unfolding afterLength
-found-length s at optional h = go (lacks optional (eqb (integerIn s at) 65535) (integerIn s at)) (eqb (integerIn s at) 65535) refl refl
+found-length s at optional h = go (lacks optional (eqb (integerIn s at) nullLength) (integerIn s at)) (eqb (integerIn s at) nullLength) refl refl
   where
-    go : (t u : Bool) → lacks optional (eqb (integerIn s at) 65535) (integerIn s at) ≡ t → eqb (integerIn s at) 65535 ≡ u
-        → Found s at optional (pick t (StringRead.Refused 6) (pick u (StringRead.Null (at + 2)) (textAt s (at + 2) (integerIn s at))))
+    go : (t u : Bool) → lacks optional (eqb (integerIn s at) nullLength) (integerIn s at) ≡ t → eqb (integerIn s at) nullLength ≡ u
+        → Found s at optional (pick t (StringRead.Refused stringWrong) (pick u (StringRead.Null (at + 2)) (textAt s (at + 2) (integerIn s at))))
     go true u p q = tt
     go false true p q =
         record {
           ends = refl;
           fits = h;
-          length-is = eqb-true (integerIn s at) 65535 q;
+          length-is = eqb-true (integerIn s at) nullLength q;
           may-stand = null-optional optional (integerIn s at) (ap (λ (b : Bool). lacks optional b (integerIn s at)) (sym q) ∙ p);
         }
     go false false p q =
-        found-text s at optional (integerIn s at) refl (eqb-false (integerIn s at) 65535 q) (ap (λ (b : Bool). lacks optional b (integerIn s at)) (sym q) ∙ p)
+        found-text s at optional (integerIn s at) refl (eqb-false (integerIn s at) nullLength q) (ap (λ (b : Bool). lacks optional b (integerIn s at)) (sym q) ∙ p)
 
 found : (s : List ℕ) (at : ℕ) (optional : Bool) (r : StringRead) → stringAt s at optional ≡ r → Found s at optional r
 unfolding stringAt integerAt
 found s at optional r e = subst (Found s at optional) e (go (leb (at + 2) (length s)) refl)
   where
     go : (t : Bool) → leb (at + 2) (length s) ≡ t
-        → Found s at optional (stringOf s optional (pick t (NumberRead.Number (integerIn s at) (at + 2)) (NumberRead.Refused 3)))
+        → Found s at optional (stringOf s optional (pick t (NumberRead.Number (integerIn s at) (at + 2)) (NumberRead.Refused cutShort)))
     go true h = found-length s at optional (leb-true (at + 2) (length s) h)
     go false h = tt
 
@@ -231,12 +209,7 @@ text-read s at optional start len next e = found s at optional (StringRead.Text 
 pub null-read : (s : List ℕ) (at : ℕ) (optional : Bool) (next : ℕ) → stringAt s at optional ≡ StringRead.Null next → NullRead s at optional next
 null-read s at optional next e = found s at optional (StringRead.Null next) e
 
--- a string whose length is at a place: null ends behind it; a text starts behind it, and ends behind its zero
-abbrev pub StringInside : ℕ → ℕ → StringRead → Type 0
-StringInside n at (StringRead.Refused k) = Unit
-StringInside n at (StringRead.Null next) = (next ≡ at + 2) × (next ≤ n)
-StringInside n at (StringRead.Text start len next) = (start ≡ at + 2) × ((next ≡ start + len + 1) × (next ≤ n))
-
+-- a string
 pub string-inside : (s : List ℕ) (at : ℕ) (optional : Bool) (r : StringRead) → stringAt s at optional ≡ r → StringInside (length s) at r
 string-inside s at optional r e = go r (found s at optional r e)
   where

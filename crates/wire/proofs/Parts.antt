@@ -12,7 +12,7 @@ use lib.ListN.{length, take, drop, getD, length-append, length-take, length-drop
 use lib.Seq.{take-all, take-at, drop-at, drop-append-add, getD-take, getD-drop}
 use Rattle.wire.specs.Bytes.{part, over}
 use Rattle.wire.proofs.Bytes.{part-middle, part-add, over-there}
-use Rattle.wire.proofs.RoundTrip.{Bytes}
+use Rattle.wire.specs.Facts.{Bytes}
 
 -- a part without bytes
 pub part-zero : (s : List ℕ) (at : ℕ) → part s at 0 ≡ []

@@ -11,17 +11,15 @@ use lib.ListN.{length, getD, length-append}
 use lib.Seq.{getD-append-seam, getD-append-add}
 use Rattle.wire.specs.Pick.{pick}
 use Rattle.wire.specs.Bytes.{part, integerIn, integerBytes}
-use Rattle.wire.specs.Field.{byteAt, integerAt, booleanOf, booleanAt, booleanBytes, lacks, holdsBarred, textAt, afterLength, stringAt, stringBytes, stringAllowed}
+use Rattle.wire.specs.Refusal.{cutShort, outOfRange}
+use Rattle.wire.specs.Field.{byteAt, integerAt, booleanOf, booleanAt, booleanBytes, nullLength, lacks, holdsBarred, textAt, afterLength, stringAt, stringBytes, stringAllowed}
 use Rattle.wire.specs.declared.read.NumberRead.{NumberRead}
 use Rattle.wire.specs.declared.read.BooleanRead.{BooleanRead}
 use Rattle.wire.specs.declared.read.StringRead.{StringRead}
 use Rattle.wire.proofs.Tests.{both-first, both-second}
 use Rattle.wire.proofs.Bytes.{length-part, part-middle, part-add, part-one}
-use Rattle.wire.proofs.Field.{number-read, boolean-is, string-is, after-is, text-closed, TextRead, text-read, NullRead, null-read}
-
--- every element is a byte's value
-abbrev pub Bytes : List ℕ → Type 0
-Bytes s = (i : ℕ) → getD s i 0 < 256
+use Rattle.wire.proofs.Field.{number-read, boolean-is, string-is, after-is, text-closed, text-read, null-read}
+use Rattle.wire.specs.Facts.{TextRead, NullRead, Bytes, written}
 
 -- an integer that was written reads back
 pub integer-back : (a b : List ℕ) (n : ℕ) → n < 65536 → integerIn (a ++ (integerBytes n ++ b)) (length a) ≡ n
@@ -56,12 +54,8 @@ text-written p t b clean =
     let last : getD s (length p + length t) 0 ≡ 0 = getD-append-add p (t ++ (0 ∷ b)) (length t) 0 ∙ getD-append-seam t 0 b 0 in
     sym (text-closed s (length p) (length t) false (omega arith) last (sym (ap holdsBarred (part-middle p t (0 ∷ b)) ∙ clean)))
 
--- what reading a string that was written answers
-abbrev pub written : ℕ → Bool → List ℕ → StringRead
-written at null text = pick null (StringRead.Null (at + 2)) (StringRead.Text (at + 2) (length text) (at + 2 + length text + 1))
-
 -- a text, where it may stand in the field
-text-back : (a b : List ℕ) (optional : Bool) (text : List ℕ) → length text < 65535 → stringAllowed optional false text ≡ true
+text-back : (a b : List ℕ) (optional : Bool) (text : List ℕ) → length text < nullLength → stringAllowed optional false text ≡ true
     → stringAt (a ++ (integerBytes (length text) ++ (text ++ (0 ∷ [])) ++ b)) (length a) optional ≡ written (length a) false text
 unfolding stringAllowed
 text-back a b optional text h ok =
@@ -74,7 +68,7 @@ text-back a b optional text h ok =
     let whole : Bool = lacks optional false n in
     let lack : lacks optional false n ≡ false = not-true whole (both-first (not whole) (not (holdsBarred text)) ok) in
     let clean : holdsBarred text ≡ false = not-true (holdsBarred text) (both-second (not whole) (not (holdsBarred text)) ok) in
-    let some : eqb n 65535 ≡ false = ne-eqb n 65535 (λ e. omega arith) in
+    let some : eqb n nullLength ≡ false = ne-eqb n nullLength (λ e. omega arith) in
     string-is s (length a) optional (NumberRead.Number n (length a + 2)) (integer-written a (text ++ (0 ∷ []) ++ b) n (omega arith))
     ∙ sym (after-is s optional n (length a + 2) false false (ap (λ (t : Bool). lacks optional t n) some ∙ lack) some)
     ∙ ap (λ (l : List ℕ). textAt l (length a + 2) n) parted
@@ -83,10 +77,10 @@ text-back a b optional text h ok =
     ∙ ap (λ (i : ℕ). StringRead.Text i n (i + n + 1)) two
 
 -- a string that was written reads back, where it may stand in the field
-pub string-written : (a b : List ℕ) (optional null : Bool) (text : List ℕ) → length text < 65535 → stringAllowed optional null text ≡ true
+pub string-written : (a b : List ℕ) (optional null : Bool) (text : List ℕ) → length text < nullLength → stringAllowed optional null text ≡ true
     → stringAt (a ++ (stringBytes null text ++ b)) (length a) optional ≡ written (length a) null text
 unfolding stringAt stringBytes stringAllowed afterLength
-string-written a b true true text h ok = rw (integer-written a b 65535 (omega arith))
+string-written a b true true text h ok = rw (integer-written a b nullLength (omega arith))
 string-written a b false true text h ok = absurd (false≢true ok)
 string-written a b optional false text h ok = text-back a b optional text h ok
 
@@ -103,7 +97,7 @@ integer-kept s at bytes h =
 -- a byte that is neither 0 nor 1 reads as no boolean
 untold : (b n : ℕ) (v : Bool) (next : ℕ) → eqb b 0 ≡ false → eqb b 1 ≡ false → booleanOf (NumberRead.Number b n) ≡ BooleanRead.Boolean v next → ⊥
 untold b n v next p q r =
-    let e : BooleanRead.Refused 7 ≡ BooleanRead.Boolean v next = rw (p, q) at r in
+    let e : BooleanRead.Refused outOfRange ≡ BooleanRead.Boolean v next = rw (p, q) at r in
     let z : _≡_ {A = ℕ} 0 1 = cc in
     omega arith
 
@@ -120,7 +114,7 @@ unfolding booleanAt byteAt
 boolean-kept s at v next e = go (leb (at + 1) (length s)) (eqb (getD s at 0) 0) (eqb (getD s at 0) 1) refl refl refl e
   where
     go : (t u w : Bool) → leb (at + 1) (length s) ≡ t → eqb (getD s at 0) 0 ≡ u → eqb (getD s at 0) 1 ≡ w
-        → booleanOf (pick t (NumberRead.Number (getD s at 0) (at + 1)) (NumberRead.Refused 3)) ≡ BooleanRead.Boolean v next → part s at 1 ≡ booleanBytes v
+        → booleanOf (pick t (NumberRead.Number (getD s at 0) (at + 1)) (NumberRead.Refused cutShort)) ≡ BooleanRead.Boolean v next → part s at 1 ≡ booleanBytes v
     go true true w h p q r =
         let z : getD s at 0 ≡ 0 = eqb-true (getD s at 0) 0 p in
         let x : v ≡ false = told (getD s at 0) true w (at + 1) v next p q r in

@@ -3,3 +3,4 @@ pub mod Refusal
 pub mod Bytes
 pub mod Field
 pub mod Packet
+pub mod Facts

@@ -6,7 +6,9 @@ use mathlib.Core.Path.{refl, sym, _∙_}
 use Prim.Native.Nat.{_-_}
 use lib.ListN.{length}
 use Rattle.attributes.specs.declared.AttributeRead.{AttributeRead}
-use Rattle.attributes.proofs.Laws.{AttributeInside, attribute-inside, full-none, Reading, start, turn, stop, last}
+use Rattle.attributes.proofs.Laws.{attribute-inside, full-none, Reading, start, turn, stop, last}
+use Rattle.places.specs.Entries.{maxAttributes}
+use Rattle.attributes.specs.Facts.{AttributeInside}
 use Rattle.attributes.proofs.attributes.Statement.{statement}
 use Rattle.attributes.proofs.attributes.Tie as tie
 
@@ -15,7 +17,7 @@ Inv-loop packet at table₀ from set₀ place₀ count₀ table set place count 
     Reading packet at table₀ table from set place count
 
 abbrev μ-loop : tie.MeasureT-loop
-μ-loop packet at table₀ from set₀ place₀ count₀ table set place count = 64 - count
+μ-loop packet at table₀ from set₀ place₀ count₀ table set place count = maxAttributes - count
 
 loop-holds : tie.Need-loop-holds Inv-loop μ-loop
 loop-holds c = start _ _ _ _

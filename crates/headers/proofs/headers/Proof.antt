@@ -6,7 +6,8 @@ use Prim.Native.Nat.{_-_}
 use borrow.Author.Needs.{needs}
 use lib.ListN.{length}
 use Rattle.headers.specs.declared.HeaderRead.{HeaderRead}
-use Rattle.headers.proofs.Laws.{HeaderInside, header-inside, Reading, reading-start, reading-turn, reading-stop, reading-done}
+use Rattle.headers.proofs.Laws.{header-inside, Reading, reading-start, reading-turn, reading-stop, reading-done}
+use Rattle.headers.specs.Facts.{HeaderInside}
 use Rattle.headers.proofs.headers.Statement.{statement}
 use Rattle.headers.proofs.headers.Tie as tie
 

@@ -3,7 +3,8 @@
 use borrow.Author.Tests.{ne-eqb}
 use mathlib.Core.Path.{sym, ap}
 use Rattle.packet.specs.declared.Direction.{Direction}
-use Rattle.payload.specs.Code.{codeKind}
+use Rattle.connection.specs.declared.Kind.{Kind}
+use Rattle.payload.specs.Code.{codeOf, shutdownCode, pingCode, codeKind}
 use Rattle.payload.proofs.kind_to_container.Statement.{statement}
 use Rattle.payload.proofs.kind_to_container.Tie as tie
 
@@ -28,7 +29,7 @@ unfolding codeKind
 returns-5 c =
     let code = c .before .args .code in
     let r = c .match .rest in
-    simp (ne-eqb code 2 (r .0 .0 .0 .1), ne-eqb code 10 (r .0 .0 .1), ne-eqb code 7 (r .0 .1), ne-eqb code 8 (r .1))
+    simp (ne-eqb code (codeOf Kind.Forward) (r .0 .0 .0 .1), ne-eqb code (codeOf Kind.CPing) (r .0 .0 .1), ne-eqb code shutdownCode (r .0 .1), ne-eqb code pingCode (r .1))
 
 pub kind-to-container-spec : {M : Type 1} → statement M
 kind-to-container-spec = tie.close (tie.spec returns returns-2 returns-3 returns-4 returns-5)

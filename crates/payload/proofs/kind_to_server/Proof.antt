@@ -3,7 +3,8 @@
 use borrow.Author.Tests.{ne-eqb}
 use mathlib.Core.Path.{sym, ap}
 use Rattle.packet.specs.declared.Direction.{Direction}
-use Rattle.payload.specs.Code.{codeKind}
+use Rattle.connection.specs.declared.Kind.{Kind}
+use Rattle.payload.specs.Code.{codeOf, codeKind}
 use Rattle.payload.proofs.kind_to_server.Statement.{statement}
 use Rattle.payload.proofs.kind_to_server.Tie as tie
 
@@ -32,7 +33,7 @@ unfolding codeKind
 returns-6 c =
     let code = c .before .args .code in
     let r = c .match .rest in
-    simp (ne-eqb code 3 (r .0 .0 .0 .0 .1), ne-eqb code 4 (r .0 .0 .0 .1), ne-eqb code 5 (r .0 .0 .1), ne-eqb code 6 (r .0 .1), ne-eqb code 9 (r .1))
+    simp (ne-eqb code (codeOf Kind.BodyChunk) (r .0 .0 .0 .0 .1), ne-eqb code (codeOf Kind.SendHeaders) (r .0 .0 .0 .1), ne-eqb code (codeOf Kind.End) (r .0 .0 .1), ne-eqb code (codeOf Kind.GetBody) (r .0 .1), ne-eqb code (codeOf Kind.CPong) (r .1))
 
 pub kind-to-server-spec : {M : Type 1} → statement M
 kind-to-server-spec =

@@ -5,7 +5,7 @@ use mathlib.Core.Path.{ap}
 use Prim.Native.Nat.{ℕ, _/_, _^_}
 use lib.Bits.{and-mask}
 use lib.Dec.{eqb}
-use Rattle.names.specs.Sets.{inSet}
+use Rattle.names.specs.Private.{inSet}
 use Rattle.names.proofs.header.in_set.Statement.{statement}
 use Rattle.names.proofs.header.in_set.Tie as tie
 

@@ -3,7 +3,7 @@
 use borrow.Author.Needs.{needs}
 use Rattle.wire.specs.Pick.{all}
 use Rattle.names.specs.Names.{requestNames, responseNames}
-use Rattle.names.specs.Sets.{inSet}
+use Rattle.names.specs.Private.{inSet}
 use Rattle.names.proofs.header.letters_of.Statement.{statement}
 use Rattle.names.proofs.header.letters_of.Tie as tie
 

@@ -3,7 +3,7 @@
 use borrow.Author.Needs.{needs}
 use mathlib.Core.Path.{sym, ap}
 use Rattle.names.specs.Names.{methodNames, requestNames, responseNames, attributeNames, letter}
-use Rattle.names.specs.Row.{lengthsIn, firstsIn}
+use Rattle.names.specs.Private.{lengthsIn, firstsIn}
 use Rattle.names.proofs.table.code_of.Statement.{statement}
 use Rattle.names.proofs.table.code_of.Tie as tie
 

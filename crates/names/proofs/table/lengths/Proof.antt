@@ -3,7 +3,7 @@
 use borrow.Author.Needs.{needs}
 use mathlib.Core.Path.{sym, ap}
 use Rattle.names.specs.Names.{methodNames, requestNames, responseNames, attributeNames}
-use Rattle.names.specs.Row.{lengthsIn}
+use Rattle.names.specs.Private.{lengthsIn}
 use Rattle.names.proofs.table.lengths.Statement.{statement}
 use Rattle.names.proofs.table.lengths.Tie as tie
 

@@ -11,7 +11,7 @@ use lib.ListN.{length, getD, take, drop, length-map}
 use lib.Seq.{length-take-le, getD-take}
 use Rattle.wire.specs.Pick.{both}
 use Rattle.names.specs.Names.{sameName, letter}
-use Rattle.names.specs.Row.{bytesOf}
+use Rattle.names.specs.Row.{nameRoom, bytesOf}
 use Rattle.names.proofs.Laws.{same-step, same-end, same-length, take-past}
 use Rattle.names.proofs.table.spells.Statement.{statement}
 use Rattle.names.proofs.table.spells.Tie as tie
@@ -23,13 +23,13 @@ Inv-loop text ignoring bytes n same₀ j₀ same j =
 abbrev μ-loop : tie.MeasureT-loop
 μ-loop text ignoring bytes n same₀ j₀ same j = n - j
 
--- the array of a name that is handed in has 17 bytes: a part of what the argument is known to be
-whole : (c : tie.Start Inv-loop μ-loop) → length (c .args .name .bytes) ≡ 17
+-- the array of a name that is handed in has the room of a name: a part of what the argument is known to be
+whole : (c : tie.Start Inv-loop μ-loop) → length (c .args .name .bytes) ≡ nameRoom
 whole c = sym (length-map (c .args .name .bytes) (λ (b : ℕ). b)) ∙ c .good .0 .1 .1 .0 .1 .0 .1
 
 -- the length that the loop goes by: at most the array's, and the name's bytes are as many
 room : (c : tie.Joined1 Inv-loop μ-loop) → let name = c .before .before .before .args .name in
-    (c .if1 .n ≤ 17) × (bytesOf name ≡ take (c .if1 .n) (name .bytes))
+    (c .if1 .n ≤ nameRoom) × (bytesOf name ≡ take (c .if1 .n) (name .bytes))
 room c =
     let name = c .before .before .before .args .name in
     let h = whole (c .before .before .before) in

@@ -8,7 +8,7 @@ use mathlib.Core.List.{List, []}
 use Prim.Native.Nat.{ℕ}
 use lib.ListN.{length, getD}
 use Rattle.names.specs.Names.{namesIn, ignoresCase}
-use Rattle.names.specs.Row.{firstOf}
+use Rattle.names.specs.Private.{firstOf}
 use Rattle.names.proofs.Rows.{length-in, length-fits, first-in}
 use Rattle.names.proofs.Laws.{same-length, same-first, spelled-row, as-padded}
 use Rattle.names.proofs.table.spells_at.Statement.{statement}

@@ -2,7 +2,8 @@
 -- over the whole table.
 -- Assumes nothing.
 use mathlib.Core.Bool.{false}
-use Rattle.names.specs.Token.{tokenByte, TokenFlags}
+use Rattle.names.specs.Token.{tokenByte}
+use Rattle.names.specs.Private.{TokenFlags}
 use Rattle.names.proofs.Rule.{at}
 use Rattle.names.proofs.token.flags.Statement.{statement}
 use Rattle.names.proofs.token.flags.Tie as tie

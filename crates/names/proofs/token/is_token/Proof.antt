@@ -7,7 +7,8 @@ use Prim.Native.Nat.{_-_, _≤_}
 use lib.ListN.{length, drop, getD}
 use Rattle.wire.specs.Pick.{both}
 use Rattle.wire.proofs.Scan.{all-step, all-end}
-use Rattle.names.specs.Token.{isToken, tokenByte, TokenFlags}
+use Rattle.names.specs.Token.{isToken, tokenByte}
+use Rattle.names.specs.Private.{TokenFlags}
 use Rattle.names.proofs.token.is_token.Statement.{statement}
 use Rattle.names.proofs.token.is_token.Tie as tie
 

@@ -5,7 +5,8 @@ use mathlib.Core.Path.{sym, ap, subst}
 use Prim.Native.Nat.{_≤_}
 use native.Mathlib.Omega.{arith}
 use Rattle.connection.specs.Connection.{maxPacket}
-use Rattle.payload.specs.Sequence.{placeOf, Within}
+use Rattle.payload.specs.Sequence.{placeOf}
+use Rattle.payload.specs.Private.{Within}
 use Rattle.payload.proofs.field.place_of.Statement.{statement}
 use Rattle.payload.proofs.field.place_of.Tie as tie
 

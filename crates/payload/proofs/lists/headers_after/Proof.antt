@@ -4,7 +4,7 @@ use native.Mathlib.Omega.{arith}
 use mathlib.Core.Path.{subst}
 use borrow.Author.Needs.{needs}
 use Rattle.places.specs.Entries.{maxHeaders}
-use Rattle.payload.specs.Sequence.{Counts}
+use Rattle.payload.specs.Private.{Counts}
 use Rattle.payload.proofs.Listing.{headers-refused, headers-read}
 use Rattle.payload.proofs.lists.headers_after.Statement.{statement}
 use Rattle.payload.proofs.lists.headers_after.Tie as tie

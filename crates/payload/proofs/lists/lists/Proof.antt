@@ -3,6 +3,7 @@
 use mathlib.Core.Path.{sym, _∙_}
 use Prim.Native.Nat.{_≤_}
 use borrow.Author.Needs.{needs}
+use Rattle.places.specs.Entries.{maxHeaders}
 use Rattle.payload.proofs.Fields.{counts-value}
 use Rattle.payload.proofs.Listing.{lists-refused, lists-read}
 use Rattle.payload.proofs.lists.lists.Statement.{statement}
@@ -26,8 +27,8 @@ cast-many c = search needs
 add-attributes-behind : tie.Need-add-attributes-behind
 add-attributes-behind c = search needs
 
--- at most 100 headers are counted
-few : (c : tie.After-value-of) → c .value-of .result ≤ 100
+-- no more headers are counted than may come
+few : (c : tie.After-value-of) → c .value-of .result ≤ maxHeaders
 few c =
     let start = c .before .before .before .before .before .before .before .before .before .before in
     counts-value _ (start .args .count) (c .value-of .result) (c .value-of .ensures) (start .pre .1 .0)

@@ -4,6 +4,7 @@ use mathlib.Core.Path.{refl, sym, _∙_}
 use mathlib.Core.Bool.{true, false}
 use lib.Dec.{eqb}
 use borrow.Author.Needs.{needs}
+use Rattle.wire.specs.Field.{nullLength}
 use Rattle.wire.proofs.Field.{after-is}
 use Rattle.wire.proofs.read.after_length.Statement.{statement}
 use Rattle.wire.proofs.read.after_length.Tie as tie
@@ -14,7 +15,7 @@ lacks-requires c κs = search needs
 returns : tie.Need-returns
 returns c =
     let a = c .before .before .before .args in
-    after-is (a .packet .now) (a .optional) (a .len) (a .start) true (eqb (a .len) 65535)
+    after-is (a .packet .now) (a .optional) (a .len) (a .start) true (eqb (a .len) nullLength)
     (sym (c .before .lacks .ensures) ∙ c .if1 .taken) refl
 
 returns-2 : tie.Need-returns-2

@@ -1,0 +1,27 @@
+-- What the laws of the cycle say.
+-- Assumes nothing.
+use mathlib.Core.Path.{_≡_}
+use mathlib.Core.Bool.{true}
+use Prim.Native.Nat.{ℕ, _≤_}
+use Rattle.connection.specs.declared.Connection.{Connection}
+use Rattle.connection.specs.declared.Move.{Move}
+use Rattle.connection.specs.Connection.{maxBody, counted}
+use Rattle.connection.specs.Cycle.{largestBody, allowed, after, stepOf}
+
+-- two moves that a connection allows both may be made in either order, and come to the same
+pub record Commuting (c : Connection) (m n : Move) : Type 0 where
+  pub first-then : allowed (after c m) n ≡ true
+  pub second-then : allowed (after c n) m ≡ true
+  pub meets : after (after c m) n ≡ after (after c n) m
+
+-- a body packet that is allowed holds no more than is left, than a packet can hold, and than may come
+pub record BodyWithin (c : Connection) (k : ℕ) : Type 0 where
+  pub of-left : k ≤ c .left .0
+  pub of-packet : k ≤ maxBody
+  pub of-largest : k ≤ largestBody c
+
+-- what does not count is not looked at. Where a move is not allowed, `after` may tell the two records apart; a step does not.
+pub record Ignored (c : Connection) (m : Move) : Type 0 where
+  pub allows : allowed (counted c) m ≡ allowed c m
+  pub goes : allowed c m ≡ true → after (counted c) m ≡ after c m
+  pub steps : stepOf (counted c) m ≡ stepOf c m

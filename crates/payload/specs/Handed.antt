@@ -1,0 +1,153 @@
+-- What a packet that was read hands out, field by field: each number is what is read at its own place, each string is read where it is told
+-- to stand, and every field begins where the one before it ends, from behind the code to the packet's last byte.
+-- Document 01, 'Server to container', 'Container to server', and 'Refusal numbers': what acceptance tells, and the table of places.
+-- Assumes nothing.
+use mathlib.Core.Path.{_≡_}
+use mathlib.Core.Bool.{Bool}
+use mathlib.Core.List.{List, [], _∷_, _++_}
+use Prim.Native.Nat.{ℕ, _+_}
+use lib.Dec.{eqb}
+use lib.ListN.{length, getD}
+use Rattle.wire.specs.Pick.{pick}
+use Rattle.wire.specs.Field.{byteAt, integerAt, booleanAt, stringAt, isOptional}
+use Rattle.packet.specs.declared.Direction.{Direction}
+use Rattle.wire.specs.declared.StringField.{StringField}
+use Rattle.wire.specs.declared.read.NumberRead.{NumberRead}
+use Rattle.wire.specs.declared.read.BooleanRead.{BooleanRead}
+use Rattle.wire.specs.declared.read.StringRead.{StringRead}
+use Rattle.names.specs.Attribute.{attributeKind}
+use Rattle.packet.specs.declared.AttributeKind.{AttributeKind}
+use Rattle.headers.specs.Headers.{nameAt}
+use Rattle.headers.specs.declared.NameRead.{NameRead}
+use Rattle.attributes.specs.Attributes.{lastMark}
+use Rattle.packet.specs.declared.Packet.{Packet}
+use Rattle.payload.specs.Code.{payloadPlace, afterCodePlace}
+
+-- a string that is read, by where it ends
+abbrev pub StringEnds : ℕ → StringRead → Type 0
+StringEnds end (StringRead.Refused n) = ⊥
+StringEnds end (StringRead.Null next) = next ≡ end
+StringEnds end (StringRead.Text start len next) = next ≡ end
+
+-- an integer that is read, by where it ends
+abbrev pub NumberEnds : ℕ → NumberRead → Type 0
+NumberEnds end (NumberRead.Refused n) = ⊥
+NumberEnds end (NumberRead.Number value next) = next ≡ end
+
+-- a header's name that is read, by where it ends
+abbrev pub NameEnds : ℕ → NameRead → Type 0
+NameEnds end (NameRead.Refused n) = ⊥
+NameEnds end (NameRead.Code code next) = next ≡ end
+NameEnds end (NameRead.Spelled start len next) = next ≡ end
+
+-- a string of a field is read at a place, up to another
+abbrev pub StringThere : List ℕ → StringField → ℕ → ℕ → Type 0
+StringThere s field at end = StringEnds end (stringAt s at (isOptional field))
+
+-- headers are read from a place to another, with these places for their names and values: the name at the first, the value where the name
+-- ends, the next header where the value ends
+abbrev pub HeadersHanded : Direction → List ℕ → ℕ → List ℕ → ℕ → Type 0
+HeadersHanded d s at [] end = at ≡ end
+HeadersHanded d s at (p ∷ []) end = ⊥
+HeadersHanded d s at (p ∷ q ∷ rest) end =
+    (next : ℕ) × (p ≡ at) × NameEnds q (nameAt d s p) × StringThere s StringField.HeaderValue q next × HeadersHanded d s next rest end
+
+-- a value of a kind is read behind a code: from a place on, with the value at another, up to its end. A pair has its name in front
+abbrev pub ValueThere : List ℕ → AttributeKind → ℕ → ℕ → ℕ → Type 0
+ValueThere s AttributeKind.NotServed from value end = ⊥
+ValueThere s AttributeKind.Text from value end = (value ≡ from) × StringThere s StringField.AttributeValue value end
+ValueThere s AttributeKind.Integer from value end = (value ≡ from) × NumberEnds end (integerAt s value)
+ValueThere s AttributeKind.Pair from value end =
+    StringThere s StringField.AttributeName from value × StringThere s StringField.AttributeValue value end
+
+-- attributes are read from a place to another, FF the last byte before it, with these places for their codes and values
+abbrev pub AttributesHanded : List ℕ → ℕ → List ℕ → ℕ → Type 0
+AttributesHanded s at [] end = (getD s at 0 ≡ lastMark) × (at + 1 ≡ end)
+AttributesHanded s at (p ∷ []) end = ⊥
+AttributesHanded s at (p ∷ q ∷ rest) end =
+    (next : ℕ) × (p ≡ at) × ValueThere s (attributeKind (getD s p 0)) (p + 1) q next × AttributesHanded s next rest end
+
+-- the lists of a Forward from a place on: so many headers, then so many attributes, which end with the packet; two places for each
+pub record ListsHanded (s : List ℕ) (at headers attributes : ℕ) (places : List ℕ) : Type 0 where
+  pub of-headers : List ℕ
+  pub of-attributes : List ℕ
+  pub are : places ≡ of-headers ++ of-attributes
+  pub headers-many : length of-headers ≡ headers + headers
+  pub attributes-many : length of-attributes ≡ attributes + attributes
+  pub middle : ℕ
+  pub headers-there : HeadersHanded Direction.ToContainer s at of-headers middle
+  pub attributes-there : AttributesHanded s middle of-attributes (length s)
+
+-- a Forward: the method is the byte behind the code; the five strings stand one behind the other; then the port, is_ssl and the count of
+-- headers, each what is read at its place; then its lists
+pub record ForwardHanded (s : List ℕ) (method protocol uri addr host name port : ℕ) (ssl : Bool) (headers attributes : ℕ) (places : List ℕ) :
+    Type 0 where
+  pub method-read : byteAt s afterCodePlace ≡ NumberRead.Number method protocol
+  pub protocol-there : StringThere s StringField.Protocol protocol uri
+  pub uri-there : StringThere s StringField.ReqUri uri addr
+  pub addr-there : StringThere s StringField.RemoteAddr addr host
+  pub host-there : StringThere s StringField.RemoteHost host name
+  pub port-place : ℕ
+  pub name-there : StringThere s StringField.ServerName name port-place
+  pub ssl-place : ℕ
+  pub port-read : integerAt s port-place ≡ NumberRead.Number port ssl-place
+  pub count-place : ℕ
+  pub ssl-read : booleanAt s ssl-place ≡ BooleanRead.Boolean ssl count-place
+  pub lists-place : ℕ
+  pub count-read : integerAt s count-place ≡ NumberRead.Number headers lists-place
+  pub lists : ListsHanded s lists-place headers attributes places
+
+-- Send Headers: the status is the integer behind the code; the message, the count of headers and so many headers, which end with the packet
+pub record HeadHanded (s : List ℕ) (status message headers : ℕ) (places : List ℕ) : Type 0 where
+  pub status-read : integerAt s afterCodePlace ≡ NumberRead.Number status message
+  pub count-place : ℕ
+  pub message-there : StringThere s StringField.Message message count-place
+  pub headers-place : ℕ
+  pub count-read : integerAt s count-place ≡ NumberRead.Number headers headers-place
+  pub headers-many : length places ≡ headers + headers
+  pub headers-there : HeadersHanded Direction.ToServer s headers-place places (length s)
+
+-- the size that a body packet tells: none where it has no payload, else the payload's first integer
+abbrev pub bodySize : List ℕ → NumberRead
+bodySize s = pick (eqb (length s) payloadPlace) (NumberRead.Number 0 payloadPlace) (integerAt s payloadPlace)
+
+-- a body packet: its size is what is read, and so many bytes stand behind it, the rest of the packet
+pub record BodyHanded (s : List ℕ) (start len : ℕ) (places : List ℕ) : Type 0 where
+  pub size-read : bodySize s ≡ NumberRead.Number len start
+  pub rest : start + len ≡ length s
+  pub no-places : places ≡ []
+
+-- a chunk: its length is the integer behind the code, and so many bytes stand behind it, all but the packet's last byte, which is zero
+pub record ChunkHanded (s : List ℕ) (start len : ℕ) (places : List ℕ) : Type 0 where
+  pub size-read : integerAt s afterCodePlace ≡ NumberRead.Number len start
+  pub closed : getD s (start + len) 0 ≡ 0
+  pub rest : start + len + 1 ≡ length s
+  pub no-places : places ≡ []
+
+-- a Get Body Chunk: what is asked for is the integer behind the code, with which the packet ends
+pub record GetHanded (s : List ℕ) (asked : ℕ) (places : List ℕ) : Type 0 where
+  pub asked-read : integerAt s afterCodePlace ≡ NumberRead.Number asked (length s)
+  pub no-places : places ≡ []
+
+-- an End: whether the connection is used again is the boolean behind the code, with which the packet ends
+pub record EndHanded (s : List ℕ) (reuse : Bool) (places : List ℕ) : Type 0 where
+  pub reuse-read : booleanAt s afterCodePlace ≡ BooleanRead.Boolean reuse (length s)
+  pub no-places : places ≡ []
+
+-- a CPing or a CPong: nothing stands behind the code, and nothing is handed out
+pub record BareHanded (s : List ℕ) (places : List ℕ) : Type 0 where
+  pub ends : length s ≡ afterCodePlace
+  pub no-places : places ≡ []
+
+-- a packet of any kind, with its places for the table
+abbrev pub PacketHanded : List ℕ → Packet → List ℕ → Type 0
+PacketHanded s Packet.CPing places = BareHanded s places
+PacketHanded s Packet.CPong places = BareHanded s places
+PacketHanded s (Packet.Forward f) places =
+    ForwardHanded s (f .method) (f .protocol .0) (f .«req_uri» .0) (f .«remote_addr» .0) (f .«remote_host» .0) (f .«server_name» .0)
+    (f .«server_port») (f .«is_ssl») (f .headers) (f .attributes) places
+PacketHanded s (Packet.Body p) places = BodyHanded s (p .start .0) (p .len) places
+PacketHanded s (Packet.GetBody asked) places = GetHanded s asked places
+PacketHanded s (Packet.SendHeaders h) places = HeadHanded s (h .status) (h .message .0) (h .headers) places
+PacketHanded s (Packet.BodyChunk p) places = ChunkHanded s (p .start .0) (p .len) places
+PacketHanded s (Packet.End reuse) places = EndHanded s reuse places
