@@ -73,6 +73,11 @@ six-faults f g h i j k p q r s t a b c d e l ef eg eh ei ej ek ep eq er es et =
     rw (← ef, ← eg, ← eh, ← ei, ← ej, ← ek, ← ep, ← eq, ← er, ← es, ← et)
     (sym (or-none (orElse (orElse t 0) 0) ∙ or-none (orElse t 0) ∙ or-none t))
 
+-- the first of four faults: the record's, the name's, the value's, the count's
+pub four-faults : (f g h i p q t : ℕ) (a b c d : ℕ) → f ≡ a → g ≡ b → h ≡ c → i ≡ d → p ≡ orElse f g → q ≡ orElse p h → t ≡ orElse q i
+    → t ≡ firstFault (a ∷ b ∷ c ∷ d ∷ [])
+four-faults f g h i p q t a b c d ef eg eh ei ep eq et = rw (← ef, ← eg, ← eh, ← ei, ← ep, ← eq) et
+
 -- the fixed fields of a Forward in the parts in which they are written
 abbrev pub forwardParts : Numbers → Nulls → List ℕ → List ℕ → List ℕ → List ℕ → List ℕ → List ℕ
 forwardParts numbers nulls protocol uri addr host name =

@@ -106,12 +106,12 @@ fn coded_header_fault(building: Building, buffer: &[u8], code: u16, value: &[u8]
     ensures { λ r. ⌜ r ≡ firstFault (codedCall building (now (buffer .entry)) code null (now (value .entry)) .faults) ⌝ }
 {
     let direction = building.direction();
-    let found = fault::or_else(building.header_now(buffer), code_fault(direction, code));
-    let found = fault::or_else(
-        found,
+    let named = fault::or_else(building.header_now(buffer), code_fault(direction, code));
+    let valued = fault::or_else(
+        named,
         value_fault(declares_length(direction, code), value, null),
     );
-    fault::or_else(found, building.count_fault())
+    fault::or_else(valued, building.count_fault())
 }
 
 // The first fault of a header with a spelled name.

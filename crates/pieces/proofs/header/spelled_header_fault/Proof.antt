@@ -1,7 +1,10 @@
 -- `pieces::header::spelled_header_fault` meets its contract: the call's faults, each looked for behind those before it.
 -- Assumes nothing.
 use borrow.Author.Needs.{needs}
-use Rattle.pieces.specs.Header.{spelledCall}
+use mathlib.Core.Path.{ap, _∙_}
+use Rattle.packet.specs.declared.Direction.{Direction}
+use Rattle.pieces.specs.Header.{spelledName, spelledCall}
+use Rattle.pieces.proofs.Laws.{four-faults}
 use Rattle.pieces.proofs.header.spelled_header_fault.Statement.{statement}
 use Rattle.pieces.proofs.header.spelled_header_fault.Tie as tie
 
@@ -31,7 +34,16 @@ or-else-requires-3 c κs = search needs
 
 returns : tie.Need-returns
 unfolding spelledCall
-returns c = cc
+returns c =
+    let a = c .before .before .before .before .before .before .before .before .before .before .before .args in
+    four-faults _ _ _ _ _ _ _ _ _ _ _ (c .before .before .before .before .before .before .before .header-now .ensures)
+    (c .before .before .before .before .before .name-fault .ensures
+    ∙ ap (λ (d : Direction). spelledName d (a .noname) (a .name .now) .fault) (c .before .before .before .before .before .before .direction .ensures))
+    (c .before .before .before .value-fault .ensures)
+    (c .before .count-fault .ensures)
+    (c .before .before .before .before .or-else .ensures)
+    (c .before .before .or-else2 .ensures)
+    (c .or-else3 .ensures)
 
 pub spelled-header-fault-spec : {M : Type 1} → statement M
 spelled-header-fault-spec =
