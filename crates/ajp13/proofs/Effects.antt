@@ -20,8 +20,8 @@ use Rattle.reader.specs.Reading.{reading, tableAfter}
 use Rattle.writer.specs.Meaning.{Written}
 use Rattle.closing.specs.Closing.{closeOutcome, closeBuffer}
 use Rattle.ajp13.specs.Status as status
-use Rattle.ajp13.specs.Words.{numberFault, connectionRoom, connectionFault, connectionIn, buildingFault, buildingIn}
-use Rattle.ajp13.specs.Answer.{answerFault}
+use Rattle.ajp13.specs.Words.{lastNumber, numberFault, connectionSize, connectionRoom, connectionFault, connectionIn, buildingFault, buildingIn}
+use Rattle.ajp13.specs.Answer.{answerSize, answerFault}
 use Rattle.ajp13.specs.Effect.{Effect, leaves, checked, callFault}
 use Rattle.ajp13.specs.Reading.{afterReading, readEffect}
 use Rattle.ajp13.specs.Sending.{afterSending, sendEffect, closeFault, closeEffect}
@@ -29,19 +29,19 @@ use Rattle.ajp13.specs.Private.{ConnectionFits, BuildingFits, Takes, sou
 use Rattle.ajp13.proofs.Records.{connection-fits, building-fits}
 
 -- an array that is to take a connection has room for it
-pub room-all : (words : List ℕ) → connectionRoom words ≡ 0 → length words ≡ 5
+pub room-all : (words : List ℕ) → connectionRoom words ≡ 0 → length words ≡ connectionSize
 unfolding connectionRoom
-room-all words h = eqb-true (length words) 5 (unless-none (eqb (length words) 5) status.connectionLength (omega arith) h)
+room-all words h = eqb-true (length words) connectionSize (unless-none (eqb (length words) connectionSize) status.connectionLength (omega arith) h)
 
 -- an array lent for an answer has room for it
-answer-all : (answer : List ℕ) → answerFault answer ≡ 0 → length answer ≡ 13
+answer-all : (answer : List ℕ) → answerFault answer ≡ 0 → length answer ≡ answerSize
 unfolding answerFault
-answer-all answer h = eqb-true (length answer) 13 (unless-none (eqb (length answer) 13) status.answerLength (omega arith) h)
+answer-all answer h = eqb-true (length answer) answerSize (unless-none (eqb (length answer) answerSize) status.answerLength (omega arith) h)
 
 -- an argument that is a number
-pub number-within : (n : ℕ) → numberFault n ≡ 0 → n ≤ 65535
+pub number-within : (n : ℕ) → numberFault n ≡ 0 → n ≤ lastNumber
 unfolding numberFault
-number-within n h = leb-true n 65535 (unless-none (leb n 65535) status.argument (omega arith) h)
+number-within n h = leb-true n lastNumber (unless-none (leb n lastNumber) status.argument (omega arith) h)
 
 -- where a call finds no fault, its connection can be read, and the arrays take what it writes
 pub record Right (connection answer : List ℕ) : Type 0 where

@@ -7,37 +7,38 @@ use mathlib.Core.Bool.{Bool, true, false}
 use mathlib.Core.List.{List}
 use Prim.Native.Nat.{ℕ}
 use lib.Dec.{leb, eqb}
-use lib.ListN.{length, getD}
+use lib.ListN.{length}
 use Rattle.wire.specs.Pick.{pick, both}
 use Rattle.wire.proofs.Tests.{both-first, both-second}
 use Rattle.fields.specs.Fault.{unless}
 use Rattle.fields.proofs.Sizes.{unless-none}
 use Rattle.ajp13.specs.Status as status
-use Rattle.ajp13.specs.Fixed.{areFixed, fixedFault, FixedFits}
+use Rattle.ajp13.specs.Words.{word, lastNumber}
+use Rattle.ajp13.specs.Fixed.{fixedSize, methodPlace, portPlace, areFixed, fixedFault, FixedFits}
 
 -- the fault by their number
-pub fixed-short : (words : List ℕ) → (length words ≡ 8 → ⊥) → status.fixedLength ≡ fixedFault words
+pub fixed-short : (words : List ℕ) → (length words ≡ fixedSize → ⊥) → status.fixedLength ≡ fixedFault words
 unfolding fixedFault
-fixed-short words h = rw (ne-eqb (length words) 8 h)
+fixed-short words h = rw (ne-eqb (length words) fixedSize h)
 
-pub fixed-judged : (words : List ℕ) → length words ≡ 8 → unless (areFixed words) status.fixedWord ≡ fixedFault words
+pub fixed-judged : (words : List ℕ) → length words ≡ fixedSize → unless (areFixed words) status.fixedWord ≡ fixedFault words
 unfolding fixedFault
-fixed-judged words h = rw (eq-eqb (length words) 8 h)
+fixed-judged words h = rw (eq-eqb (length words) fixedSize h)
 
 -- without fault they are all there, and their numbers fit
 pub fixed-fits : (words : List ℕ) → fixedFault words ≡ 0 → FixedFits words
 unfolding fixedFault
-fixed-fits words h = go (eqb (length words) 8) refl h
+fixed-fits words h = go (eqb (length words) fixedSize) refl h
   where
-    numbers : areFixed words ≡ true → both (leb (getD words 0 0) 65535) (leb (getD words 1 0) 65535) ≡ true
-    numbers e = both-first (both (leb (getD words 0 0) 65535) (leb (getD words 1 0) 65535)) _ e
+    numbers : areFixed words ≡ true → both (leb (word words methodPlace) lastNumber) (leb (word words portPlace) lastNumber) ≡ true
+    numbers e = both-first (both (leb (word words methodPlace) lastNumber) (leb (word words portPlace) lastNumber)) _ e
 
-    go : (all : Bool) → eqb (length words) 8 ≡ all → pick all (unless (areFixed words) status.fixedWord) status.fixedLength ≡ 0 → FixedFits words
+    go : (all : Bool) → eqb (length words) fixedSize ≡ all → pick all (unless (areFixed words) status.fixedWord) status.fixedLength ≡ 0 → FixedFits words
     go true e q =
         let both-fit = numbers (unless-none (areFixed words) status.fixedWord (omega arith) q) in
         record {
-          all = eqb-true (length words) 8 e;
-          method = leb-true (getD words 0 0) 65535 (both-first (leb (getD words 0 0) 65535) (leb (getD words 1 0) 65535) both-fit);
-          port = leb-true (getD words 1 0) 65535 (both-second (leb (getD words 0 0) 65535) (leb (getD words 1 0) 65535) both-fit);
+          all = eqb-true (length words) fixedSize e;
+          method = leb-true (word words methodPlace) lastNumber (both-first (leb (word words methodPlace) lastNumber) (leb (word words portPlace) lastNumber) both-fit);
+          port = leb-true (word words portPlace) lastNumber (both-second (leb (word words methodPlace) lastNumber) (leb (word words portPlace) lastNumber) both-fit);
         }
     go false e q = absurd (omega (arith, q))

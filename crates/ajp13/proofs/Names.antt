@@ -11,35 +11,35 @@ use Rattle.wire.specs.Pick.{pick}
 use Rattle.wire.specs.Bytes.{put}
 use Rattle.wire.proofs.Bytes.{put-fits}
 use Rattle.names.specs.Names.{isListed, nameFor}
-use Rattle.names.specs.Row.{rowOf}
+use Rattle.names.specs.Row.{nameRoom, rowOf}
 use Rattle.names.specs.declared.NameList.{NameList}
 use Rattle.names.proofs.Codes.{name-length}
 use Rattle.fields.specs.Fault.{unless, orElse}
 use Rattle.fields.proofs.Sizes.{unless-none, or-first, or-second}
 use Rattle.ajp13.specs.Status as status
-use Rattle.ajp13.specs.Words.{numberFault}
+use Rattle.ajp13.specs.Words.{lastNumber, numberFault}
 use Rattle.ajp13.specs.Name.{listIn, listFault, nameFault, nameAfter}
 use Rattle.ajp13.proofs.Lists.{over-all}
 use Rattle.ajp13.proofs.Found.{later-told}
 use Rattle.ajp13.proofs.Effects.{number-within}
 
 -- a name with zeros behind it has seventeen bytes
-row-length : (list : NameList) (code : ℕ) → length (rowOf (nameFor list code)) ≡ 17
+row-length : (list : NameList) (code : ℕ) → length (rowOf (nameFor list code)) ≡ nameRoom
 row-length list code = rw (length-append, length-replicate) (omega (arith, name-length list code .0))
 
 -- written over seventeen bytes it is what stands there
-pub row-put : (list : NameList) (code : ℕ) (lent : List ℕ) → length lent ≡ 17 → put lent 0 (rowOf (nameFor list code)) ≡ rowOf (nameFor list code)
+pub row-put : (list : NameList) (code : ℕ) (lent : List ℕ) → length lent ≡ nameRoom → put lent 0 (rowOf (nameFor list code)) ≡ rowOf (nameFor list code)
 row-put list code lent h =
     let row : List ℕ = rowOf (nameFor list code) in
     put-fits lent 0 row (omega (arith, row-length list code)) ∙ over-all lent row (h ∙ sym (row-length list code))
 
 -- without a fault seventeen bytes are lent, and the code is a 16-bit number
-pub name-fine : (name : List ℕ) (list code : ℕ) {found : ℕ} → found ≡ nameFault name list code → found ≡ 0 → (length name ≡ 17) × (code ≤ 65535)
+pub name-fine : (name : List ℕ) (list code : ℕ) {found : ℕ} → found ≡ nameFault name list code → found ≡ 0 → (length name ≡ nameRoom) × (code ≤ lastNumber)
 unfolding nameFault
 name-fine name list code p h =
-    let lent : ℕ = unless (eqb (length name) 17) status.answerLength in
+    let lent : ℕ = unless (eqb (length name) nameRoom) status.answerLength in
     let arguments : ℕ = orElse (listFault list) (numberFault code) in (
-      eqb-true (length name) 17 (unless-none (eqb (length name) 17) status.answerLength (omega arith) (or-first lent arguments (sym p ∙ h))),
+      eqb-true (length name) nameRoom (unless-none (eqb (length name) nameRoom) status.answerLength (omega arith) (or-first lent arguments (sym p ∙ h))),
       number-within code (or-second (listFault list) (numberFault code) (or-second lent arguments (sym p ∙ h))),
     )
 
@@ -55,7 +55,7 @@ pub name-told : (name : List ℕ) (list code : ℕ) {found number r : ℕ} {chos
     → (r ≡ orElse (nameFault name list code) (length (nameFor (listIn list) code))) × (after ≡ nameAfter name list code)
 unfolding nameAfter
 name-told name list code {found} {number} {r} {chosen} {after} p h l n q w =
-    let lent : length name ≡ 17 = name-fine name list code p h .0 in (
+    let lent : length name ≡ nameRoom = name-fine name list code p h .0 in (
       later-told p h (q ∙ rw (l, n) refl),
       rw (← p, eq-eqb found 0 h) (w ∙ rw (l, n) (ap (λ (row : List ℕ). pick (isListed (listIn list) code) row name) (row-put (listIn list) code name lent))),
     )

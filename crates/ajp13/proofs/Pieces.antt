@@ -17,7 +17,7 @@ use Rattle.building_record.specs.Record.{isPossible}
 use Rattle.building_record.specs.declared.Building.{Building}
 use Rattle.building_record.proofs.Laws.{possible-yes}
 use Rattle.ajp13.specs.Status as status
-use Rattle.ajp13.specs.Words.{buildingRoom, buildingFault, buildingIn, buildingWords}
+use Rattle.ajp13.specs.Words.{buildingSize, buildingRoom, buildingFault, buildingIn, buildingWords}
 use Rattle.ajp13.specs.Building.{Piece, PieceEffect, pieceLeaves, afterAdding, pieceEffect}
 use Rattle.ajp13.proofs.Records.{building-back, building-right}
 
@@ -39,9 +39,9 @@ module _ (piece : Piece) (building buffer : List ℕ) {found : ℕ} (is : found 
       ∙ ap (afterAdding (outcome (piece .call) (length buffer)) building) (writes ∙ ap (λ (k : Call Building). bufferAfter k buffer) same))
 
 -- an array that can take a building record has room for it
-pub room-fits : (words : List ℕ) → buildingRoom words ≡ 0 → length words ≡ 5
+pub room-fits : (words : List ℕ) → buildingRoom words ≡ 0 → length words ≡ buildingSize
 unfolding buildingRoom
-room-fits words h = eqb-true (length words) 5 (unless-none (eqb (length words) 5) status.buildingLength (omega arith) h)
+room-fits words h = eqb-true (length words) buildingSize (unless-none (eqb (length words) buildingSize) status.buildingLength (omega arith) h)
 
 -- what is left where the piece is done, and where not
 module _ (piece : Piece) (building buffer : List ℕ) where

@@ -11,6 +11,7 @@ use lib.Dec.{leb, eqb}
 use lib.ListN.{length, getD}
 use Rattle.wire.specs.Pick.{pick, both, either}
 use Rattle.connection.specs.declared.State.{State}
+use Rattle.connection.specs.declared.Kind.{Kind}
 use Rattle.connection.specs.declared.Connection.{Connection}
 use Rattle.payload.specs.Sequence.{booleanNumber}
 use Rattle.fields.specs.Fault.{unless}
@@ -19,7 +20,7 @@ use Rattle.building_record.specs.Record as building
 use Rattle.building_record.specs.declared.BuildingKind.{BuildingKind}
 use Rattle.building_record.specs.declared.Building.{Building}
 use Rattle.ajp13.specs.Status as status
-use Rattle.ajp13.specs.Words.{word, areConnection, stateWord, stateIn, flagIn, connectionFault, connectionIn, connectionWords, areBuilding, kindWord, isForward, isSendHeaders, buildingKindIn, buildingFault, buildingIn, buildingWords}
+use Rattle.ajp13.specs.Words.{word, lastFlag, lastNumber, lastState, connectionSize, statePlace, duePlace, askedPlace, headersPlace, areConnection, stateWord, stateIn, flagIn, connectionFault, connectionIn, connectionWords, buildingSize, kindPlace, nextPlace, countPlace, soFarPlace, attributesPlace, areBuilding, kindWord, isForward, isSendHeaders, buildingKindIn, buildingFault, buildingIn, buildingWords}
 use Rattle.ajp13.specs.Private.{ConnectionFits, BuildingFits}
 
 -- where both tests hold, each does
@@ -44,62 +45,62 @@ all-five a b c d e h =
 
 module _ (words : List ℕ) where
   -- the fault of a connection's words by their number
-  pub connection-short : (length words ≡ 5 → ⊥) → status.connectionLength ≡ connectionFault words
+  pub connection-short : (length words ≡ connectionSize → ⊥) → status.connectionLength ≡ connectionFault words
   unfolding connectionFault
-  connection-short h = rw (ne-eqb (length words) 5 h)
+  connection-short h = rw (ne-eqb (length words) connectionSize h)
 
-  pub connection-judged : length words ≡ 5 → (state due asked headers : Bool) → leb (word words 0) 3 ≡ state → leb (word words 2) 1 ≡ due
-      → leb (word words 3) 65535 ≡ asked → leb (word words 4) 1 ≡ headers
+  pub connection-judged : length words ≡ connectionSize → (state due asked headers : Bool) → leb (word words statePlace) lastState ≡ state → leb (word words duePlace) lastFlag ≡ due
+      → leb (word words askedPlace) lastNumber ≡ asked → leb (word words headersPlace) lastFlag ≡ headers
       → unless (both (both (both state due) asked) headers) status.connectionWord ≡ connectionFault words
   unfolding connectionFault
-  connection-judged h state due asked headers p q r s = rw (eq-eqb (length words) 5 h, p, q, r, s)
+  connection-judged h state due asked headers p q r s = rw (eq-eqb (length words) connectionSize h, p, q, r, s)
 
   -- of a building record's
-  pub building-short : (length words ≡ 5 → ⊥) → status.buildingLength ≡ buildingFault words
+  pub building-short : (length words ≡ buildingSize → ⊥) → status.buildingLength ≡ buildingFault words
   unfolding buildingFault
-  building-short h = rw (ne-eqb (length words) 5 h)
+  building-short h = rw (ne-eqb (length words) buildingSize h)
 
-  pub building-judged : length words ≡ 5 → unless (areBuilding words) status.buildingWord ≡ buildingFault words
+  pub building-judged : length words ≡ buildingSize → unless (areBuilding words) status.buildingWord ≡ buildingFault words
   unfolding buildingFault
-  building-judged h = rw (eq-eqb (length words) 5 h)
+  building-judged h = rw (eq-eqb (length words) buildingSize h)
 
 -- words without fault are all there, and each of them can be
-connection-none : (words : List ℕ) → connectionFault words ≡ 0 → (length words ≡ 5) × (areConnection words ≡ true)
+connection-none : (words : List ℕ) → connectionFault words ≡ 0 → (length words ≡ connectionSize) × (areConnection words ≡ true)
 unfolding connectionFault
-connection-none words h = go (eqb (length words) 5) refl h
+connection-none words h = go (eqb (length words) connectionSize) refl h
   where
-    go : (all : Bool) → eqb (length words) 5 ≡ all → pick all (unless (areConnection words) status.connectionWord) status.connectionLength ≡ 0
-        → (length words ≡ 5) × (areConnection words ≡ true)
-    go true e q = (eqb-true (length words) 5 e, unless-none (areConnection words) status.connectionWord (omega arith) q)
+    go : (all : Bool) → eqb (length words) connectionSize ≡ all → pick all (unless (areConnection words) status.connectionWord) status.connectionLength ≡ 0
+        → (length words ≡ connectionSize) × (areConnection words ≡ true)
+    go true e q = (eqb-true (length words) connectionSize e, unless-none (areConnection words) status.connectionWord (omega arith) q)
     go false e q = absurd (omega (arith, q))
 
-building-none : (words : List ℕ) → buildingFault words ≡ 0 → (length words ≡ 5) × (areBuilding words ≡ true)
+building-none : (words : List ℕ) → buildingFault words ≡ 0 → (length words ≡ buildingSize) × (areBuilding words ≡ true)
 unfolding buildingFault
-building-none words h = go (eqb (length words) 5) refl h
+building-none words h = go (eqb (length words) buildingSize) refl h
   where
-    go : (all : Bool) → eqb (length words) 5 ≡ all → pick all (unless (areBuilding words) status.buildingWord) status.buildingLength ≡ 0
-        → (length words ≡ 5) × (areBuilding words ≡ true)
-    go true e q = (eqb-true (length words) 5 e, unless-none (areBuilding words) status.buildingWord (omega arith) q)
+    go : (all : Bool) → eqb (length words) buildingSize ≡ all → pick all (unless (areBuilding words) status.buildingWord) status.buildingLength ≡ 0
+        → (length words ≡ buildingSize) × (areBuilding words ≡ true)
+    go true e q = (eqb-true (length words) buildingSize e, unless-none (areBuilding words) status.buildingWord (omega arith) q)
     go false e q = absurd (omega (arith, q))
 
 -- a connection's words, test by test
 abbrev connectionTests : (words : List ℕ) → areConnection words ≡ true
-    → (leb (getD words 0 0) 3 ≡ true) × ((leb (getD words 2 0) 1 ≡ true) × ((leb (getD words 3 0) 65535 ≡ true) × (leb (getD words 4 0) 1 ≡ true)))
-connectionTests words = all-four (leb (getD words 0 0) 3) (leb (getD words 2 0) 1) (leb (getD words 3 0) 65535) (leb (getD words 4 0) 1)
+    → (leb (word words statePlace) lastState ≡ true) × ((leb (word words duePlace) lastFlag ≡ true) × ((leb (word words askedPlace) lastNumber ≡ true) × (leb (word words headersPlace) lastFlag ≡ true)))
+connectionTests words = all-four (leb (word words statePlace) lastState) (leb (word words duePlace) lastFlag) (leb (word words askedPlace) lastNumber) (leb (word words headersPlace) lastFlag)
 
 -- a building record's
 abbrev buildingTests : (words : List ℕ) → areBuilding words ≡ true
-    → (either (isForward (getD words 0 0)) (isSendHeaders (getD words 0 0)) ≡ true)
-    × ((leb (getD words 1 0) 65535 ≡ true) × ((leb (getD words 2 0) 65535 ≡ true) × ((leb (getD words 3 0) 65535 ≡ true) × (leb (getD words 4 0) 1 ≡ true))))
+    → (either (isForward (word words kindPlace)) (isSendHeaders (word words kindPlace)) ≡ true)
+    × ((leb (word words nextPlace) lastNumber ≡ true) × ((leb (word words countPlace) lastNumber ≡ true) × ((leb (word words soFarPlace) lastNumber ≡ true) × (leb (word words attributesPlace) lastFlag ≡ true))))
 buildingTests words =
-    all-five (either (isForward (getD words 0 0)) (isSendHeaders (getD words 0 0)))
-    (leb (getD words 1 0) 65535) (leb (getD words 2 0) 65535) (leb (getD words 3 0) 65535) (leb (getD words 4 0) 1)
+    all-five (either (isForward (word words kindPlace)) (isSendHeaders (word words kindPlace)))
+    (leb (word words nextPlace) lastNumber) (leb (word words countPlace) lastNumber) (leb (word words soFarPlace) lastNumber) (leb (word words attributesPlace) lastFlag)
 
 -- so their numbers fit
 pub connection-fits : (words : List ℕ) → connectionFault words ≡ 0 → ConnectionFits words
 connection-fits words h =
     let none = connection-none words h in
-    record { all = none .0; asked = leb-true (getD words 3 0) 65535 (connectionTests words (none .1) .1 .1 .0) }
+    record { all = none .0; asked = leb-true (word words askedPlace) lastNumber (connectionTests words (none .1) .1 .1 .0) }
 
 pub building-fits : (words : List ℕ) → buildingFault words ≡ 0 → BuildingFits words
 building-fits words h =
@@ -107,9 +108,9 @@ building-fits words h =
     let tests = buildingTests words (none .1) in
     record {
       all = none .0;
-      next = leb-true (getD words 1 0) 65535 (tests .1 .0);
-      count = leb-true (getD words 2 0) 65535 (tests .1 .1 .0);
-      soFar = leb-true (getD words 3 0) 65535 (tests .1 .1 .1 .0);
+      next = leb-true (word words nextPlace) lastNumber (tests .1 .0);
+      count = leb-true (word words countPlace) lastNumber (tests .1 .1 .0);
+      soFar = leb-true (word words soFarPlace) lastNumber (tests .1 .1 .1 .0);
     }
 
 -- a state, a flag and a packet in pieces, there and back
@@ -140,11 +141,11 @@ unfolding buildingIn buildingWords
 building-back r = rw (kind-back (r .kind), flag-back (r .attributes))
 
 -- a flag's word is a flag, and a state's a state
-flag-right : (flag : Bool) → leb (booleanNumber flag) 1 ≡ true
+flag-right : (flag : Bool) → leb (booleanNumber flag) lastFlag ≡ true
 flag-right true = refl
 flag-right false = refl
 
-state-right : (state : State) → leb (stateWord state) 3 ≡ true
+state-right : (state : State) → leb (stateWord state) lastState ≡ true
 state-right State.Idle = refl
 state-right State.Pinged = refl
 state-right State.Busy = refl
@@ -155,19 +156,19 @@ kind-right BuildingKind.Forward = refl
 kind-right BuildingKind.SendHeaders = refl
 
 -- the words of a connection whose number fits have no fault
-pub connection-right : (c : Connection) → c .asked ≤ 65535 → connectionFault (connectionWords c) ≡ 0
+pub connection-right : (c : Connection) → c .asked ≤ lastNumber → connectionFault (connectionWords c) ≡ 0
 unfolding connectionFault connectionWords
 connection-right c h =
-    rw (state-right (c .state), flag-right (c .due), le-leb (c .asked) 65535 h, flag-right (c .headers))
+    rw (state-right (c .state), flag-right (c .due), le-leb (c .asked) lastNumber h, flag-right (c .headers))
 
 -- and so have those of a building record
-pub building-right : (r : Building) → r .next .0 ≤ 65535 → r .count .0 ≤ 65535 → r .headers ≤ 65535 → buildingFault (buildingWords r) ≡ 0
+pub building-right : (r : Building) → r .next .0 ≤ lastNumber → r .count .0 ≤ lastNumber → r .headers ≤ lastNumber → buildingFault (buildingWords r) ≡ 0
 unfolding buildingFault buildingWords
 building-right r h k l =
-    rw (kind-right (r .kind), le-leb (r .next .0) 65535 h, le-leb (r .count .0) 65535 k, le-leb (r .headers) 65535 l, flag-right (r .attributes))
+    rw (kind-right (r .kind), le-leb (r .next .0) lastNumber h, le-leb (r .count .0) lastNumber k, le-leb (r .headers) lastNumber l, flag-right (r .attributes))
 
 -- words that can be are those of what they say: a state's, a flag's, a packet's in pieces
-state-forth : (n : ℕ) → n ≤ 3 → stateWord (stateIn n) ≡ n
+state-forth : (n : ℕ) → n ≤ lastState → stateWord (stateIn n) ≡ n
 unfolding stateIn
 state-forth n h = go (eqb n 0) (eqb n 1) (eqb n 2) refl refl refl
   where
@@ -178,7 +179,7 @@ state-forth n h = go (eqb n 0) (eqb n 1) (eqb n 2) refl refl refl
     go false false true p q r = sym (eqb-true n 2 r)
     go false false false p q r = omega (arith, eqb-false n 0 p, eqb-false n 1 q, eqb-false n 2 r)
 
-flag-forth : (n : ℕ) → n ≤ 1 → booleanNumber (flagIn n) ≡ n
+flag-forth : (n : ℕ) → n ≤ lastFlag → booleanNumber (flagIn n) ≡ n
 flag-forth n h = go (eqb n 1) refl
   where
     go : (t : Bool) → eqb n 1 ≡ t → booleanNumber t ≡ n
@@ -187,12 +188,12 @@ flag-forth n h = go (eqb n 1) refl
 
 kind-forth : (n : ℕ) → either (isForward n) (isSendHeaders n) ≡ true → kindWord (building.kindIn (buildingKindIn n)) ≡ n
 unfolding buildingKindIn
-kind-forth n h = go (eqb n 3) (eqb n 6) refl refl h
+kind-forth n h = go (eqb n (kindWord Kind.Forward)) (eqb n (kindWord Kind.SendHeaders)) refl refl h
   where
-    go : (a b : Bool) → eqb n 3 ≡ a → eqb n 6 ≡ b → either a b ≡ true
+    go : (a b : Bool) → eqb n (kindWord Kind.Forward) ≡ a → eqb n (kindWord Kind.SendHeaders) ≡ b → either a b ≡ true
         → kindWord (building.kindIn (pick a BuildingKind.Forward BuildingKind.SendHeaders)) ≡ n
-    go true b p q e = sym (eqb-true n 3 p)
-    go false true p q e = sym (eqb-true n 6 q)
+    go true b p q e = sym (eqb-true n (kindWord Kind.Forward) p)
+    go false true p q e = sym (eqb-true n (kindWord Kind.SendHeaders) q)
     go false false p q e = absurd (let z : _≡_ {A = ℕ} 0 1 = cc in omega arith)
 
 -- five words, one by one
@@ -212,7 +213,7 @@ unfolding connectionIn connectionWords
 connection-forth words h =
     let none = connection-none words h in
     let tests = connectionTests words (none .1) in
-    rw (state-forth (getD words 0 0) (leb-true _ 3 (tests .0)), flag-forth (getD words 2 0) (leb-true _ 1 (tests .1 .0)), flag-forth (getD words 4 0) (leb-true _ 1 (tests .1 .1 .1)))
+    rw (state-forth (word words statePlace) (leb-true _ lastState (tests .0)), flag-forth (word words duePlace) (leb-true _ lastFlag (tests .1 .0)), flag-forth (word words headersPlace) (leb-true _ lastFlag (tests .1 .1 .1)))
     (sym (five words (none .0)))
 
 -- and so it is with a building record
@@ -221,5 +222,5 @@ unfolding buildingIn buildingWords
 building-forth words h =
     let none = building-none words h in
     let tests = buildingTests words (none .1) in
-    rw (kind-forth (getD words 0 0) (tests .0), flag-forth (getD words 4 0) (leb-true _ 1 (tests .1 .1 .1 .1)))
+    rw (kind-forth (word words kindPlace) (tests .0), flag-forth (word words attributesPlace) (leb-true _ lastFlag (tests .1 .1 .1 .1)))
     (sym (five words (none .0)))

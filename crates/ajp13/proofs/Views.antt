@@ -18,19 +18,19 @@ use Rattle.fields.specs.Fault.{unless}
 use Rattle.fields.proofs.Sizes.{unless-none, or-first, or-second}
 use Rattle.views.specs.View.{integerView, nullView, textView}
 use Rattle.ajp13.specs.Status as status
-use Rattle.ajp13.specs.Words.{word, flagIn, numberFault}
-use Rattle.ajp13.specs.View.{startPlace, lengthPlace, nullPlace, textStart, textWords, textFault}
+use Rattle.ajp13.specs.Words.{word, flagIn, lastNumber, numberFault}
+use Rattle.ajp13.specs.View.{textSize, lengthSize, startPlace, lengthPlace, nullPlace, textStart, textWords, textFault}
 use Rattle.ajp13.proofs.Effects.{number-within}
 
 -- the bytes start inside the packet or at its end, at most two bytes behind the place
-pub start-within : (packet : List ℕ) (at : ℕ) → (textStart packet at ≤ length packet) × (textStart packet at ≤ at + 2)
+pub start-within : (packet : List ℕ) (at : ℕ) → (textStart packet at ≤ length packet) × (textStart packet at ≤ at + lengthSize)
 unfolding textStart
-start-within packet at = go (leb (at + 2) (length packet)) refl
+start-within packet at = go (leb (at + lengthSize) (length packet)) refl
   where
-    go : (t : Bool) → leb (at + 2) (length packet) ≡ t
-        → (pick t (at + 2) (length packet) ≤ length packet) × (pick t (at + 2) (length packet) ≤ at + 2)
-    go true e = (leb-true (at + 2) (length packet) e, omega arith)
-    go false e = (omega arith, omega (arith, leb-false (at + 2) (length packet) e))
+    go : (t : Bool) → leb (at + lengthSize) (length packet) ≡ t
+        → (pick t (at + lengthSize) (length packet) ≤ length packet) × (pick t (at + lengthSize) (length packet) ≤ at + lengthSize)
+    go true e = (leb-true (at + lengthSize) (length packet) e, omega arith)
+    go false e = (omega arith, omega (arith, leb-false (at + lengthSize) (length packet) e))
 
 -- a part has no more bytes than were asked for
 part-most : (s : List ℕ) (start len : ℕ) → length (part s start len) ≤ len
@@ -48,28 +48,28 @@ pub text-most : (packet : List ℕ) (at : ℕ) → length (textView packet at) �
 unfolding textView
 text-most packet at = go (nullView packet at)
   where
-    go : (t : Bool) → length (pick t [] (part packet (at + 2) (integerView packet at))) ≤ integerView packet at
+    go : (t : Bool) → length (pick t [] (part packet (at + lengthSize) (integerView packet at))) ≤ integerView packet at
     go true = omega arith
-    go false = part-most packet (at + 2) (integerView packet at)
+    go false = part-most packet (at + lengthSize) (integerView packet at)
 
 -- the part that the words say, from the start on as many bytes as are told, is what the view shows
 pub words-show : (packet : List ℕ) (at : ℕ) → part packet (textStart packet at) (length (textView packet at)) ≡ textView packet at
 unfolding textStart textView integerView
-words-show packet at = go (leb (at + 2) (length packet)) (nullView packet at)
+words-show packet at = go (leb (at + lengthSize) (length packet)) (nullView packet at)
   where
     go : (there null : Bool)
-        → part packet (pick there (at + 2) (length packet)) (length (pick null [] (part packet (at + 2) (pick there (integerIn packet at) 0))))
-        ≡ pick null [] (part packet (at + 2) (pick there (integerIn packet at) 0))
-    go there true = part-zero packet (pick there (at + 2) (length packet))
-    go true false = part-shown packet (at + 2) (integerIn packet at)
+        → part packet (pick there (at + lengthSize) (length packet)) (length (pick null [] (part packet (at + lengthSize) (pick there (integerIn packet at) 0))))
+        ≡ pick null [] (part packet (at + lengthSize) (pick there (integerIn packet at) 0))
+    go there true = part-zero packet (pick there (at + lengthSize) (length packet))
+    go true false = part-shown packet (at + lengthSize) (integerIn packet at)
     go false false = rw part-zero (part-zero packet (length packet))
 
 -- without a fault three words are lent, and the place is a 16-bit number
-pub text-fine : (text : List ℕ) (place : ℕ) {found : ℕ} → found ≡ textFault text place → found ≡ 0 → (length text ≡ 3) × (place ≤ 65535)
+pub text-fine : (text : List ℕ) (place : ℕ) {found : ℕ} → found ≡ textFault text place → found ≡ 0 → (length text ≡ textSize) × (place ≤ lastNumber)
 unfolding textFault
 text-fine text place p h = (
-  eqb-true (length text) 3 (unless-none (eqb (length text) 3) status.answerLength (omega arith) (or-first (unless (eqb (length text) 3) status.answerLength) (numberFault place) (sym p ∙ h))),
-  number-within place (or-second (unless (eqb (length text) 3) status.answerLength) (numberFault place) (sym p ∙ h)),
+  eqb-true (length text) textSize (unless-none (eqb (length text) textSize) status.answerLength (omega arith) (or-first (unless (eqb (length text) textSize) status.answerLength) (numberFault place) (sym p ∙ h))),
+  number-within place (or-second (unless (eqb (length text) textSize) status.answerLength) (numberFault place) (sym p ∙ h)),
 )
 
 -- the words, one by one

@@ -10,6 +10,7 @@ use lib.Dec.{eqb}
 use lib.ListN.{length}
 use Rattle.wire.specs.Pick.{pick}
 use Rattle.packet.specs.declared.Direction.{Direction}
+use Rattle.connection.specs.Connection.{maxPacket}
 use Rattle.connection.specs.declared.Connection.{Connection}
 use Rattle.connection.specs.declared.Move.{Move}
 use Rattle.fields.specs.Field.{Fits}
@@ -60,5 +61,5 @@ close-within c r buffer = go (closeOutcome c r buffer) refl
     go (refused n) e = tt
     go (done w) e =
         let d = close-done c r buffer w e in
-        let within : closedLength r ≤ 8192 = d .ready .within in
+        let within : closedLength r ≤ maxPacket = d .ready .within in
         omega (arith, d .length-is)

@@ -72,8 +72,8 @@ fn text_words(packet: &[u8], at: usize, shown: &[u8]) -> [u32; TEXT_SIZE]
 {
     let null = length_at(packet, at) == NULL_LENGTH;
     let start = start_at(packet, at) as u32;
-    let length = shown.len() as u32;
-    [start, length, flag_word(null)]
+    let size = shown.len() as u32;
+    [start, size, flag_word(null)]
 }
 
 // The fault of a call that tells a string.

@@ -19,7 +19,8 @@ allows-requires c κs = search needs
 
 returns : tie.Need-returns
 returns c =
-    sym (chunk-size-by _ _ _ false _ (sym (c .before .allows .ensures) ∙ not-true _ (c .if1 .taken)) refl refl)
+    let a = c .before .before .before .args in
+    sym (chunk-size-by (a .connection) (a .bytes .now) _ false _ (sym (c .before .allows .ensures) ∙ not-true _ (c .if1 .taken)) refl refl)
 
 whole-size-requires : tie.Need-whole-size-requires
 whole-size-requires c κs = search needs
@@ -34,7 +35,8 @@ is-chunk-requires c κs = search needs
 allowed-size : (c : tie.After-is-chunk) (t : Bool) → c .is-chunk .result ≡ t → let a = c .before .before .before .before .before .before .args in
     chunkSize (a .connection) (a .bytes .now) ≡ pick t (c .before .before .whole-size .result) 0
 allowed-size c t e =
-    chunk-size-by _ _ _ true t
+    let a = c .before .before .before .before .before .before .args in
+    chunk-size-by (a .connection) (a .bytes .now) _ true t
     (sym (c .before .before .before .before .allows .ensures) ∙ not-false _ (c .before .before .before .if1 .left))
     (c .before .before .whole-size .ensures)
     (ap (λ (s : List ℕ). isChunk (byteAt s codePlace)) (sym (c .before .part-of .ensures)) ∙ sym (c .is-chunk .ensures) ∙ e)

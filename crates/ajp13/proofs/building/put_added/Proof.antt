@@ -5,6 +5,7 @@ use mathlib.Core.List.{List}
 use Prim.Native.Nat.{ℕ}
 use Rattle.pieces.specs.declared.Added.{Added}
 use Rattle.pieces.specs.Meaning.{meaning}
+use Rattle.ajp13.specs.Status as status
 use Rattle.ajp13.specs.Building.{pieceLeaves, afterAdding}
 use borrow.Author.Needs.{needs}
 use Rattle.ajp13.proofs.building.put_added.Statement.{statement}
@@ -34,7 +35,7 @@ returns-2 : tie.Need-returns-2
 returns-2 c buffer =
     let put = c .before .before in
     let words = put .before .before .before .before .before .before .args .building .now in
-    ap (λ (l : List ℕ). pieceLeaves 0 l buffer) (put .put-building .ensures)
+    ap (λ (l : List ℕ). pieceLeaves status.done l buffer) (put .put-building .ensures)
     ∙ ap (λ (r : Added). afterAdding (meaning r) words buffer) (sym (put .before .before .before .added2 .given .1))
 
 pub put-added-spec : {M : Type 1} → statement M

@@ -6,6 +6,7 @@ use Rattle.writer.specs.declared.Sent.{Sent}
 use Rattle.ajp13.specs.Answer.{writtenWords}
 use Rattle.ajp13.specs.Sending.{afterSending}
 use Rattle.ajp13.specs.Private.{SentWithin}
+use Rattle.ajp13.specs.Status as status
 use Rattle.ajp13.proofs.Effects.{leaves-same}
 use borrow.Author.Needs.{needs}
 use Rattle.ajp13.proofs.send.tell.Statement.{statement}
@@ -49,7 +50,7 @@ same-length-2 c = search needs
 returns-2 : tie.Need-returns-2
 returns-2 c = λ buffer.
     let a = c .before .before .before .before .before .before .before .before .before .before .before .before .before .before .before .before .args in
-    leaves-same 0 buffer (c .before .before .before .before .before .before .before .before .before .put-connection .ensures)
+    leaves-same status.done buffer (c .before .before .before .before .before .before .before .before .before .put-connection .ensures)
     (c .before .before .fill .ensures ∙ c .before .before .before .before .before .written-words .ensures ∙ ap (writtenWords (a .kind)) (c .before .before .before .before .before .before .bytes-word .ensures))
     ∙ sym (ap (λ (s : Sent). afterSending (a .kind) (meaning s) (a .connection .now) buffer (a .answer .now)) (c .before .before .before .before .before .before .before .before .before .before .before .before .sent2 .given .1))
 

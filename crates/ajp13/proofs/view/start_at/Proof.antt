@@ -5,7 +5,7 @@ use native.Mathlib.Omega.{arith}
 use Prim.Native.Nat.{_+_, _≤_}
 use lib.ListN.{length}
 use Rattle.wire.proofs.Bytes.{room-yes}
-use Rattle.ajp13.specs.View.{textStart}
+use Rattle.ajp13.specs.View.{lengthSize, textStart}
 use borrow.Author.Needs.{needs}
 use Rattle.ajp13.proofs.view.start_at.Statement.{statement}
 use Rattle.ajp13.proofs.view.start_at.Tie as tie
@@ -16,7 +16,7 @@ has-room-requires c κs = search needs
 add-result : tie.Need-add-result
 add-result c =
     let a = c .before .before .before .args in
-    let there : a .at + 2 ≤ length (a .packet .now) = room-yes _ _ _ (c .before .has-room .ensures) (c .if1 .taken) in
+    let there : a .at + lengthSize ≤ length (a .packet .now) = room-yes _ _ _ (c .before .has-room .ensures) (c .if1 .taken) in
     omega (arith, there)
 
 returns : tie.Need-returns

@@ -21,8 +21,8 @@ cast-start c =
     let a = c .before .before .before .before .args in
     omega (arith, c .start-at .ensures, start-within (a .packet .now) (a .at) .1)
 
-cast-length : tie.Need-cast-length
-cast-length c =
+cast-size : tie.Need-cast-size
+cast-size c =
     let e = c .before .before .before .before in
     omega (arith, ap length (e .pre .1), text-most (e .args .packet .now) (e .args .at), c .before .length-at .ensures)
 
@@ -38,4 +38,4 @@ returns c =
 pub text-words-spec : {M : Type 1} → statement M
 text-words-spec =
     tie.close
-    (tie.spec length-at-requires start-at-requires cast-start cast-length flag-word-requires returns)
+    (tie.spec length-at-requires start-at-requires cast-start cast-size flag-word-requires returns)

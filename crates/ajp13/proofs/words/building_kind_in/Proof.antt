@@ -1,17 +1,18 @@
 -- `words::building_kind_in` meets its contract, by whether the word is a Forward's.
 -- Assumes nothing.
 use borrow.Author.Tests.{eq-eqb, ne-eqb}
-use Rattle.ajp13.specs.Words.{buildingKindIn}
+use Rattle.connection.specs.declared.Kind.{Kind}
+use Rattle.ajp13.specs.Words.{kindWord, buildingKindIn}
 use Rattle.ajp13.proofs.words.building_kind_in.Statement.{statement}
 use Rattle.ajp13.proofs.words.building_kind_in.Tie as tie
 
 returns : tie.Need-returns
 unfolding buildingKindIn
-returns c = rw (eq-eqb (c .before .args .word) 3 (c .if1 .taken))
+returns c = rw (eq-eqb (c .before .args .word) (kindWord Kind.Forward) (c .if1 .taken))
 
 returns-2 : tie.Need-returns-2
 unfolding buildingKindIn
-returns-2 c = rw (ne-eqb (c .before .args .word) 3 (c .if1 .left))
+returns-2 c = rw (ne-eqb (c .before .args .word) (kindWord Kind.Forward) (c .if1 .left))
 
 pub building-kind-in-spec : {M : Type 1} → statement M
 building-kind-in-spec = tie.close (tie.spec returns returns-2)

@@ -3,7 +3,7 @@
 use borrow.Author.Tests.{le-leb, lt-leb}
 use mathlib.Core.Path.{refl}
 use mathlib.Core.Bool.{true, false}
-use Rattle.ajp13.specs.Words.{word}
+use Rattle.ajp13.specs.Words.{word, lastFlag, lastNumber, lastState, statePlace, duePlace, askedPlace, headersPlace}
 use Rattle.ajp13.proofs.Records.{connection-short, connection-judged}
 use borrow.Author.Needs.{needs}
 use Rattle.ajp13.proofs.words.connection_fault.Statement.{statement}
@@ -16,28 +16,28 @@ shared-slice-read-if2 : tie.Need-shared-slice-read-if2
 shared-slice-read-if2 c = search needs
 
 returns-2 : tie.Need-returns-2
-returns-2 c = connection-judged _ (c .before .before .if1 .left) false _ _ _ (lt-leb (word (c .before .before .before .args .words .now) 0) 3 (c .if2 .taken)) refl refl refl
+returns-2 c = connection-judged _ (c .before .before .if1 .left) false _ _ _ (lt-leb (word (c .before .before .before .args .words .now) statePlace) lastState (c .if2 .taken)) refl refl refl
 
 shared-slice-read-if3 : tie.Need-shared-slice-read-if3
 shared-slice-read-if3 c = search needs
 
 returns-3 : tie.Need-returns-3
-returns-3 c = connection-judged _ (c .before .before .before .before .if1 .left) true false _ _ (le-leb (word (c .before .before .before .before .before .args .words .now) 0) 3 (c .before .before .if2 .left)) (lt-leb (word (c .before .before .before .before .before .args .words .now) 2) 1 (c .if3 .taken)) refl refl
+returns-3 c = connection-judged _ (c .before .before .before .before .if1 .left) true false _ _ (le-leb (word (c .before .before .before .before .before .args .words .now) statePlace) lastState (c .before .before .if2 .left)) (lt-leb (word (c .before .before .before .before .before .args .words .now) duePlace) lastFlag (c .if3 .taken)) refl refl
 
 shared-slice-read-if4 : tie.Need-shared-slice-read-if4
 shared-slice-read-if4 c = search needs
 
 returns-4 : tie.Need-returns-4
-returns-4 c = connection-judged _ (c .before .before .before .before .before .before .if1 .left) true true false _ (le-leb (word (c .before .before .before .before .before .before .before .args .words .now) 0) 3 (c .before .before .before .before .if2 .left)) (le-leb (word (c .before .before .before .before .before .before .before .args .words .now) 2) 1 (c .before .before .if3 .left)) (lt-leb (word (c .before .before .before .before .before .before .before .args .words .now) 3) 65535 (c .if4 .taken)) refl
+returns-4 c = connection-judged _ (c .before .before .before .before .before .before .if1 .left) true true false _ (le-leb (word (c .before .before .before .before .before .before .before .args .words .now) statePlace) lastState (c .before .before .before .before .if2 .left)) (le-leb (word (c .before .before .before .before .before .before .before .args .words .now) duePlace) lastFlag (c .before .before .if3 .left)) (lt-leb (word (c .before .before .before .before .before .before .before .args .words .now) askedPlace) lastNumber (c .if4 .taken)) refl
 
 shared-slice-read-if5 : tie.Need-shared-slice-read-if5
 shared-slice-read-if5 c = search needs
 
 returns-5 : tie.Need-returns-5
-returns-5 c = connection-judged _ (c .before .before .before .before .before .before .before .before .if1 .left) true true true false (le-leb (word (c .before .before .before .before .before .before .before .before .before .args .words .now) 0) 3 (c .before .before .before .before .before .before .if2 .left)) (le-leb (word (c .before .before .before .before .before .before .before .before .before .args .words .now) 2) 1 (c .before .before .before .before .if3 .left)) (le-leb (word (c .before .before .before .before .before .before .before .before .before .args .words .now) 3) 65535 (c .before .before .if4 .left)) (lt-leb (word (c .before .before .before .before .before .before .before .before .before .args .words .now) 4) 1 (c .if5 .taken))
+returns-5 c = connection-judged _ (c .before .before .before .before .before .before .before .before .if1 .left) true true true false (le-leb (word (c .before .before .before .before .before .before .before .before .before .args .words .now) statePlace) lastState (c .before .before .before .before .before .before .if2 .left)) (le-leb (word (c .before .before .before .before .before .before .before .before .before .args .words .now) duePlace) lastFlag (c .before .before .before .before .if3 .left)) (le-leb (word (c .before .before .before .before .before .before .before .before .before .args .words .now) askedPlace) lastNumber (c .before .before .if4 .left)) (lt-leb (word (c .before .before .before .before .before .before .before .before .before .args .words .now) headersPlace) lastFlag (c .if5 .taken))
 
 returns-6 : tie.Need-returns-6
-returns-6 c = connection-judged _ (c .before .before .before .before .before .before .before .before .if1 .left) true true true true (le-leb (word (c .before .before .before .before .before .before .before .before .before .args .words .now) 0) 3 (c .before .before .before .before .before .before .if2 .left)) (le-leb (word (c .before .before .before .before .before .before .before .before .before .args .words .now) 2) 1 (c .before .before .before .before .if3 .left)) (le-leb (word (c .before .before .before .before .before .before .before .before .before .args .words .now) 3) 65535 (c .before .before .if4 .left)) (le-leb (word (c .before .before .before .before .before .before .before .before .before .args .words .now) 4) 1 (c .if5 .left))
+returns-6 c = connection-judged _ (c .before .before .before .before .before .before .before .before .if1 .left) true true true true (le-leb (word (c .before .before .before .before .before .before .before .before .before .args .words .now) statePlace) lastState (c .before .before .before .before .before .before .if2 .left)) (le-leb (word (c .before .before .before .before .before .before .before .before .before .args .words .now) duePlace) lastFlag (c .before .before .before .before .if3 .left)) (le-leb (word (c .before .before .before .before .before .before .before .before .before .args .words .now) askedPlace) lastNumber (c .before .before .if4 .left)) (le-leb (word (c .before .before .before .before .before .before .before .before .before .args .words .now) headersPlace) lastFlag (c .if5 .left))
 
 pub connection-fault-spec : {M : Type 1} → statement M
 connection-fault-spec =
