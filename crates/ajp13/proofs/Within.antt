@@ -62,4 +62,4 @@ close-within c r buffer = go (closeOutcome c r buffer) refl
     go (done w) e =
         let d = close-done c r buffer w e in
         let within : closedLength r ≤ maxPacket = d .ready .within in
-        omega (arith, d .length-is)
+        omega (arith, d .size-is)

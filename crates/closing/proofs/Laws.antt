@@ -8,30 +8,39 @@ use mathlib.Core.Bool.{Bool, true, false, not, false≢true}
 use mathlib.Core.List.{List}
 use Prim.Native.Nat.{ℕ, _+_, _-_, _≤_}
 use lib.Dec.{eqb}
-use lib.ListN.{length, drop}
-use Rattle.wire.specs.Pick.{pick}
+use lib.ListN.{length, getD, take, drop}
+use lib.Seq.{take-length}
+use Rattle.wire.specs.Pick.{pick, both}
 use Rattle.wire.specs.Bytes.{part, integerIn}
-use Rattle.wire.specs.Field.{integerAt}
+use Rattle.wire.specs.Field.{byteAt, integerAt}
 use Rattle.packet.specs.declared.Direction.{Direction}
+use Rattle.packet.specs.declared.Packet.{Packet}
 use Rattle.wire.specs.declared.read.NumberRead.{NumberRead}
 use Rattle.wire.proofs.Field.{number-read}
-use Rattle.connection.specs.Cycle.{inState}
+use Rattle.wire.specs.Refusal.{leadingWrong, notNow, recordWrong}
+use Rattle.connection.specs.Cycle.{directionOf, inState}
+use Rattle.connection.specs.declared.State.{State}
 use Rattle.connection.specs.declared.Connection.{Connection}
 use Rattle.connection.specs.declared.Kind.{Kind}
-use Rattle.payload.specs.Code.{kindAt}
+use Rattle.connection.specs.Connection.{maxPacket, maxPayload, isIdle, isBusy}
+use Rattle.places.specs.Entries.{maxHeaders, maxPlaces}
+use Rattle.payload.specs.Code.{codeOf, codeKind, kindOfCode, codePlace, kindAt, payloadPlace}
+use Rattle.payload.specs.Kinds as payload
 use Rattle.payload.specs.Kinds.{packetAt}
 use Rattle.payload.specs.declared.KindRead.{KindRead}
 use Rattle.payload.specs.declared.found.PacketRead.{PacketRead}
+use Rattle.payload.proofs.Parsed.{parsed-kind}
 use Rattle.fields.specs.Fault.{unless, orElse, fitFault}
 use Rattle.fields.specs.Call.{Outcome, refused, done}
 use Rattle.fields.proofs.Sizes.{or-first, or-second, unless-none, fit-none, fit-by}
+use Rattle.building_record.specs.declared.BuildingKind.{BuildingKind}
 use Rattle.building_record.specs.declared.Building.{Building}
 use Rattle.building_record.specs.Record.{kindIn, directionIn, isPossible}
 use Rattle.building_record.proofs.Laws.{possible-yes}
 use Rattle.writer.specs.declared.Sent.{Sent}
 use Rattle.writer.specs.Meaning.{Written, meaning, isWritten}
 use Rattle.reader.specs.declared.frame.FrameRead.{FrameRead}
-use Rattle.reader.specs.Frame.{leadingDiffers, lengthAt, frameOf, frameAt}
+use Rattle.reader.specs.Frame.{leadingDiffers, lengthAt, frameOf, frameAt, lengthPlace}
 use Rattle.reader.specs.Meaning as read
 use Rattle.reader.specs.Reading.{parsedOf, parseWhole, parseFrame, parse, readAsBody, accepting, judging, reading}
 use Rattle.reader.proofs.Framing.{length-is}
@@ -39,19 +48,13 @@ use Rattle.reading_laws.specs.Acceptance.{Answered}
 use Rattle.reading_laws.proofs.Acceptance.{accepted-is, accepting-answers}
 use Rattle.reading_laws.proofs.Aside.{aside}
 use Rattle.closing.specs.Closing.{closedLength, closingFault, closed, closedPacket, judgement, verdict, closeOutcome, whereDone, closeBuffer}
+use Rattle.closing.specs.Done.{Ready, CloseDone}
 use Rattle.closing.specs.Private.{Closable}
-use Rattle.closing.proofs.Setting.{set-length, packet-length, packet-payload, set-behind}
-
--- where nothing is found before the packet is judged: the record can be, the state allows the packet, and all of it fits
-pub record Ready (c : Connection) (r : Building) (buffer : List ℕ) : Type 0 where
-  pub possible : isPossible r buffer ≡ true
-  pub allowed : inState c (kindIn (r .kind)) ≡ true
-  pub within : closedLength r ≤ 8192
-  pub inside : closedLength r ≤ length buffer
+use Rattle.closing.proofs.Setting.{set-length, packet-length, packet-payload, packet-code, set-behind}
 
 module _ (c : Connection) (r : Building) (buffer : List ℕ) where
   -- the fault that is found, by the three that are looked for
-  pub fault-by : {possible state fit first : ℕ} → possible ≡ unless (isPossible r buffer) 16 → state ≡ unless (inState c (kindIn (r .kind))) 13
+  pub fault-by : {possible state fit first : ℕ} → possible ≡ unless (isPossible r buffer) recordWrong → state ≡ unless (inState c (kindIn (r .kind))) notNow
       → fit ≡ fitFault (closedLength r) (length buffer) → first ≡ orElse possible state → orElse first fit ≡ closingFault c r buffer
   unfolding closingFault
   fault-by p q f e = rw (e, p, q, f)
@@ -60,14 +63,14 @@ module _ (c : Connection) (r : Building) (buffer : List ℕ) where
   pub fault-ready : closingFault c r buffer ≡ 0 → Ready c r buffer
   unfolding closingFault
   fault-ready none =
-      let possible : ℕ = unless (isPossible r buffer) 16 in
-      let state : ℕ = unless (inState c (kindIn (r .kind))) 13 in
+      let possible : ℕ = unless (isPossible r buffer) recordWrong in
+      let state : ℕ = unless (inState c (kindIn (r .kind))) notNow in
       let fit : ℕ = fitFault (closedLength r) (length buffer) in
       let first : orElse possible state ≡ 0 = or-first (orElse possible state) fit none in
       let fits = fit-none (closedLength r) (length buffer) (or-second (orElse possible state) fit none) in
       record {
-        possible = unless-none (isPossible r buffer) 16 (omega arith) (or-first possible state first);
-        allowed = unless-none (inState c (kindIn (r .kind))) 13 (omega arith) (or-second possible state first);
+        possible = unless-none (isPossible r buffer) recordWrong (omega arith) (or-first possible state first);
+        allowed = unless-none (inState c (kindIn (r .kind))) notNow (omega arith) (or-second possible state first);
         within = fits .0;
         inside = fits .1;
       }
@@ -76,7 +79,7 @@ module _ (c : Connection) (r : Building) (buffer : List ℕ) where
   unfolding closingFault
   ready-fault h =
       rw (h .possible, h .allowed)
-      (sym (fit-by (closedLength r) (length buffer) true true (le-leb (closedLength r) 8192 (h .within)) (le-leb (closedLength r) (length buffer) (h .inside))))
+      (sym (fit-by (closedLength r) (length buffer) true true (le-leb (closedLength r) maxPacket (h .within)) (le-leb (closedLength r) (length buffer) (h .inside))))
 
   -- and then the packet can be closed
   pub ready-closable : Ready c r buffer → Closable r buffer
@@ -98,7 +101,7 @@ whole-answered : (d : Direction) (body : Bool) (c : Connection) (s : List ℕ) (
 unfolding parseWhole
 whole-answered d body c s n = by-kind (kindAt d body s)
   where
-    by-state : (kind : Kind) (now : Bool) → pick now (accepting c (length s) (packetAt kind s .end)) (read.refused 13) ≡ read.needs n → ⊥
+    by-state : (kind : Kind) (allowed : Bool) → pick allowed (accepting c (length s) (packetAt kind s .end)) (read.refused notNow) ≡ read.needs n → ⊥
     by-state kind true e = accepting-whole c (length s) n (packetAt kind s .end) e
     by-state kind false e = let z : _≡_ {A = ℕ} 0 1 = cc in omega arith
 
@@ -109,7 +112,7 @@ whole-answered d body c s n = by-kind (kindAt d body s)
 -- the frame of a packet that is closed: its leading bytes are wrong, or it is whole, with the packet's length
 module _ (r : Building) (buffer : List ℕ) (can : Closable r buffer) (d : Direction) where
   abbrev framed : Bool → FrameRead
-  framed differ = pick differ (FrameRead.Refused 1) (FrameRead.Whole (closedLength r))
+  framed differ = pick differ (FrameRead.Refused leadingWrong) (FrameRead.Whole (closedLength r))
 
   closed-frame : frameAt d (closedPacket r buffer) ≡ framed (leadingDiffers d (closedPacket r buffer))
   unfolding frameAt integerAt
@@ -117,14 +120,14 @@ module _ (r : Building) (buffer : List ℕ) (can : Closable r buffer) (d : Direc
       let s : List ℕ = closedPacket r buffer in
       let size : length s ≡ closedLength r = packet-length r buffer can in
       let least : 6 ≤ closedLength r = omega (arith, can .behind, can .apart) in
-      let whole : 4 + (closedLength r - 4) ≡ closedLength r = omega arith in
-      let payload : integerAt s 2 ≡ NumberRead.Number (closedLength r - 4) 4 =
-      sym (number-read 2 (integerIn s 2) s 2 (omega arith)) ∙ ap (λ (n : ℕ). NumberRead.Number n 4) (packet-payload r buffer can) in
-      let sized : lengthAt (length s) (closedLength r - 4) ≡ FrameRead.Whole (closedLength r) =
-      sym (length-is (length s) (closedLength r - 4) true false
-      (le-leb (closedLength r - 4) 8188 (omega (arith, can .within))) (le-ltb (length s) (4 + (closedLength r - 4)) (omega arith)))
+      let whole : payloadPlace + (closedLength r - payloadPlace) ≡ closedLength r = omega arith in
+      let payload : integerAt s lengthPlace ≡ NumberRead.Number (closedLength r - payloadPlace) payloadPlace =
+      sym (number-read 2 (integerIn s lengthPlace) s lengthPlace (omega arith)) ∙ ap (λ (n : ℕ). NumberRead.Number n payloadPlace) (packet-payload r buffer can) in
+      let sized : lengthAt (length s) (closedLength r - payloadPlace) ≡ FrameRead.Whole (closedLength r) =
+      sym (length-is (length s) (closedLength r - payloadPlace) true false
+      (le-leb (closedLength r - payloadPlace) maxPayload (omega (arith, can .within))) (le-ltb (length s) (payloadPlace + (closedLength r - payloadPlace)) (omega arith)))
       ∙ ap FrameRead.Whole whole in
-      ap (λ (f : FrameRead). pick (leadingDiffers d s) (FrameRead.Refused 1) f) (ap (frameOf (length s)) payload ∙ sized)
+      ap (λ (f : FrameRead). pick (leadingDiffers d s) (FrameRead.Refused leadingWrong) f) (ap (frameOf (length s)) payload ∙ sized)
 
   -- so "needs" is not the answer
   frame-answered : (body : Bool) (c : Connection) (n : ℕ) → judging c (parse d body (closedPacket r buffer)) ≡ read.needs n → ⊥
@@ -144,6 +147,55 @@ module _ (r : Building) (buffer : List ℕ) (can : Closable r buffer) (d : Direc
       go true q = absurd (let z : _≡_ {A = ℕ} 0 1 = cc in omega arith)
       go false q = cc
 
+-- a state that allows a packet in pieces has no body packet due at the end to which it goes
+none-due : (c : Connection) (kind : BuildingKind) → inState c (kindIn kind) ≡ true → readAsBody (directionOf (kindIn kind)) c ≡ false
+none-due c BuildingKind.Forward e = by (c .state) e
+  where
+    by : (state : State) → isIdle state ≡ true → both (isBusy state) (c .due) ≡ false
+    by State.Idle e = refl
+    by State.Pinged e = refl
+    by State.Busy e = absurd (false≢true e)
+    by State.Closed e = refl
+none-due c BuildingKind.SendHeaders e = refl
+
+-- the kind that is told of a packet is its own
+pub told-kind : (p : Packet) → read.told p .kind ≡ payload.kindIn p
+told-kind Packet.CPing = refl
+told-kind Packet.CPong = refl
+told-kind (Packet.Forward f) = refl
+told-kind (Packet.Body p) = refl
+told-kind (Packet.GetBody asked) = refl
+told-kind (Packet.SendHeaders h) = refl
+told-kind (Packet.BodyChunk p) = refl
+told-kind (Packet.End reuse) = refl
+
+-- the kind that has a record's code, or no kind's code
+code-of-kind : (kind : BuildingKind) (t : Bool) (found : Kind)
+    → codeKind (directionOf (kindIn kind)) (pick t 0 (codeOf (kindIn kind))) ≡ KindRead.Kind found → found ≡ kindIn kind
+unfolding codeKind
+code-of-kind BuildingKind.Forward true found e = absurd (let z : _≡_ {A = ℕ} 0 1 = cc in omega arith)
+code-of-kind BuildingKind.Forward false found e = cc
+code-of-kind BuildingKind.SendHeaders true found e = absurd (let z : _≡_ {A = ℕ} 0 1 = cc in omega arith)
+code-of-kind BuildingKind.SendHeaders false found e = cc
+
+module _ (r : Building) (buffer : List ℕ) (can : Closable r buffer) where
+  -- where all of a packet that is closed is taken, that is the packet
+  all-taken : (taken : ℕ) → taken ≡ closedLength r → part (closedPacket r buffer) 0 taken ≡ closedPacket r buffer
+  unfolding part
+  all-taken taken e = ap (λ (n : ℕ). take n (closedPacket r buffer)) (e ∙ sym (packet-length r buffer can)) ∙ take-length (closedPacket r buffer)
+
+  -- by its code it is of the record's kind
+  code-kind : r .headers ≤ maxHeaders → getD buffer codePlace 0 ≡ codeOf (kindIn (r .kind)) → (found : Kind)
+      → kindAt (directionIn r) false (closedPacket r buffer) ≡ KindRead.Kind found → found ≡ kindIn (r .kind)
+  unfolding kindAt byteAt
+  code-kind few is found e =
+      let s : List ℕ = closedPacket r buffer in
+      let there : byteAt s codePlace ≡ NumberRead.Number (getD s codePlace 0) (codePlace + 1) =
+      sym (number-read 1 (getD s codePlace 0) s codePlace (omega (arith, packet-length r buffer can, can .behind, can .apart))) in
+      code-of-kind (r .kind) (eqb (r .count .0) codePlace) found
+      (ap (codeKind (directionIn r)) (sym (packet-code r buffer can (codeOf (kindIn (r .kind))) few is))
+      ∙ ap (kindOfCode (directionIn r)) (sym there) ∙ e)
+
 module _ (c : Connection) (r : Building) (buffer : List ℕ) where
   -- "needs" is never the judge's answer to a packet that is closed
   pub closed-whole : closingFault c r buffer ≡ 0 → (n : ℕ) → judgement c r (closedPacket r buffer) ≡ read.needs n → ⊥
@@ -157,11 +209,27 @@ module _ (c : Connection) (r : Building) (buffer : List ℕ) where
   unfolding judgement
   closed-taken ready t taken next e =
       let s : List ℕ = closedPacket r buffer in
-      let reads : reading (directionIn r) c s 328 ≡ read.accepted t taken next = aside (directionIn r) c s 328 (omega arith) ∙ e in
-      frame-taken r buffer (ready-closable c r buffer ready) (directionIn r) taken (accepted-is (directionIn r) c s 328 t taken next reads .whole-is)
+      let reads : reading (directionIn r) c s maxPlaces ≡ read.accepted t taken next = aside (directionIn r) c s maxPlaces (omega arith) ∙ e in
+      frame-taken r buffer (ready-closable c r buffer ready) (directionIn r) taken (accepted-is (directionIn r) c s maxPlaces t taken next reads .whole-is)
+
+  -- the packet that passes is of the record's kind: its code is the record's, or what stands there is no code at all
+  closed-kind : Ready c r buffer → (t : read.Told) (taken : ℕ) (next : Connection)
+      → judgement c r (closedPacket r buffer) ≡ read.accepted t taken next → t .kind ≡ kindIn (r .kind)
+  unfolding judgement
+  closed-kind ready t taken next e =
+      let s : List ℕ = closedPacket r buffer in
+      let can = possible-yes r buffer (ready .possible) in
+      let reads : reading (directionIn r) c s maxPlaces ≡ read.accepted t taken next = aside (directionIn r) c s maxPlaces (omega arith) ∙ e in
+      let a = accepted-is (directionIn r) c s maxPlaces t taken next reads in
+      let all : part s 0 taken ≡ s = all-taken r buffer (ready-closable c r buffer ready) taken (closed-taken ready t taken next e) in
+      let code : kindAt (directionIn r) false s ≡ KindRead.Kind (a .kind) =
+      ap (λ (l : List ℕ). kindAt (directionIn r) false l) (sym all)
+      ∙ ap (λ (body : Bool). kindAt (directionIn r) body (part s 0 taken)) (sym (none-due c (r .kind) (ready .allowed))) ∙ a .kind-is in
+      ap (λ (x : read.Told). x .kind) (a .tells) ∙ told-kind (a .packet) ∙ parsed-kind (a .kind) (part s 0 taken) (a .packet) (a .fields-are)
+      ∙ code-kind r buffer (ready-closable c r buffer ready) (can .few) (can .code) (a .kind) code
 
   -- the bytes that `read_there` is given are read in the packet's direction as they are judged
-  pub read-there : (d : Direction) (room : ℕ) → d ≡ directionIn r → 328 ≤ room → reading d c buffer room ≡ judgement c r buffer
+  pub read-there : (d : Direction) (room : ℕ) → d ≡ directionIn r → maxPlaces ≤ room → reading d c buffer room ≡ judgement c r buffer
   unfolding judgement
   read-there d room e h = ap (λ (x : Direction). reading x c buffer room) e ∙ aside (directionIn r) c buffer room h
 
@@ -210,24 +278,12 @@ module _ (c : Connection) (r : Building) (buffer : List ℕ) where
           → pick written (closed r buffer) buffer ≡ whereDone (meaning sent) (closed r buffer) buffer
       by-answer (Sent.Refused n) true q = absurd (false≢true q)
       by-answer (Sent.Refused n) false q = refl
-      by-answer (Sent.Written length connection) true q = refl
-      by-answer (Sent.Written length connection) false q = absurd (false≢true (sym q))
-
-  -- what there is where closing is done: nothing was found before, the packet stands in the buffer and has its length, and the end to which
-  -- it goes accepts it, all of it, with every table of 328 places or more, and has the same connection after it
-  pub record CloseDone (w : Written) : Type 0 where
-    pub ready : Ready c r buffer
-    pub length-is : w .size ≡ closedLength r
-    pub buffer-is : closeBuffer c r buffer ≡ closed r buffer
-    pub packet-is : part (closeBuffer c r buffer) 0 (w .size) ≡ closedPacket r buffer
-    pub packet-size : length (closedPacket r buffer) ≡ closedLength r
-    pub told : read.Told
-    pub judged-is : judgement c r (closedPacket r buffer) ≡ read.accepted told (closedLength r) (w .connection)
-    pub reads : (room : ℕ) → 328 ≤ room → reading (directionIn r) c (closedPacket r buffer) room ≡ read.accepted told (closedLength r) (w .connection)
+      by-answer (Sent.Written size connection) true q = refl
+      by-answer (Sent.Written size connection) false q = absurd (false≢true (sym q))
 
   -- the record that holds where the judge accepts
   done-by : Ready c r buffer → (t : read.Told) (taken : ℕ) (w : Written) → closeOutcome c r buffer ≡ done w → w .size ≡ closedLength r
-      → judgement c r (closedPacket r buffer) ≡ read.accepted t taken (w .connection) → CloseDone w
+      → judgement c r (closedPacket r buffer) ≡ read.accepted t taken (w .connection) → CloseDone c r buffer w
   unfolding judgement closedPacket
   done-by ready t taken w o size e =
       let stands : closeBuffer c r buffer ≡ closed r buffer = sym (outcome-buffer (done w) (sym o)) in
@@ -235,21 +291,22 @@ module _ (c : Connection) (r : Building) (buffer : List ℕ) where
       e ∙ ap (λ (n : ℕ). read.accepted t n (w .connection)) (closed-taken ready t taken (w .connection) e) in
       record {
         ready = ready;
-        length-is = size;
+        size-is = size;
         buffer-is = stands;
         packet-is = ap (λ (l : List ℕ). part l 0 (w .size)) stands ∙ ap (part (closed r buffer) 0) size;
         packet-size = packet-length r buffer (ready-closable c r buffer ready);
         told = t;
+        kind-is = closed-kind ready t taken (w .connection) e;
         judged-is = all;
         reads = λ room h. aside (directionIn r) c (closedPacket r buffer) room h ∙ all;
       }
 
   -- so it is wherever closing is done
-  pub close-done : (w : Written) → closeOutcome c r buffer ≡ done w → CloseDone w
+  pub close-done : (w : Written) → closeOutcome c r buffer ≡ done w → CloseDone c r buffer w
   unfolding closeOutcome
   close-done w e = by-fault (eqb (closingFault c r buffer) 0) refl e
     where
-      by-judge : Ready c r buffer → (m : read.Meaning) → judgement c r (closedPacket r buffer) ≡ m → verdict (closedLength r) m ≡ done w → CloseDone w
+      by-judge : Ready c r buffer → (m : read.Meaning) → judgement c r (closedPacket r buffer) ≡ m → verdict (closedLength r) m ≡ done w → CloseDone c r buffer w
       by-judge ready (read.needs n) j q = absurd (let z : _≡_ {A = ℕ} 0 1 = cc in omega arith)
       by-judge ready (read.refused n) j q = absurd (let z : _≡_ {A = ℕ} 0 1 = cc in omega arith)
       by-judge ready (read.accepted t taken next) j q =
@@ -257,7 +314,7 @@ module _ (c : Connection) (r : Building) (buffer : List ℕ) where
           done-by ready t taken w e (ap (λ (x : Written). x .size) (sym is)) (j ∙ ap (λ (x : Written). read.accepted t taken (x .connection)) is)
 
       by-fault : (none : Bool) → eqb (closingFault c r buffer) 0 ≡ none
-          → pick none (verdict (closedLength r) (judgement c r (closedPacket r buffer))) (refused (closingFault c r buffer)) ≡ done w → CloseDone w
+          → pick none (verdict (closedLength r) (judgement c r (closedPacket r buffer))) (refused (closingFault c r buffer)) ≡ done w → CloseDone c r buffer w
       by-fault true f q = by-judge (fault-ready c r buffer (eqb-true (closingFault c r buffer) 0 f)) (judgement c r (closedPacket r buffer)) refl q
       by-fault false f q = absurd (let z : _≡_ {A = ℕ} 0 1 = cc in omega arith)
 
@@ -277,13 +334,13 @@ module _ (c : Connection) (r : Building) (buffer : List ℕ) where
 
   -- what holds of the buffer as it was and of the buffer with the packet closed holds of the buffer after closing
   after-closing : (P : List ℕ → Type 0) → P buffer → (Closable r buffer → P (closed r buffer)) → P (closeBuffer c r buffer)
-  after-closing P was now = go (closeOutcome c r buffer) refl
+  after-closing P was set = go (closeOutcome c r buffer) refl
     where
       go : (o : Outcome Written) → closeOutcome c r buffer ≡ o → P (closeBuffer c r buffer)
       go (refused n) e = subst P (sym (close-refused n e)) was
       go (done w) e =
           let d = close-done w e in
-          subst P (sym (d .buffer-is)) (now (ready-closable c r buffer (d .ready)))
+          subst P (sym (d .buffer-is)) (set (ready-closable c r buffer (d .ready)))
 
   -- closing keeps the buffer's length
   pub close-length : length (closeBuffer c r buffer) ≡ length buffer

@@ -64,9 +64,9 @@ judgement c r packet = judging c (parse (directionIn r) (readAsBody (directionIn
 -- what closing comes to by that: the judge's number, or written, with the packet's length and the connection after it. "needs" is never the
 -- judge's answer, since the length that was set is the packet's (the law `closed-whole`); 3 stands for it
 abbrev pub verdict : ℕ → read.Meaning → Outcome Written
-verdict length (read.needs n) = refused cutShort
-verdict length (read.refused n) = refused n
-verdict length (read.accepted told taken after) = done (record { size = length; connection = after })
+verdict size (read.needs n) = refused cutShort
+verdict size (read.refused n) = refused n
+verdict size (read.accepted told taken after) = done (record { size = size; connection = after })
 
 -- what closing comes to
 unfoldable pub closeOutcome : Connection → Building → List ℕ → Outcome Written

@@ -30,7 +30,8 @@ use Rattle.writer.specs.Meaning.{Written}
 use Rattle.reader.specs.Meaning.{Told, accepted}
 use Rattle.reader.specs.Reading.{parse, readAsBody, judging}
 use Rattle.closing.specs.Closing.{lastBytes, closedLength, closed, closedPacket, judgement, closeOutcome, closeBuffer}
-use Rattle.closing.proofs.Laws.{Ready, CloseDone, close-done, done-close}
+use Rattle.closing.specs.Done.{Ready, CloseDone}
+use Rattle.closing.proofs.Laws.{close-done, done-close}
 use Rattle.messages.specs.Message.{Header, Attribute, Request, Response, forward, sendHeaders}
 use Rattle.messages.specs.Bytes.{headersBytes, attributesBytes, requestFields, responseFields, piecesPayload, messageBytes}
 use Rattle.messages.specs.Writing.{Built, piece, addHeaders, addAttributes, Wrote, wrote, wroteBy, closeBuilt, inPieces, writing}
@@ -263,7 +264,7 @@ module _ (c : Connection) (kind : BuildingKind) (own : List Field) (headers : Li
         few = possible-yes r x (here .possible) .few;
         within = omega (arith, closes .ready .within);
         fits = fits;
-        size = closes .length-is ∙ size;
+        size = closes .size-is ∙ size;
         is = sym (shut .1) ∙ closes .buffer-is ∙ closed-bytes kind own headers attributes buffer came (here .room);
         state = closes .ready .allowed;
         tells = closes .told;

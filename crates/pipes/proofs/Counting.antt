@@ -17,7 +17,7 @@ use Rattle.connection.specs.declared.Move.{Move}
 use Rattle.connection.proofs.Commute.{body-within}
 use Rattle.pipes.specs.Past.{Request, gets}
 use Rattle.pipes.specs.Claims.{WithinDeclared}
-use Rattle.pipes.proofs.Readable.{Carries, counting}
+use Rattle.pipes.specs.Readable.{Carries, counting}
 
 -- by the state and the bytes left: in Busy there is a request, and what it got and what is left make up what it declared
 abbrev CountedIn : State → ℕ → List Request → Type 0

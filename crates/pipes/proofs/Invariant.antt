@@ -19,8 +19,9 @@ use Rattle.pipes.specs.Ends.{Send, wayOf, outcomeOf, bufferOf, isBodyCal
 use Rattle.pipes.specs.Past.{sent, refusedSend, delivered, World, start, send, deliver, entryOf, deliverFrom, happen, sentBytes, receivedBytes, heldIn, bytesIn, Request, requests}
 use Rattle.pipes.specs.Claims.{AllTaken, NoneChanged}
 use Rattle.pipes.proofs.Moves.{opposite}
-use Rattle.pipes.proofs.Readable.{counting, Readable}
-use Rattle.pipes.proofs.Sends.{packetBy, Made, send-made}
+use Rattle.pipes.specs.Readable.{counting, Readable}
+use Rattle.pipes.specs.Made.{packetBy, Made}
+use Rattle.pipes.proofs.Sends.{send-made}
 use Rattle.pipes.proofs.Meeting.{empty, Meeting, meeting-sent, First, meeting-first, EndsMeet, meeting-of, after-sent, after-read}
 use Rattle.pipes.proofs.Counting.{Counted, count-move, reply-holds, reply-counts}
 

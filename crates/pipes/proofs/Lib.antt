@@ -1,5 +1,4 @@
 pub mod Moves
-pub mod Readable
 pub mod Packets
 pub mod Sends
 pub mod Meeting

@@ -10,7 +10,7 @@ use Rattle.connection.specs.declared.Connection.{Connection}
 use Rattle.connection.specs.declared.Move.{Move}
 use Rattle.pipes.specs.Ends.{Packet, Ends, pipeOf, senderOf, receiverOf, withSent, withRead}
 use Rattle.pipes.proofs.Moves.{opposite, opposite-twice, AllAllowed, afterAll, AllGo, allowed-last, after-last, Passing, passing}
-use Rattle.pipes.proofs.Readable.{Readable}
+use Rattle.pipes.specs.Readable.{Readable}
 
 -- the moves that the packets of a pipe make, one after another
 pub data Pipe (direction : Direction) : List Packet → List Move → Type 0 where

@@ -13,6 +13,7 @@ use Rattle.packet.specs.declared.Direction.{Direction}
 use Rattle.wire.proofs.Bytes.{part-middle}
 use Rattle.wire.proofs.Parts.{rest-part}
 use Rattle.connection.specs.Cycle.{directionOf}
+use Rattle.connection.specs.declared.Move.{Move}
 use Rattle.places.specs.Entries.{maxPlaces}
 use Rattle.payload.specs.Body.{bodyStart, bodyAt}
 use Rattle.payload.specs.Kinds.{packetAt, kindIn, moveIn}
@@ -21,12 +22,13 @@ use Rattle.payload.specs.declared.found.PacketRead.{PacketRead}
 use Rattle.packet.specs.declared.Part.{Part}
 use Rattle.payload.proofs.Laws.{body-inside}
 use Rattle.payload.proofs.Parsed.{move-kind}
-use Rattle.reader.specs.Meaning.{told}
+use Rattle.reader.specs.Meaning.{Told, told}
 use Rattle.reading_laws.proofs.Shown.{bytes-lent}
 use Rattle.messages.proofs.Parses.{isBody, Parses, parses-accepted, parses-places}
 use Rattle.messages.proofs.OneCall.{BodyRead, empty, sized, body-read}
+use Rattle.pipes.specs.Ends.{Packet}
 use Rattle.pipes.specs.Past.{bodyPart, Request, gets, countKind}
-use Rattle.pipes.proofs.Readable.{Carries, counting, Readable}
+use Rattle.pipes.specs.Readable.{Carries, counting, Readable}
 
 -- the part that a body packet tells of is all that stands behind its size
 abbrev Behind : List ℕ → Part → Type 0
@@ -88,16 +90,24 @@ counted-as (payload.Packet.SendHeaders h) bytes rest before e = refl
 counted-as (payload.Packet.BodyChunk p) bytes rest before e = refl
 counted-as (payload.Packet.End reuse) bytes rest before e = refl
 
+-- a packet in a pipe that makes a move and tells this
+pub record ReadableAs (direction : Direction) (packet : Packet) (m : Move) (t : Told) : Type 0 where
+  pub readable : Readable direction packet m
+  pub tells-is : readable .tells ≡ t
+
 -- a packet that parses, in a pipe, where it is a body packet exactly if a body call wrote it
-pub readable : {direction : Direction} {bytes : List ℕ} {p : payload.Packet} → Parses direction bytes p → (ofBody : Bool)
-    → isBody (kindIn p) ≡ ofBody → Readable direction (record { bytes = bytes; ofBody = ofBody }) (moveIn p)
-readable {direction} {bytes} {p} parses ofBody same =
-    subst (λ (b : Bool). Readable direction (record { bytes = bytes; ofBody = b }) (moveIn p)) same
+pub readable-as : {direction : Direction} {bytes : List ℕ} {p : payload.Packet} → Parses direction bytes p → (ofBody : Bool)
+    → isBody (kindIn p) ≡ ofBody → ReadableAs direction (record { bytes = bytes; ofBody = ofBody }) (moveIn p) (told p)
+readable-as {direction} {bytes} {p} parses ofBody same =
+    subst (λ (b : Bool). ReadableAs direction (record { bytes = bytes; ofBody = b }) (moveIn p) (told p)) same
     (record {
-      way = ap directionOf (move-kind p) ∙ parses .way;
-      carries = carried p bytes (parses .fields-are);
-      tells = told p;
-      handed = λ rest. handed-out p bytes rest (parses .fields-are);
-      counts = λ rest before. counted-as p bytes rest before (parses .fields-are);
-      reads = λ c rest f. parses-accepted parses c f rest maxPlaces (parses-places parses);
+      readable = record {
+        way = ap directionOf (move-kind p) ∙ parses .way;
+        carries = carried p bytes (parses .fields-are);
+        tells = told p;
+        handed = λ rest. handed-out p bytes rest (parses .fields-are);
+        counts = λ rest before. counted-as p bytes rest before (parses .fields-are);
+        reads = λ c rest f. parses-accepted parses c f rest maxPlaces (parses-places parses);
+      };
+      tells-is = refl;
     })

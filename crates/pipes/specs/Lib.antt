@@ -1,3 +1,5 @@
 pub mod Ends
 pub mod Past
+pub mod Readable
+pub mod Made
 pub mod Claims

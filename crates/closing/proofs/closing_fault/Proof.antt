@@ -4,6 +4,7 @@ use mathlib.Core.Path.{ap, _∙_}
 use mathlib.Core.Bool.{Bool}
 use Prim.Native.Nat.{ℕ}
 use lib.ListN.{length}
+use Rattle.wire.specs.Refusal.{notNow, recordWrong}
 use Rattle.connection.specs.Cycle.{inState}
 use Rattle.fields.specs.Fault.{unless, fitFault}
 use Rattle.building_record.specs.Record.{kindIn}
@@ -51,9 +52,9 @@ returns c =
     let a = kind .before .before .args in
     c .or-else2 .ensures
     ∙ fault-by (a .connection) (a .building) (a .buffer .now)
-    (possible .unless .ensures ∙ ap (λ (t : Bool). unless t 16) (possible .before .is-possible .ensures))
+    (possible .unless .ensures ∙ ap (λ (t : Bool). unless t recordWrong) (possible .before .is-possible .ensures))
     (state .unless2 .ensures
-    ∙ ap (λ (t : Bool). unless t 13)
+    ∙ ap (λ (t : Bool). unless t notNow)
     (state .before .allows .ensures ∙ ap (inState (a .connection)) (state .before .before .kind2 .ensures ∙ ap kindIn (kind .kind .ensures))))
     (fit .fit .ensures ∙ ap (λ (n : ℕ). fitFault n (length (a .buffer .now))) (fit .before .needs .ensures))
     (c .before .or-else .ensures)
