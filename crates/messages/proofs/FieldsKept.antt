@@ -323,7 +323,7 @@ HeadersTo d s at count places (HeadersRead.Headers declared end) = HeadersKept d
 header-front : (d : Direction) (s : List ℕ) (at value next count : ℕ) (places : List ℕ) (r : HeadersRead) → NamedKept d s at value next (nameShown s at)
     → HeadersTo d s next count places r → HeadersTo d s at (suc count) (at ∷ value ∷ places) r
 header-front d s at value next count places (HeadersRead.Refused n) k later = tt
-header-front d s at value next count places (HeadersRead.Headers now end) k later = record {
+header-front d s at value next count places (HeadersRead.Headers after end) k later = record {
   held = held-join (k .0 .held) (later .held);
   fine = (k .0 .fine, later .fine);
   fit = (k .1, later .fit);
@@ -341,22 +341,22 @@ headers-to d s at zero declared bytes h = record {
   placed = refl;
 }
 headers-to d s at (suc count) declared bytes h =
-    go (headerAt d s at declared) (header-kept d s at declared bytes) (λ now next k. headers-to d s next count now bytes k)
+    go (headerAt d s at declared) (header-kept d s at declared bytes) (λ after next k. headers-to d s next count after bytes k)
   where
     go : (r : HeaderRead) → HeaderKept d s at r
-        → ((now : Declared) (next : ℕ) → next ≤ length s → HeadersTo d s next count (headersAt d s next count now .places) (headersAt d s next count now .end))
-        → HeadersTo d s at (suc count) (headerThen at r (λ now next. headersAt d s next count now) .places)
-        (headerThen at r (λ now next. headersAt d s next count now) .end)
+        → ((after : Declared) (next : ℕ) → next ≤ length s → HeadersTo d s next count (headersAt d s next count after .places) (headersAt d s next count after .end))
+        → HeadersTo d s at (suc count) (headerThen at r (λ after next. headersAt d s next count after) .places)
+        (headerThen at r (λ after next. headersAt d s next count after) .end)
     go (HeaderRead.Refused n) k later = tt
-    go (HeaderRead.Header value now next) k later =
-        header-front d s at value next count (headersAt d s next count now .places) (headersAt d s next count now .end) k
-        (later now next (k .0 .held .inside))
+    go (HeaderRead.Header value after next) k later =
+        header-front d s at value next count (headersAt d s next count after .places) (headersAt d s next count after .end) k
+        (later after next (k .0 .held .inside))
 
 -- headers that were read from a place on
-pub headers-kept : (d : Direction) (s : List ℕ) (at count : ℕ) (declared now : Declared) (end : ℕ) → Bytes s → at ≤ length s
-    → headersAt d s at count declared .end ≡ HeadersRead.Headers now end
+pub headers-kept : (d : Direction) (s : List ℕ) (at count : ℕ) (declared after : Declared) (end : ℕ) → Bytes s → at ≤ length s
+    → headersAt d s at count declared .end ≡ HeadersRead.Headers after end
     → HeadersKept d s at count (headersAt d s at count declared .places) end
-headers-kept d s at count declared now end bytes h e =
+headers-kept d s at count declared after end bytes h e =
     subst (HeadersTo d s at count (headersAt d s at count declared .places)) e (headers-to d s at count declared bytes h)
 
 -- what is behind a code, by the kind of value that it has

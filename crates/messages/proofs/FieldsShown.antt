@@ -17,9 +17,11 @@ use Rattle.wire.specs.declared.read.NumberRead.{NumberRead}
 use Rattle.wire.specs.declared.read.StringRead.{StringRead}
 use Rattle.wire.proofs.Field.{size-text}
 use Rattle.wire.proofs.RoundTrip.{integer-written}
+use Rattle.wire.specs.Refusal.{attributeWrong}
 use Rattle.names.specs.Header.{codeFault}
 use Rattle.names.specs.Attribute.{attributeKind}
 use Rattle.packet.specs.declared.AttributeKind.{AttributeKind}
+use Rattle.connection.specs.Connection.{maxPacket}
 use Rattle.headers.specs.Headers.{declares, nameAt}
 use Rattle.headers.specs.declared.NameRead.{NameRead}
 use Rattle.attributes.specs.Attributes.{lastMark}
@@ -72,7 +74,7 @@ kindFor (pair name value) = AttributeKind.Pair
 code-takes : (code : ℕ) (value : Value) → FieldsFine (fieldsOf code value) → attributeKind code ≡ kindFor value
 code-takes code value fine = go value fine
   where
-    takes : (t : Bool) → unless t 9 ≡ 0 → t ≡ true
+    takes : (t : Bool) → unless t attributeWrong ≡ 0 → t ≡ true
     takes true h = refl
     takes false h = absurd (omega arith)
 
@@ -97,15 +99,15 @@ unfolding attributeKind
 mark-ends s from q next h = h
 
 -- a packet's bytes
-module _ {s : List ℕ} (short : length s ≤ 8192) where
+module _ {s : List ℕ} (short : length s ≤ maxPacket) where
   -- a string that stands in it is no longer than it
-  pub string-fits : {at : ℕ} (rest : List ℕ) (t : Text) → Ahead s at (textBytes t ++ rest) → length (bytesIn t) ≤ 8192
+  pub string-fits : {at : ℕ} (rest : List ℕ) (t : Text) → Ahead s at (textBytes t ++ rest) → length (bytesIn t) ≤ maxPacket
   string-fits rest null r = omega arith
-  string-fits rest (text bytes) r = omega (arith, ahead-short (stringBytes false bytes) rest 8192 r short, size-text false bytes refl)
+  string-fits rest (text bytes) r = omega (arith, ahead-short (stringBytes false bytes) rest maxPacket r short, size-text false bytes refl)
 
   -- what reading answers at a string without fault
   string-read : {at : ℕ} (rest : List ℕ) (field : StringField) (none : Bool) (bytes : List ℕ) → Ahead s at (stringBytes none bytes ++ rest)
-      → stringFault field none bytes ≡ 0 → length bytes ≤ 8192
+      → stringFault field none bytes ≡ 0 → length bytes ≤ maxPacket
       → stringAt s at (isOptional field)
       ≡ pick none (StringRead.Null (at + length (stringBytes none bytes)))
       (StringRead.Text (at + 2) (length bytes) (at + length (stringBytes none bytes)))
@@ -149,7 +151,7 @@ module _ {s : List ℕ} (short : length s ≤ 8192) where
 
   -- and at a name without fault that is spelled out
   spelling-read : {at : ℕ} (rest : List ℕ) (d : Direction) (name : List ℕ) → Ahead s at (stringBytes false name ++ rest)
-      → spelledName d false name .fault ≡ 0 → length name ≤ 8192
+      → spelledName d false name .fault ≡ 0 → length name ≤ maxPacket
       → nameAt d s at ≡ NameRead.Spelled (at + 2) (length name) (at + length (stringBytes false name))
   spelling-read rest d name r fine h =
       ahead-holds

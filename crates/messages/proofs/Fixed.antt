@@ -17,11 +17,13 @@ use Rattle.wire.specs.declared.StringField.{StringField}
 use Rattle.wire.specs.declared.read.NumberRead.{NumberRead}
 use Rattle.wire.specs.declared.read.StringRead.{StringRead}
 use Rattle.wire.proofs.RoundTrip.{integer-written, byte-written, boolean-written}
-use Rattle.places.specs.Entries.{ended, ending}
+use Rattle.wire.specs.Refusal.{outOfRange, tooMany}
+use Rattle.connection.specs.Connection.{maxPacket}
+use Rattle.places.specs.Entries.{ended, ending, maxHeaders}
 use Rattle.payload.specs.Sequence.{afterCode, behind, stringField, stringFieldAt, stringAfter, booleanNumber, booleanField, booleanFieldAt, booleanAfter, numberField, byteAfter, anyIntegerAfter, integerAfter, bounded}
 use Rattle.payload.specs.Lists.{headersAfter, listsAt}
-use Rattle.payload.specs.Forward.{forwardOf, forwardAt}
-use Rattle.payload.specs.SendHeaders.{sendHeadersOf, sendHeadersAt}
+use Rattle.payload.specs.Forward.{forwardOf, forwardAt, firstMethod, lastMethod}
+use Rattle.payload.specs.SendHeaders.{sendHeadersOf, sendHeadersAt, greatestStatus, leastStatus}
 use Rattle.payload.specs.declared.field.FieldRead.{FieldRead}
 use Rattle.payload.specs.declared.found.PacketRead.{PacketRead}
 use Rattle.fields.specs.Fault.{unless, orElse, firstFault, stringFault, rangeFault}
@@ -81,11 +83,11 @@ reads-next {s} {got} {f} {p} {v} {at} x rest read g w n r size e = record {
 }
 
 -- a number in a range, as a field
-bounded-unless : (at low high n next : ℕ) → bounded at low high 7 (NumberRead.Number n next) ≡ fieldUnless (rangeFault low high n) at n next
+bounded-unless : (at low high n next : ℕ) → bounded at low high outOfRange (NumberRead.Number n next) ≡ fieldUnless (rangeFault low high n) at n next
 unfolding rangeFault
 bounded-unless at low high n next = go (between low high n)
   where
-    go : (t : Bool) → pick t (FieldRead.Field at n next) (FieldRead.Refused 7) ≡ fieldUnless (unless t 7) at n next
+    go : (t : Bool) → pick t (FieldRead.Field at n next) (FieldRead.Refused outOfRange) ≡ fieldUnless (unless t outOfRange) at n next
     go true = refl
     go false = refl
 
@@ -103,22 +105,22 @@ string-unless n f next null text = go (eqb f 0) null
 module _ {s : List ℕ} {got : FieldRead} {f p v at : ℕ} (rest : List ℕ) where
   -- a byte from `low` to `high`
   byte-reads : (low high n : ℕ) → Reads s got f p v at (n ∷ rest)
-      → Reads s (byteAfter s low high 7 got) (orElse f (rangeFault low high n)) at n (at + 1) rest
+      → Reads s (byteAfter s low high outOfRange got) (orElse f (rangeFault low high n)) at n (at + 1) rest
   unfolding byteAfter
   byte-reads low high n r =
-      reads-next (n ∷ []) rest (λ i. bounded i low high 7 (byteAt s i)) (rangeFault low high n) n 1 r refl
-      (ahead-holds (λ (l : List ℕ) (i : ℕ). bounded i low high 7 (byteAt l i) ≡ fieldUnless (rangeFault low high n) i n (i + 1))
-      (λ a. ap (bounded (length a) low high 7) (byte-written a rest n) ∙ bounded-unless (length a) low high n (length a + 1))
+      reads-next (n ∷ []) rest (λ i. bounded i low high outOfRange (byteAt s i)) (rangeFault low high n) n 1 r refl
+      (ahead-holds (λ (l : List ℕ) (i : ℕ). bounded i low high outOfRange (byteAt l i) ≡ fieldUnless (rangeFault low high n) i n (i + 1))
+      (λ a. ap (bounded (length a) low high outOfRange) (byte-written a rest n) ∙ bounded-unless (length a) low high n (length a + 1))
       (r .ahead))
 
   -- an integer from `low` to `high`
   integer-reads : (low high n : ℕ) → Reads s got f p v at (integerBytes n ++ rest) → n < 65536
-      → Reads s (integerAfter s low high 7 got) (orElse f (rangeFault low high n)) at n (at + 2) rest
+      → Reads s (integerAfter s low high outOfRange got) (orElse f (rangeFault low high n)) at n (at + 2) rest
   unfolding integerAfter
   integer-reads low high n r h =
-      reads-next (integerBytes n) rest (λ i. bounded i low high 7 (integerAt s i)) (rangeFault low high n) n 2 r refl
-      (ahead-holds (λ (l : List ℕ) (i : ℕ). bounded i low high 7 (integerAt l i) ≡ fieldUnless (rangeFault low high n) i n (i + 2))
-      (λ a. ap (bounded (length a) low high 7) (integer-written a rest n h) ∙ bounded-unless (length a) low high n (length a + 2))
+      reads-next (integerBytes n) rest (λ i. bounded i low high outOfRange (integerAt s i)) (rangeFault low high n) n 2 r refl
+      (ahead-holds (λ (l : List ℕ) (i : ℕ). bounded i low high outOfRange (integerAt l i) ≡ fieldUnless (rangeFault low high n) i n (i + 2))
+      (λ a. ap (bounded (length a) low high outOfRange) (integer-written a rest n h) ∙ bounded-unless (length a) low high n (length a + 2))
       (r .ahead))
 
   -- an integer up to `high`
@@ -152,7 +154,7 @@ module _ {s : List ℕ} {got : FieldRead} {f p v at : ℕ} (rest : List ℕ) whe
       (r .ahead))
 
   -- a string
-  string-reads : (field : StringField) (null : Bool) (text : List ℕ) → Reads s got f p v at (stringBytes null text ++ rest) → length text ≤ 8192
+  string-reads : (field : StringField) (null : Bool) (text : List ℕ) → Reads s got f p v at (stringBytes null text ++ rest) → length text ≤ maxPacket
       → Reads s (stringAfter s field got) (orElse f (stringFault field null text)) at 0 (at + length (stringBytes null text)) rest
   unfolding stringAfter stringFieldAt
   string-reads field null text r h =
@@ -183,11 +185,11 @@ opening-five BuildingKind.SendHeaders n = refl
 
 -- the fixed fields of a Send Headers, behind an opening, and a count of headers
 module _ (a b : List ℕ) (status : ℕ) (null : Bool) (message : List ℕ) (count : ℕ) (opened : length a ≡ 5) (small : status < 65536)
-    (short : length message ≤ 8192) (few : count ≤ 100) where
+    (short : length message ≤ maxPacket) (few : count ≤ maxHeaders) where
   -- each is read by the first fault up to it
   send-headers-by : (
       let s = among a (sendHeadersFields status null message) (integerBytes count ++ b) in
-      let g1 = rangeFault 100 599 status in
+      let g1 = rangeFault leastStatus greatestStatus status in
       let g2 = orElse g1 (stringFault StringField.Message null message) in
       let g3 = orElse g2 0 in
       let n = 7 + length (stringBytes null message) in
@@ -199,9 +201,9 @@ module _ (a b : List ℕ) (status : ℕ) (null : Bool) (message : List ℕ) (cou
       let y : List ℕ = stringBytes null message in
       let tail : List ℕ = integerBytes count ++ b in
       let s : List ℕ = among a (sendHeadersFields status null message) tail in
-      let r1 = integer-reads (y ++ tail) 100 599 status (reads-start s a (integerBytes status ++ (y ++ tail)) opened (simp append-assoc)) small in
+      let r1 = integer-reads (y ++ tail) leastStatus greatestStatus status (reads-start s a (integerBytes status ++ (y ++ tail)) opened (simp append-assoc)) small in
       let r2 = string-reads tail StringField.Message null message r1 short in
-      let r3 = count-reads b 100 11 count r2 few (omega arith) in
+      let r3 = count-reads b maxHeaders tooMany count r2 few (omega arith) in
       rw (r3 .is, r2 .is, r1 .is)
 
   -- they are refused with their first fault
@@ -227,12 +229,12 @@ module _ (a b : List ℕ) (status : ℕ) (null : Bool) (message : List ℕ) (cou
 
 -- the fixed fields of a Forward, behind an opening, and a count of headers
 module _ (a b : List ℕ) (numbers : Numbers) (nulls : Nulls) (protocol uri addr host name : List ℕ) (count : ℕ) (opened : length a ≡ 5)
-    (port : numbers .«server_port» < 65536) (few : count ≤ 100) (protocol-short : length protocol ≤ 8192) (uri-short : length uri ≤ 8192)
-    (addr-short : length addr ≤ 8192) (host-short : length host ≤ 8192) (name-short : length name ≤ 8192) where
+    (port : numbers .«server_port» < 65536) (few : count ≤ maxHeaders) (protocol-short : length protocol ≤ maxPacket) (uri-short : length uri ≤ maxPacket)
+    (addr-short : length addr ≤ maxPacket) (host-short : length host ≤ maxPacket) (name-short : length name ≤ maxPacket) where
   -- each is read by the first fault up to it
   forward-by : (
       let s = among a (forwardFields numbers nulls protocol uri addr host name) (integerBytes count ++ b) in
-      let g1 = rangeFault 1 27 (numbers .method) in
+      let g1 = rangeFault firstMethod lastMethod (numbers .method) in
       let g2 = orElse g1 (stringFault StringField.Protocol (nulls .protocol) protocol) in
       let g3 = orElse g2 (stringFault StringField.ReqUri (nulls .«req_uri») uri) in
       let g4 = orElse g3 (stringFault StringField.RemoteAddr (nulls .«remote_addr») addr) in
@@ -263,7 +265,7 @@ module _ (a b : List ℕ) (numbers : Numbers) (nulls : Nulls) (protocol uri addr
       let t3 : List ℕ = stringBytes (nulls .«remote_addr») addr ++ t4 in
       let t2 : List ℕ = stringBytes (nulls .«req_uri») uri ++ t3 in
       let t1 : List ℕ = stringBytes (nulls .protocol) protocol ++ t2 in
-      let r1 = byte-reads t1 1 27 (numbers .method) (reads-start s a (numbers .method ∷ t1) opened (simp append-assoc)) in
+      let r1 = byte-reads t1 firstMethod lastMethod (numbers .method) (reads-start s a (numbers .method ∷ t1) opened (simp append-assoc)) in
       let r2 = string-reads t2 StringField.Protocol (nulls .protocol) protocol r1 protocol-short in
       let r3 = string-reads t3 StringField.ReqUri (nulls .«req_uri») uri r2 uri-short in
       let r4 = string-reads t4 StringField.RemoteAddr (nulls .«remote_addr») addr r3 addr-short in
@@ -271,7 +273,7 @@ module _ (a b : List ℕ) (numbers : Numbers) (nulls : Nulls) (protocol uri addr
       let r6 = string-reads t6 StringField.ServerName (nulls .«server_name») name r5 name-short in
       let r7 = any-integer-reads t7 (numbers .«server_port») r6 port in
       let r8 = boolean-reads t8 (numbers .«is_ssl») r7 in
-      let r9 = count-reads b 100 11 count r8 few (omega arith) in
+      let r9 = count-reads b maxHeaders tooMany count r8 few (omega arith) in
       rw (r9 .is, r8 .is, r7 .is, r6 .is, r5 .is, r4 .is, r3 .is, r2 .is, r1 .is)
 
   -- they are refused with their first fault

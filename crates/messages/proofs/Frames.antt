@@ -20,7 +20,9 @@ use Rattle.wire.proofs.Field.{number-read}
 use Rattle.wire.proofs.Bytes.{length-part, part-add, part-one}
 use Rattle.wire.proofs.RoundTrip.{integer-kept}
 use Rattle.wire.specs.Facts.{Bytes}
-use Rattle.reader.specs.Frame.{differs, leadingDiffers, lengthAt, frameAt}
+use Rattle.wire.specs.Refusal.{leadingWrong, tooLong}
+use Rattle.connection.specs.Connection.{maxPacket, maxPayload}
+use Rattle.reader.specs.Frame.{differs, leadingDiffers, lengthAt, frameAt, headSize, lengthPlace}
 use Rattle.reader.specs.declared.frame.FrameRead.{FrameRead}
 use Rattle.reader.proofs.Framing.{frame-inside, length-is, frame-is}
 
@@ -28,8 +30,8 @@ use Rattle.reader.proofs.Framing.{frame-inside, length-is, frame-is}
 record Framed (d : Direction) (s : List ℕ) (n : ℕ) : Type 0 where
   first : getD s 0 0 ≡ getD (leading d) 0 0
   second : getD s 1 0 ≡ getD (leading d) 1 0
-  size : 4 + integerIn s 2 ≡ n
-  most : n ≤ 8192
+  size : headSize + integerIn s lengthPlace ≡ n
+  most : n ≤ maxPacket
   there : n ≤ length s
 
 -- leading bytes that are the direction's do not differ
@@ -45,11 +47,11 @@ leading-same d s h p q =
 framed-whole : {d : Direction} {s : List ℕ} {n : ℕ} → Framed d s n → frameAt d s ≡ FrameRead.Whole n
 unfolding integerAt
 framed-whole {d} {s} {n} f =
-    let k : ℕ = integerIn s 2 in
+    let k : ℕ = integerIn s lengthPlace in
     let same : leadingDiffers d s ≡ false = leading-same d s (omega arith) (f .first) (f .second) in
-    let sized : integerAt s 2 ≡ NumberRead.Number k 4 = sym (number-read 2 k s 2 (omega arith)) in
-    sym (frame-is d s false (NumberRead.Number k 4) same sized)
-    ∙ sym (length-is (length s) k true false (le-leb k 8188 (omega arith)) (le-ltb (length s) (4 + k) (omega arith)))
+    let sized : integerAt s lengthPlace ≡ NumberRead.Number k headSize = sym (number-read 2 k s lengthPlace (omega arith)) in
+    sym (frame-is d s false (NumberRead.Number k headSize) same sized)
+    ∙ sym (length-is (length s) k true false (le-leb k maxPayload (omega arith)) (le-ltb (length s) (headSize + k) (omega arith)))
     ∙ ap FrameRead.Whole (f .size)
 
 -- a byte that is there and does not differ is the one that it is held against
@@ -71,13 +73,13 @@ neither-second false b e = e
 neither-second true b e = absurd (false≢true (sym e))
 
 -- a length whose packet is whole is told by the frame
-length-whole : (there payload n : ℕ) → lengthAt there payload ≡ FrameRead.Whole n → 4 + payload ≡ n
+length-whole : (there payload n : ℕ) → lengthAt there payload ≡ FrameRead.Whole n → headSize + payload ≡ n
 unfolding lengthAt
-length-whole there payload n = go (leb payload 8188) (ltb there (4 + payload))
+length-whole there payload n = go (leb payload maxPayload) (ltb there (headSize + payload))
   where
     go : (fits lacks : Bool)
-        → pick fits (pick lacks (FrameRead.Needs (4 + payload)) (FrameRead.Whole (4 + payload))) (FrameRead.Refused 2) ≡ FrameRead.Whole n
-        → 4 + payload ≡ n
+        → pick fits (pick lacks (FrameRead.Needs (headSize + payload)) (FrameRead.Whole (headSize + payload))) (FrameRead.Refused tooLong) ≡ FrameRead.Whole n
+        → headSize + payload ≡ n
     go true false e = cc
     go true true e = cc
     go false lacks e = cc
@@ -87,19 +89,19 @@ whole-framed : (d : Direction) (s : List ℕ) (n : ℕ) → frameAt d s ≡ Fram
 unfolding leadingDiffers integerAt
 whole-framed d s n e =
     let inside = frame-inside d s (FrameRead.Whole n) e in
-    let most : n ≤ 8192 = inside .1 .0 in
+    let most : n ≤ maxPacket = inside .1 .0 in
     let there : n ≤ length s = inside .1 .1 in
-    let sized : integerAt s 2 ≡ NumberRead.Number (integerIn s 2) 4 = sym (number-read 2 (integerIn s 2) s 2 (omega (arith, inside .0))) in
+    let sized : integerAt s lengthPlace ≡ NumberRead.Number (integerIn s lengthPlace) headSize = sym (number-read 2 (integerIn s lengthPlace) s 2 (omega (arith, inside .0))) in
     go (leadingDiffers d s) refl most there (omega (arith, inside .0))
-    (frame-is d s (leadingDiffers d s) (NumberRead.Number (integerIn s 2) 4) refl sized ∙ e)
+    (frame-is d s (leadingDiffers d s) (NumberRead.Number (integerIn s lengthPlace) headSize) refl sized ∙ e)
   where
-    go : (t : Bool) → leadingDiffers d s ≡ t → n ≤ 8192 → n ≤ length s → 4 ≤ length s
-        → pick t (FrameRead.Refused 1) (lengthAt (length s) (integerIn s 2)) ≡ FrameRead.Whole n → Framed d s n
+    go : (t : Bool) → leadingDiffers d s ≡ t → n ≤ maxPacket → n ≤ length s → headSize ≤ length s
+        → pick t (FrameRead.Refused leadingWrong) (lengthAt (length s) (integerIn s lengthPlace)) ≡ FrameRead.Whole n → Framed d s n
     go true p most there four q = absurd (let z : _≡_ {A = ℕ} 0 1 = cc in omega arith)
     go false p most there four q = record {
       first = byte-same s 0 (getD (leading d) 0 0) (omega arith) (neither-first (differs s 0 (getD (leading d) 0 0)) (differs s 1 (getD (leading d) 1 0)) p);
       second = byte-same s 1 (getD (leading d) 1 0) (omega arith) (neither-second (differs s 0 (getD (leading d) 0 0)) (differs s 1 (getD (leading d) 1 0)) p);
-      size = length-whole (length s) (integerIn s 2) n q;
+      size = length-whole (length s) (integerIn s lengthPlace) n q;
       most = most;
       there = there;
     }
@@ -118,7 +120,7 @@ part-whole d s n e =
     })
 
 -- the frame of a packet that was written
-pub frame-written : (d : Direction) (payload : List ℕ) → length payload ≤ 8188
+pub frame-written : (d : Direction) (payload : List ℕ) → length payload ≤ maxPayload
     → frameAt d (packet d payload) ≡ FrameRead.Whole (length (packet d payload))
 unfolding integerIn
 frame-written Direction.ToContainer payload h = framed-whole (record {
@@ -142,14 +144,14 @@ leading-two Direction.ToContainer = refl
 leading-two Direction.ToServer = refl
 
 -- a whole packet is its head and its payload
-pub head-kept : (d : Direction) (s : List ℕ) (n : ℕ) → Bytes s → frameAt d s ≡ FrameRead.Whole n → n ≡ length s → s ≡ packet d (drop 4 s)
+pub head-kept : (d : Direction) (s : List ℕ) (n : ℕ) → Bytes s → frameAt d s ≡ FrameRead.Whole n → n ≡ length s → s ≡ packet d (drop headSize s)
 unfolding part
 head-kept d s n bytes e all =
     let f = whole-framed d s n e in
-    let size : integerIn s 2 ≡ length (drop 4 s) = omega (arith, length-drop 4 s) in
+    let size : integerIn s lengthPlace ≡ length (drop headSize s) = omega (arith, length-drop headSize s) in
     let lead : part s 0 2 ≡ leading d =
     part-add s 0 1 1
     ∙ rw (part-one s 0 (omega arith), part-one s 1 (omega arith), f .first, f .second) (leading-two d) in
-    let four : part s 0 4 ≡ head d (length (drop 4 s)) =
+    let four : part s 0 headSize ≡ head d (length (drop headSize s)) =
     part-add s 0 2 2 ∙ rw (lead, integer-kept s 2 bytes (omega arith), size) in
-    sym (take-append-drop 4 s) ∙ ap (λ (l : List ℕ). l ++ drop 4 s) four
+    sym (take-append-drop headSize s) ∙ ap (λ (l : List ℕ). l ++ drop headSize s) four

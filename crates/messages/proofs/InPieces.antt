@@ -16,6 +16,7 @@ use Rattle.wire.proofs.Parts.{stands-there}
 use Rattle.connection.specs.Cycle.{directionOf, inState, allowed, after}
 use Rattle.connection.specs.declared.Kind.{Kind}
 use Rattle.connection.specs.declared.Connection.{Connection}
+use Rattle.places.specs.Entries.{maxPlaces}
 use Rattle.payload.specs.Code.{codeOf, kindAt}
 use Rattle.payload.specs.Kinds.{kindIn, moveIn}
 use Rattle.payload.specs.declared.KindRead.{KindRead}
@@ -34,10 +35,11 @@ use Rattle.reading_laws.proofs.Aside.{aside}
 use Rattle.messages.specs.Message.{Request, Response, Message, forward, sendHeaders, Header, Attribute, wayOf}
 use Rattle.messages.specs.Bytes.{payloadOf, messageBytes}
 use Rattle.messages.specs.Writing.{writing}
+use Rattle.messages.specs.RoundTrips.{WrittenBack}
 use Rattle.messages.specs.Shown.{headerPlaces, attributePlaces, messageShown}
 use Rattle.messages.proofs.Parses.{isBody, Parses, packet-as-body, none-due, parses-alone, parses-most, parses-places, accepted-parses, all-parses, kind-written}
 use Rattle.messages.proofs.Tables.{tableOf, forward-table, send-headers-table}
-use Rattle.messages.proofs.RoundTrip.{Forth, WrittenBack, Back, own-way, Shows, Stands, stands-back}
+use Rattle.messages.proofs.RoundTrip.{Forth, Back, own-way, Shows, Stands, stands-back}
 use Rattle.messages.proofs.PiecesWritten.{PiecesWritten, Writes, forward-written, forward-writes, send-headers-written, send-headers-writes}
 use Rattle.messages.proofs.PiecesShown.{forward-shown, send-headers-shown}
 use Rattle.messages.proofs.PiecesKept.{PiecesKept, forward-kept, send-headers-kept}
@@ -72,9 +74,9 @@ not-body BuildingKind.SendHeaders = refl
 -- a packet with the code of a packet in pieces is of that kind, where its state allows that kind: no body packet is due then
 kind-found : (c : Connection) (kind : BuildingKind) (rest : List ℕ) (p : Packet) → (let k = building.kindIn kind in
     Parses (directionOf k) (packet (directionOf k) (codeOf k ∷ rest)) p → allowed c (moveIn p) ≡ true → inState c k ≡ true → kindIn p ≡ k)
-kind-found c kind rest p r a now =
+kind-found c kind rest p r a in-state =
     let k : Kind = building.kindIn kind in
-    let same : isBody (kindIn p) ≡ isBody k = sym (packet-as-body c (directionOf k) p (r .way) a) ∙ none-due c kind now ∙ sym (not-body kind) in
+    let same : isBody (kindIn p) ≡ isBody k = sym (packet-as-body c (directionOf k) p (r .way) a) ∙ none-due c kind in-state ∙ sym (not-body kind) in
     let found : KindRead.Kind (kindIn p) ≡ KindRead.Kind k =
     sym (r .kind-is) ∙ ap (λ (t : Bool). kindAt (directionOf k) t (packet (directionOf k) (codeOf k ∷ rest))) same
     ∙ kind-written k rest (not-body kind) in
@@ -90,10 +92,10 @@ pieces-stand : {c : Connection} {own : List Field} {headers : List Header} {attr
 pieces-stand {c} {buffer = buffer} {left = left} {w = w} kind m rest bytes way k each =
     let d : Direction = directionOf (building.kindIn kind) in
     let whole : List ℕ = messageBytes m in
-    let reads : reading d c whole 328 ≡ accepted (k .tells) (length whole) (w .connection) = aside d c whole 328 (omega arith) ∙ k .judged in
-    let a = accepted-parses d c whole 328 (k .tells) (length whole) (w .connection) reads in
+    let reads : reading d c whole maxPlaces ≡ accepted (k .tells) (length whole) (w .connection) = aside d c whole maxPlaces (omega arith) ∙ k .judged in
+    let a = accepted-parses d c whole maxPlaces (k .tells) (length whole) (w .connection) reads in
     let p : Packet = a .packet in
-    let r : Parses d whole p = all-parses d c whole 328 (k .tells) (w .connection) reads in
+    let r : Parses d whole p = all-parses d c whole maxPlaces (k .tells) (w .connection) reads in
     let is : kindIn p ≡ building.kindIn kind = kind-found c kind rest p (subst (λ (s : List ℕ). Parses d s p) bytes r) (a .allows) (k .state) in
     let Showing : Packet → Type 0 = λ q. Parses d whole q → Shows q whole m in
     let shows : Shows p whole m = of-kind Showing p (subst (OfKind Showing) (sym is) each) r in
@@ -129,7 +131,7 @@ send-headers-forth response c buffer w left fit e =
 -- a packet that parses is judged good by a connection that allows its move
 parses-judged : {d : Direction} {s : List ℕ} {p : Packet} → Parses d s p → (c : Connection) → allowed c (moveIn p) ≡ true
     → judging c (parse d (readAsBody d c) s) ≡ accepted (told p) (length s) (after c (moveIn p))
-parses-judged {d} {s} r c a = sym (aside d c s 328 (omega arith)) ∙ parses-alone r c a 328 (parses-places r)
+parses-judged {d} {s} r c a = sym (aside d c s maxPlaces (omega arith)) ∙ parses-alone r c a maxPlaces (parses-places r)
 
 -- a packet in pieces whose fields are kept is written back as its bytes
 kept-back : {c : Connection} {s buffer : List ℕ} {p : Packet} {m : Message} {own : List Field} {headers : List Header}
@@ -137,14 +139,14 @@ kept-back : {c : Connection} {s buffer : List ℕ} {p : Packet} {m : Message} {o
     Parses d s p → allowed c (moveIn p) ≡ true → inState c (building.kindIn kind) ≡ true → length s ≤ length buffer
     → PiecesKept d s m own headers attributes → Writes c kind own headers attributes (messageBytes m) buffer (writing c m buffer)
     → WrittenBack d c s buffer m (length s) (after c (moveIn p)))
-kept-back {c} {s} {buffer} {p} {m} kind r a now fits kept writes =
+kept-back {c} {s} {buffer} {p} {m} kind r a in-state fits kept writes =
     let d : Direction = directionOf (building.kindIn kind) in
     let size : length (messageBytes m) ≡ length s = ap length (kept .bytes-are) in
     let judged : judging c (parse d (readAsBody d c) (messageBytes m)) ≡ accepted (told p) (length s) (after c (moveIn p)) =
     ap (λ (l : List ℕ). judging c (parse d (readAsBody d c) l)) (kept .bytes-are) ∙ parses-judged r c a in
     let written =
     writes (told p) (length s) (after c (moveIn p)) (kept .own-fine) (kept .headers-fine) (kept .attributes-fine) (kept .few)
-    (omega (arith, parses-most r, size)) (omega (arith, size)) now judged in
+    (omega (arith, parses-most r, size)) (omega (arith, size)) in-state judged in
     record {
       written = rw (kept .bytes-are) at written;
       fit = kept .fit;

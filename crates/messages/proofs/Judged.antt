@@ -12,7 +12,7 @@ use lib.Dec.{leb, ltb, eqb}
 use lib.ListN.{length, getD, length-append}
 use lib.Seq.{getD-append-seam}
 use Rattle.wire.specs.Pick.{pick, both, between}
-use Rattle.wire.specs.Refusal.{none}
+use Rattle.wire.specs.Refusal.{none, attributeWrong, nameWrong, stringWrong}
 use Rattle.wire.specs.Bytes.{part, integerBytes}
 use Rattle.wire.specs.Field.{integerAt, stringAt, isOptional, stringBytes, stringAllowed}
 use Rattle.packet.specs.declared.Direction.{Direction}
@@ -30,11 +30,12 @@ use Rattle.packet.specs.declared.AttributeKind.{AttributeKind}
 use Rattle.names.specs.declared.length.Decimal.{Decimal}
 use Rattle.names.specs.declared.length.Declared.{Declared}
 use Rattle.names.specs.declared.length.Declaring.{Declaring}
+use Rattle.connection.specs.Connection.{maxPacket}
 use Rattle.headers.specs.Headers.{declares, declaredBy, valued, valueOf, valueAt, spelledOf, nameAt, headerOf, headerAt}
 use Rattle.headers.specs.declared.NameRead.{NameRead}
 use Rattle.headers.specs.declared.HeaderRead.{HeaderRead}
 use Rattle.headers.proofs.Laws.{code-is, spelled-is, name-is, value-is, header-is}
-use Rattle.attributes.specs.Attributes.{textValueOf, textValueAt, pairValueOf, pairValueAt, withValue, attributeAt}
+use Rattle.attributes.specs.Attributes.{textValueOf, textValueAt, pairValueOf, pairValueAt, withValue, attributeAt, lastMark}
 use Rattle.attributes.specs.Attributes as attributes
 use Rattle.attributes.specs.declared.ValueRead.{ValueRead}
 use Rattle.attributes.specs.declared.AttributeRead.{AttributeRead}
@@ -70,7 +71,7 @@ stood fault at next null text =
     pick (eqb fault 0) (pick null (StringRead.Null next) (StringRead.Text (at + 2) (length text) next)) (StringRead.Refused fault)
 
 -- that is what it answers, by the first fault of the string
-pub string-stood : (a b : List ℕ) (field : StringField) (null : Bool) (text : List ℕ) → length text ≤ 8192
+pub string-stood : (a b : List ℕ) (field : StringField) (null : Bool) (text : List ℕ) → length text ≤ maxPacket
     → stringAt (a ++ (stringBytes null text ++ b)) (length a) (isOptional field)
     ≡ stood (stringFault field null text) (length a) (length a + length (stringBytes null text)) null text
 string-stood a b field null text h = string-judged a b field null text (omega arith) ∙ go (stringFault field null text) null
@@ -93,7 +94,7 @@ abbrev pub valuedUnless : ℕ → ℕ → ℕ → Declaring → HeaderRead
 valuedUnless fault place next declaring = pick (eqb fault 0) (valued place next declaring) (HeaderRead.Refused fault)
 
 -- what reading answers where a header's value was written
-value-judged : (a b : List ℕ) (declaring : Bool) (before : Declared) (null : Bool) (text : List ℕ) → length text ≤ 8192
+value-judged : (a b : List ℕ) (declaring : Bool) (before : Declared) (null : Bool) (text : List ℕ) → length text ≤ maxPacket
     → valueAt (a ++ (stringBytes null text ++ b)) (length a) declaring before
     ≡ valuedUnless (stringFault StringField.HeaderValue null text) (length a) (length a + length (stringBytes null text))
     (declaredBy declaring before null text)
@@ -129,7 +130,7 @@ coded-name a b d code low high =
     ∙ sym (code-is d (integerAt s (length a)) code (length a + 2) f (eqb f 0) (integer-written a b code (omega arith)) refl refl)
 
 -- the first byte of a string that was written is not A0
-string-first : (a b : List ℕ) (null : Bool) (text : List ℕ) → length text ≤ 8192 → beginsCode (getD (a ++ (stringBytes null text ++ b)) (length a) 0) ≡ false
+string-first : (a b : List ℕ) (null : Bool) (text : List ℕ) → length text ≤ maxPacket → beginsCode (getD (a ++ (stringBytes null text ++ b)) (length a) 0) ≡ false
 unfolding stringBytes
 string-first a b true text h = ap beginsCode (getD-append-seam a 255 (255 ∷ b) 0)
 string-first a b false text h =
@@ -143,12 +144,12 @@ string-two true text = omega (arith, size-null true text refl)
 string-two false text = omega (arith, size-text false text refl)
 
 -- null may not stand in a field that is not optional, such as a name
-null-barred : (field : StringField) → isOptional field ≡ false → (text : List ℕ) → stringFault field true text ≡ 6
+null-barred : (field : StringField) → isOptional field ≡ false → (text : List ℕ) → stringFault field true text ≡ stringWrong
 unfolding stringFault stringAllowed
 null-barred field e text = rw e
 
 -- a name that is spelled out, by its fault
-pub spelled-name : (a b : List ℕ) (d : Direction) (null : Bool) (text : List ℕ) → length text ≤ 8192
+pub spelled-name : (a b : List ℕ) (d : Direction) (null : Bool) (text : List ℕ) → length text ≤ maxPacket
     → nameAt d (a ++ (stringBytes null text ++ b)) (length a)
     ≡ nameUnless (spelledName d null text .fault) (NameRead.Spelled (length a + 2) (length text) (length a + length (stringBytes null text)))
 spelled-name a b d null text h =
@@ -182,7 +183,7 @@ second-holds a x y b P h =
     rw (row, ← place, ← end) (h (a ++ x))
 
 -- the value behind a name, by its string's fault
-value-behind : (a x b : List ℕ) (declaring : Bool) (before : Declared) (null : Bool) (text : List ℕ) → length text ≤ 8192
+value-behind : (a x b : List ℕ) (declaring : Bool) (before : Declared) (null : Bool) (text : List ℕ) → length text ≤ maxPacket
     → valueAt (a ++ ((x ++ (stringBytes null text ++ [])) ++ b)) (length a + length x) declaring before
     ≡ valuedUnless (stringFault StringField.HeaderValue null text) (length a + length x) (length a + length (x ++ (stringBytes null text ++ [])))
     (declaredBy declaring before null text)
@@ -238,7 +239,7 @@ pub code-begins : (d : Direction) (code : ℕ) → codeFault d code ≡ 0 → (4
 unfolding codeFault isListed requestNames responseNames
 code-begins d code h = go d h
   where
-    listed : (first past : ℕ) (t u : Bool) → leb first code ≡ t → ltb code past ≡ u → unless (both t u) 8 ≡ 0 → (first ≤ code) × (code < past)
+    listed : (first past : ℕ) (t u : Bool) → leb first code ≡ t → ltb code past ≡ u → unless (both t u) nameWrong ≡ 0 → (first ≤ code) × (code < past)
     listed first past true true p q h = (leb-true first code p, ltb-true code past q)
     listed first past true false p q h = absurd (omega (arith, h))
     listed first past false u p q h = absurd (omega (arith, h))
@@ -277,7 +278,7 @@ header-faultless f declaring null value h =
     (or-first f (orElse v w) h, (or-first v w later, declares-ten declaring Declared.Absent null value (or-second v w later)))
 
 -- a header with a code for its name, which begins with A0
-module _ (a b : List ℕ) (d : Direction) (code : ℕ) (null : Bool) (value : List ℕ) (low : 40960 ≤ code) (high : code < 41216) (short : length value ≤ 8192) where
+module _ (a b : List ℕ) (d : Direction) (code : ℕ) (null : Bool) (value : List ℕ) (low : 40960 ≤ code) (high : code < 41216) (short : length value ≤ maxPacket) where
   -- what reading answers, whatever was declared before
   pub coded-header : (before : Declared)
       → headerAt d (among a (codedFields d code null value) b) (length a) before
@@ -317,7 +318,7 @@ module _ (a b : List ℕ) (d : Direction) (code : ℕ) (null : Bool) (value : Li
 
 -- a header with a spelled name
 module _ (a b : List ℕ) (d : Direction) (nameNull : Bool) (name : List ℕ) (null : Bool) (value : List ℕ)
-    (h : length name ≤ 8192) (short : length value ≤ 8192) where
+    (h : length name ≤ maxPacket) (short : length value ≤ maxPacket) where
   -- what reading answers
   pub spelled-header : (before : Declared)
       → headerAt d (among a (spelledFields d nameNull name null value) b) (length a) before
@@ -431,9 +432,9 @@ module _ (a b : List ℕ) (code : ℕ) (seen : ℕ → Bool) (kind : AttributeKi
   fault-none = rw (is, served, new)
 
   -- it is not FF
-  not-last : eqb code 255 ≡ false
+  not-last : eqb code lastMark ≡ false
   unfolding attributeKind
-  not-last = ne-eqb code 255 (λ e. false≢true (ap (λ (k : ℕ). isServed (attributeKind k)) (sym e) ∙ ap isServed is ∙ served))
+  not-last = ne-eqb code lastMark (λ e. false≢true (ap (λ (k : ℕ). isServed (attributeKind k)) (sym e) ∙ ap isServed is ∙ served))
 
   -- so what its value is read as is what it is read as
   attribute-value : (r : ValueRead) → attributes.valueAt (a ++ (code ∷ b)) (length a + 1) kind ≡ r
@@ -442,11 +443,11 @@ module _ (a b : List ℕ) (code : ℕ) (seen : ℕ → Bool) (kind : AttributeKi
       let s : List ℕ = a ++ (code ∷ b) in
       let room : leb (length a + 1) (length s) ≡ true = le-leb (length a + 1) (length s) (omega (arith, length-append a (code ∷ b))) in
       let first : getD s (length a) 0 ≡ code = getD-append-seam a code b 0 in
-      attribute-by s (length a) false seen true false false room (ap (λ (k : ℕ). eqb k 255) first ∙ not-last) refl
+      attribute-by s (length a) false seen true false false room (ap (λ (k : ℕ). eqb k lastMark) first ∙ not-last) refl
       ∙ rw first (coded-by s (length a + 1) code (seen code) 0 true r (sym fault-none) refl (rw is e))
 
 -- a string as a value, by its fault
-text-judging : (a b : List ℕ) (null : Bool) (text : List ℕ) → length text ≤ 8192
+text-judging : (a b : List ℕ) (null : Bool) (text : List ℕ) → length text ≤ maxPacket
     → textValueAt (a ++ (stringBytes null text ++ b)) (length a)
     ≡ valueUnless (stringFault StringField.AttributeValue null text) (length a) (length a + length (stringBytes null text))
 text-judging a b null text h =
@@ -463,7 +464,7 @@ text-judging a b null text h =
     go f next true false = refl
 
 -- the same as the second of two fields
-text-behind : (a x b : List ℕ) (null : Bool) (text : List ℕ) → length text ≤ 8192
+text-behind : (a x b : List ℕ) (null : Bool) (text : List ℕ) → length text ≤ maxPacket
     → textValueAt (a ++ ((x ++ (stringBytes null text ++ [])) ++ b)) (length a + length x)
     ≡ valueUnless (stringFault StringField.AttributeValue null text) (length a + length x) (length a + length (x ++ (stringBytes null text ++ [])))
 text-behind a x b null text h =
@@ -472,7 +473,7 @@ text-behind a x b null text h =
     (λ front. text-judging front b null text h)
 
 -- a name and a value, by their faults
-pair-judging : (a b : List ℕ) (code : ℕ) (nameNull : Bool) (name : List ℕ) (null : Bool) (value : List ℕ) → length name ≤ 8192 → length value ≤ 8192
+pair-judging : (a b : List ℕ) (code : ℕ) (nameNull : Bool) (name : List ℕ) (null : Bool) (value : List ℕ) → length name ≤ maxPacket → length value ≤ maxPacket
     → pairValueAt (among a (pairFields code nameNull name null value) b) (length a + 1)
     ≡ pairUnless (stringFault StringField.AttributeName nameNull name) (stringFault StringField.AttributeValue null value)
     (length a + 1 + length (stringBytes nameNull name)) (endOf a (pairFields code nameNull name null value))
@@ -505,7 +506,7 @@ pair-judging a b code nameNull name null value h k =
 
 -- an attribute with a string
 module _ (a b : List ℕ) (code : ℕ) (seen : ℕ → Bool) (null : Bool) (value : List ℕ) (is : isText (attributeKind code) ≡ true)
-    (new : seen code ≡ false) (short : length value ≤ 8192) where
+    (new : seen code ≡ false) (short : length value ≤ maxPacket) where
   -- what reading answers
   text-attribute : attributeAt (among a (textFields code null value) b) (length a) false seen
       ≡ withValue code (valueUnless (stringFault StringField.AttributeValue null value) (length a + 1) (endOf a (textFields code null value)))
@@ -528,7 +529,7 @@ module _ (a b : List ℕ) (code : ℕ) (seen : ℕ → Bool) (null : Bool) (valu
   text-read h =
       let f : ℕ = stringFault StringField.AttributeValue null value in
       text-attribute
-      ∙ rw (eq-eqb f 0 (or-second (unless (isText (attributeKind code)) 9) f h))
+      ∙ rw (eq-eqb f 0 (or-second (unless (isText (attributeKind code)) attributeWrong) f h))
 
 -- an attribute with an integer, which has no fault
 pub integer-read : (a b : List ℕ) (code : ℕ) (seen : ℕ → Bool) (value : ℕ) → isInteger (attributeKind code) ≡ true → seen code ≡ false → value < 65536
@@ -551,7 +552,7 @@ integer-judged a b code seen value is new small = ap attributeRefusalIn (integer
 
 -- an attribute with a name and a value, which may come again
 module _ (a b : List ℕ) (code : ℕ) (seen : ℕ → Bool) (nameNull : Bool) (name : List ℕ) (null : Bool) (value : List ℕ)
-    (is : isPair (attributeKind code) ≡ true) (h : length name ≤ 8192) (short : length value ≤ 8192) where
+    (is : isPair (attributeKind code) ≡ true) (h : length name ≤ maxPacket) (short : length value ≤ maxPacket) where
   -- what reading answers
   pair-attribute : attributeAt (among a (pairFields code nameNull name null value) b) (length a) false seen
       ≡ withValue code
@@ -580,6 +581,6 @@ module _ (a b : List ℕ) (code : ℕ) (seen : ℕ → Bool) (nameNull : Bool) (
   pair-read e =
       let n : ℕ = stringFault StringField.AttributeName nameNull name in
       let v : ℕ = stringFault StringField.AttributeValue null value in
-      let first : orElse (unless (isPair (attributeKind code)) 9) n ≡ 0 = or-first (orElse (unless (isPair (attributeKind code)) 9) n) v e in
+      let first : orElse (unless (isPair (attributeKind code)) attributeWrong) n ≡ 0 = or-first (orElse (unless (isPair (attributeKind code)) attributeWrong) n) v e in
       pair-attribute
-      ∙ rw (eq-eqb n 0 (or-second (unless (isPair (attributeKind code)) 9) n first), eq-eqb v 0 (or-second (orElse (unless (isPair (attributeKind code)) 9) n) v e))
+      ∙ rw (eq-eqb n 0 (or-second (unless (isPair (attributeKind code)) attributeWrong) n first), eq-eqb v 0 (or-second (orElse (unless (isPair (attributeKind code)) attributeWrong) n) v e))

@@ -24,13 +24,15 @@ use Rattle.wire.proofs.Field.{boolean-inside}
 use Rattle.wire.proofs.RoundTrip.{integer-written, integer-kept, boolean-kept}
 use Rattle.wire.specs.Facts.{Bytes}
 use Rattle.wire.proofs.Parts.{part-zero, rest-part, stands-there}
+use Rattle.wire.specs.Refusal.{cutShort, leftOver, sizeWrong, stringWrong}
 use Rattle.connection.specs.Cycle.{kindOf, directionOf, inState, inSize, allowed, after}
 use Rattle.connection.specs.declared.Connection.{Connection}
 use Rattle.connection.specs.declared.Kind.{Kind}
 use Rattle.connection.specs.declared.Move.{Move}
+use Rattle.connection.specs.Connection.{maxBody, maxPacket}
 use Rattle.payload.specs.Kinds.{packetAt, kindIn, moveIn}
 use Rattle.payload.specs.Packet.{partFrom}
-use Rattle.payload.specs.Code.{payloadPlace, codeOf, kindAt}
+use Rattle.payload.specs.Code.{payloadPlace, codeOf, kindAt, afterCodePlace}
 use Rattle.payload.specs.Bare.{bareAt}
 use Rattle.payload.specs.End.{endOf, endAt}
 use Rattle.payload.specs.GetBody.{getOf, getAt}
@@ -40,6 +42,7 @@ use Rattle.packet.specs.declared.Part.{Part}
 use Rattle.packet.specs.declared.Packet.{Packet}
 use Rattle.payload.specs.declared.found.PacketRead.{PacketRead}
 use Rattle.payload.proofs.Laws.{get-is, chunk-is, chunk-closed, body-is, sized-by}
+use Rattle.payload.proofs.Handed.{finished-is}
 use Rattle.fields.specs.Field.{opening}
 use Rattle.fields.specs.Call.{Call, refused, done, refusalOf, answered, outcome, bufferAfter}
 use Rattle.fields.proofs.Sizes.{unless-none}
@@ -55,7 +58,7 @@ use Rattle.messages.specs.Writing.{wrote, wroteBy, oneCall, writing}
 use Rattle.messages.specs.Shown.{messageShown}
 use Rattle.messages.proofs.Fixed.{boolean-back}
 use Rattle.messages.proofs.Frames.{frame-written, head-kept}
-use Rattle.messages.proofs.Parses.{isBody, Parses, parses-most, coded-parses, coded-kept, finished-is}
+use Rattle.messages.proofs.Parses.{isBody, Parses, parses-most, coded-parses, coded-kept}
 use Rattle.messages.proofs.Tables.{tableOf}
 use Rattle.messages.proofs.RoundTrip.{Forth, Back, wrote-done, Shows, Stands, stands-back}
 
@@ -70,7 +73,7 @@ answered-done fault v w = go (eqb fault 0) refl
 -- what a call that wrote a packet has done
 pub record OneWritten (c : Connection) (m : Move) (payload buffer : List ℕ) (w : Written) (left : List ℕ) : Type 0 where
   pub allows : allowed c m ≡ true
-  pub most : length (packetOf m payload) ≤ 8192
+  pub most : length (packetOf m payload) ≤ maxPacket
   pub room : length (packetOf m payload) ≤ length buffer
   pub size : w .size ≡ length (packetOf m payload)
   pub steps : w .connection ≡ after c m
@@ -110,7 +113,7 @@ module _ (c : Connection) (m : Move) (payload buffer : List ℕ) where
       subst (OneWritten c m payload buffer w) (d .1) (done-written w (d .0))
 
   -- the call is done where the connection allows its move and the packet fits, and then it leaves the packet at the start of the buffer
-  one-done : allowed c m ≡ true → length (packetOf m payload) ≤ 8192 → length (packetOf m payload) ≤ length buffer
+  one-done : allowed c m ≡ true → length (packetOf m payload) ≤ maxPacket → length (packetOf m payload) ≤ length buffer
       → oneCall (sending c m payload) buffer
       ≡ wrote (record { size = length (packetOf m payload); connection = after c m }) (over buffer 0 (packetOf m payload))
   one-done a most room =
@@ -148,7 +151,7 @@ abbrev pub chunkPart : List ℕ → Part
 chunkPart bytes = partFrom chunkStart (length bytes)
 
 -- a chunk parses
-pub chunk-parses : (bytes : List ℕ) → length bytes ≤ 8184
+pub chunk-parses : (bytes : List ℕ) → length bytes + 1 + chunkStart ≤ maxPacket
     → Parses Direction.ToServer (messageBytes (bodyChunk bytes)) (Packet.BodyChunk (chunkPart bytes))
 unfolding messageBytes
 chunk-parses bytes most =
@@ -157,10 +160,10 @@ chunk-parses bytes most =
     let s : List ℕ = packet Direction.ToServer (payloadOf (bodyChunk bytes)) in
     let front : List ℕ = opening Kind.BodyChunk (length (payloadOf (bodyChunk bytes))) in
     let behind : length rest ≡ n + 1 = length-append bytes (0 ∷ []) in
-    let zero : getD s (7 + n) 0 ≡ 0 = getD-append-add (front ++ integerBytes n) rest n 0 ∙ getD-append-seam bytes 0 [] 0 in
-    let size : eqb (7 + n + 1) (length s) ≡ true = eq-eqb (7 + n + 1) (length s) (omega arith) in
+    let zero : getD s (chunkStart + n) 0 ≡ 0 = getD-append-add (front ++ integerBytes n) rest n 0 ∙ getD-append-seam bytes 0 [] 0 in
+    let size : eqb (chunkStart + n + 1) (length s) ≡ true = eq-eqb (chunkStart + n + 1) (length s) (omega arith) in
     coded-parses (Packet.BodyChunk (chunkPart bytes)) (integerBytes n ++ rest) refl (omega arith)
-    (chunk-is s (NumberRead.Number n 7) (integer-written front rest n (omega arith))
+    (chunk-is s (NumberRead.Number n chunkStart) (integer-written front rest n (omega arith))
     ∙ sym (chunk-closed s n (omega arith) zero)
     ∙ rw size)
 
@@ -175,17 +178,17 @@ abbrev pub bodyPart : List ℕ → Part
 bodyPart bytes = pick (eqb (length bytes) 0) (partFrom payloadPlace 0) (partFrom bodyStart (length bytes))
 
 -- a body packet with a size
-sized-fields : (bytes : List ℕ) → length bytes ≤ 8186 → eqb (length bytes) 0 ≡ false
+sized-fields : (bytes : List ℕ) → length bytes ≤ maxBody → eqb (length bytes) 0 ≡ false
     → bodyAt (packet Direction.ToContainer (integerBytes (length bytes) ++ bytes)) ≡ PacketRead.Packet (Packet.Body (partFrom bodyStart (length bytes)))
 sized-fields bytes most some =
     let n : ℕ = length bytes in
     let s : List ℕ = packet Direction.ToContainer (integerBytes n ++ bytes) in
-    body-is s false (NumberRead.Number n 6) (ne-eqb (length s) 4 (λ e. eqb-false n 0 some (omega arith)))
+    body-is s false (NumberRead.Number n bodyStart) (ne-eqb (length s) payloadPlace (λ e. eqb-false n 0 some (omega arith)))
     (integer-written (head Direction.ToContainer (length (integerBytes n ++ bytes))) bytes n (omega arith))
-    ∙ sym (sized-by (length s) n false false false (le-ltb (length s) (6 + n) (omega arith)) (le-ltb (6 + n) (length s) (omega arith)) some)
+    ∙ sym (sized-by (length s) n false false false (le-ltb (length s) (bodyStart + n) (omega arith)) (le-ltb (bodyStart + n) (length s) (omega arith)) some)
 
 -- a body packet parses
-pub body-parses : (bytes : List ℕ) → length bytes ≤ 8186 → Parses Direction.ToContainer (messageBytes (body bytes)) (Packet.Body (bodyPart bytes))
+pub body-parses : (bytes : List ℕ) → length bytes ≤ maxBody → Parses Direction.ToContainer (messageBytes (body bytes)) (Packet.Body (bodyPart bytes))
 unfolding messageBytes kindAt
 body-parses bytes most = go (eqb (length bytes) 0) refl
   where
@@ -230,17 +233,17 @@ body-long bytes = go (eqb (length bytes) 0) refl
     go false e = refl
 
 -- bytes whose body packet fits a packet's size
-body-most : (bytes : List ℕ) → length (messageBytes (body bytes)) ≤ 8192 → length bytes ≤ 8186
+body-most : (bytes : List ℕ) → length (messageBytes (body bytes)) ≤ maxPacket → length bytes ≤ maxBody
 unfolding messageBytes
 body-most bytes = go (eqb (length bytes) 0) refl
   where
-    go : (t : Bool) → eqb (length bytes) 0 ≡ t → length (packet Direction.ToContainer (pick t [] (integerBytes (length bytes) ++ bytes))) ≤ 8192
-        → length bytes ≤ 8186
+    go : (t : Bool) → eqb (length bytes) 0 ≡ t → length (packet Direction.ToContainer (pick t [] (integerBytes (length bytes) ++ bytes))) ≤ maxPacket
+        → length bytes ≤ maxBody
     go true e h = omega (arith, eqb-true (length bytes) 0 e)
     go false e h = omega arith
 
 -- bytes whose chunk does
-chunk-most : (bytes : List ℕ) → length (messageBytes (bodyChunk bytes)) ≤ 8192 → length bytes ≤ 8184
+chunk-most : (bytes : List ℕ) → length (messageBytes (bodyChunk bytes)) ≤ maxPacket → length bytes + 1 + chunkStart ≤ maxPacket
 unfolding messageBytes
 chunk-most bytes h = omega (arith, h, length-append bytes (0 ∷ []))
 
@@ -300,7 +303,7 @@ IsOne Kind.End = Unit
 pub record OnePacket (m : Message) : Type 0 where
   pub packet : Packet
   pub calls : Calls m packet
-  pub parses : length (messageBytes m) ≤ 8192 → Parses (wayOf m) (messageBytes m) packet
+  pub parses : length (messageBytes m) ≤ maxPacket → Parses (wayOf m) (messageBytes m) packet
   pub shows : Shows packet (messageBytes m) m
 
 -- each such message has such a packet
@@ -366,101 +369,101 @@ one-forth m one c buffer w left fit e =
     stands-back (one-stands k (one-written c (moveIn (k .packet)) (payloadOf m) buffer w left (sym (k .calls .call-is c buffer) ∙ e)))
 
 -- what a Get Body Chunk was read from
-get-read : (s : List ℕ) (asked : ℕ) → getAt s ≡ PacketRead.Packet (Packet.GetBody asked) → (length s ≡ 7) × (integerIn s 5 ≡ asked)
+get-read : (s : List ℕ) (asked : ℕ) → getAt s ≡ PacketRead.Packet (Packet.GetBody asked) → (length s ≡ afterCodePlace + 2) × (integerIn s afterCodePlace ≡ asked)
 unfolding getAt integerAt
-get-read s asked = go (leb 7 (length s))
+get-read s asked = go (leb (afterCodePlace + 2) (length s))
   where
-    go : (t : Bool) → getOf (length s) (pick t (NumberRead.Number (integerIn s 5) 7) (NumberRead.Refused 3)) ≡ PacketRead.Packet (Packet.GetBody asked)
-        → (length s ≡ 7) × (integerIn s 5 ≡ asked)
+    go : (t : Bool) → getOf (length s) (pick t (NumberRead.Number (integerIn s afterCodePlace) (afterCodePlace + 2)) (NumberRead.Refused cutShort)) ≡ PacketRead.Packet (Packet.GetBody asked)
+        → (length s ≡ afterCodePlace + 2) × (integerIn s afterCodePlace ≡ asked)
     go true e =
-        let f = finished-is (length s) 7 (Packet.GetBody (integerIn s 5)) (Packet.GetBody asked) e in
-        let g : Packet.GetBody (integerIn s 5) ≡ Packet.GetBody asked = f .1 in
+        let f = finished-is (length s) (afterCodePlace + 2) (Packet.GetBody (integerIn s afterCodePlace)) (Packet.GetBody asked) e in
+        let g : Packet.GetBody (integerIn s afterCodePlace) ≡ Packet.GetBody asked = f .1 in
         (sym (f .0), cc)
     go false e = absurd (let z : _≡_ {A = ℕ} 0 1 = cc in omega arith)
 
 -- what an End was read from
 end-read : (s : List ℕ) (reuse : Bool) → endAt s ≡ PacketRead.Packet (Packet.End reuse)
-    → (length s ≡ 6) × (booleanAt s 5 ≡ BooleanRead.Boolean reuse 6)
+    → (length s ≡ afterCodePlace + 1) × (booleanAt s afterCodePlace ≡ BooleanRead.Boolean reuse (afterCodePlace + 1))
 unfolding endAt
-end-read s reuse = go (booleanAt s 5) refl
+end-read s reuse = go (booleanAt s afterCodePlace) refl
   where
-    go : (r : BooleanRead) → booleanAt s 5 ≡ r → endOf (length s) r ≡ PacketRead.Packet (Packet.End reuse)
-        → (length s ≡ 6) × (booleanAt s 5 ≡ BooleanRead.Boolean reuse 6)
+    go : (r : BooleanRead) → booleanAt s afterCodePlace ≡ r → endOf (length s) r ≡ PacketRead.Packet (Packet.End reuse)
+        → (length s ≡ afterCodePlace + 1) × (booleanAt s afterCodePlace ≡ BooleanRead.Boolean reuse (afterCodePlace + 1))
     go (BooleanRead.Refused n) q e = absurd (let z : _≡_ {A = ℕ} 0 1 = cc in omega arith)
     go (BooleanRead.Boolean value next) q e =
-        let inside = boolean-inside s 5 (BooleanRead.Boolean value next) q in
+        let inside = boolean-inside s afterCodePlace (BooleanRead.Boolean value next) q in
         let f = finished-is (length s) next (Packet.End value) (Packet.End reuse) e in
         let g : Packet.End value ≡ Packet.End reuse = f .1 in
         let v : value ≡ reuse = cc in
-        let six : next ≡ 6 = inside .0 in
-        (sym (f .0) ∙ six, rw (← v, ← six) q)
+        let ends : next ≡ afterCodePlace + 1 = inside .0 in
+        (sym (f .0) ∙ ends, rw (← v, ← ends) q)
 
 -- what a chunk was read from
 record ChunkRead (s : List ℕ) (p : Part) : Type 0 where
-  starts : p .start .0 ≡ 7
-  len-is : integerIn s 5 ≡ p .len
-  zero : getD s (7 + p .len) 0 ≡ 0
-  size : length s ≡ 7 + (p .len + 1)
+  starts : p .start .0 ≡ chunkStart
+  len-is : integerIn s afterCodePlace ≡ p .len
+  zero : getD s (chunkStart + p .len) 0 ≡ 0
+  size : length s ≡ chunkStart + (p .len + 1)
 
 -- a chunk was read from these
 chunk-read : (s : List ℕ) (p : Part) → chunkAt s ≡ PacketRead.Packet (Packet.BodyChunk p) → ChunkRead s p
 unfolding chunkAt integerAt chunkOf
-chunk-read s p = go (leb 7 (length s))
+chunk-read s p = go (leb chunkStart (length s))
   where
     n : ℕ
-    n = integerIn s 5
+    n = integerIn s afterCodePlace
 
-    by : (t u v : Bool) → eqb (getD s (7 + n) 0) 0 ≡ u → eqb (7 + n + 1) (length s) ≡ v
+    by : (t u v : Bool) → eqb (getD s (chunkStart + n) 0) 0 ≡ u → eqb (chunkStart + n + 1) (length s) ≡ v
         → pick t
-        (pick u (pick v (PacketRead.Packet (Packet.BodyChunk (partFrom 7 n))) (PacketRead.Refused 12)) (PacketRead.Refused 6))
-        (PacketRead.Refused 3) ≡ PacketRead.Packet (Packet.BodyChunk p) → ChunkRead s p
+        (pick u (pick v (PacketRead.Packet (Packet.BodyChunk (partFrom chunkStart n))) (PacketRead.Refused leftOver)) (PacketRead.Refused stringWrong))
+        (PacketRead.Refused cutShort) ≡ PacketRead.Packet (Packet.BodyChunk p) → ChunkRead s p
     by true true true q r e =
-        let same : partFrom 7 n ≡ p = cc in
+        let same : partFrom chunkStart n ≡ p = cc in
         rw (← same) (record {
           starts = refl;
           len-is = refl;
-          zero = eqb-true (getD s (7 + n) 0) 0 q;
-          size = omega (arith, eqb-true (7 + n + 1) (length s) r);
+          zero = eqb-true (getD s (chunkStart + n) 0) 0 q;
+          size = omega (arith, eqb-true (chunkStart + n + 1) (length s) r);
         })
     by true true false q r e = absurd (let z : _≡_ {A = ℕ} 0 1 = cc in omega arith)
     by true false v q r e = absurd (let z : _≡_ {A = ℕ} 0 1 = cc in omega arith)
     by false u v q r e = absurd (let z : _≡_ {A = ℕ} 0 1 = cc in omega arith)
 
-    go : (t : Bool) → chunkBy s (pick t (NumberRead.Number n 7) (NumberRead.Refused 3)) ≡ PacketRead.Packet (Packet.BodyChunk p) → ChunkRead s p
-    go true e = by (leb (7 + (n + 1)) (length s)) (eqb (getD s (7 + n) 0) 0) (eqb (7 + n + 1) (length s)) refl refl e
+    go : (t : Bool) → chunkBy s (pick t (NumberRead.Number n chunkStart) (NumberRead.Refused cutShort)) ≡ PacketRead.Packet (Packet.BodyChunk p) → ChunkRead s p
+    go true e = by (leb (chunkStart + (n + 1)) (length s)) (eqb (getD s (chunkStart + n) 0) 0) (eqb (chunkStart + n + 1) (length s)) refl refl e
     go false e = absurd (let z : _≡_ {A = ℕ} 0 1 = cc in omega arith)
 
 -- what a body packet was read from: nothing behind the head, or a size and so many bytes
 pub data BodyRead (s : List ℕ) : Part → Type 0 where
-  empty : length s ≡ 4 → BodyRead s (partFrom 4 0)
-  sized : (n : ℕ) → integerIn s 4 ≡ n → eqb n 0 ≡ false → length s ≡ 6 + n → BodyRead s (partFrom 6 n)
+  empty : length s ≡ payloadPlace → BodyRead s (partFrom payloadPlace 0)
+  sized : (n : ℕ) → integerIn s payloadPlace ≡ n → eqb n 0 ≡ false → length s ≡ bodyStart + n → BodyRead s (partFrom bodyStart n)
 
 -- a body packet was read from one of the two
 pub body-read : (s : List ℕ) (p : Part) → bodyAt s ≡ PacketRead.Packet (Packet.Body p) → BodyRead s p
 unfolding bodyAt integerAt sizedAt
-body-read s p = go (eqb (length s) 4) (leb 6 (length s)) refl
+body-read s p = go (eqb (length s) payloadPlace) (leb bodyStart (length s)) refl
   where
     n : ℕ
-    n = integerIn s 4
+    n = integerIn s payloadPlace
 
-    by : (t u v : Bool) → ltb (length s) (6 + n) ≡ t → ltb (6 + n) (length s) ≡ u → eqb n 0 ≡ v
-        → pick t (PacketRead.Refused 3)
-        (pick u (PacketRead.Refused 12) (pick v (PacketRead.Refused 14) (PacketRead.Packet (Packet.Body (partFrom 6 n)))))
+    by : (t u v : Bool) → ltb (length s) (bodyStart + n) ≡ t → ltb (bodyStart + n) (length s) ≡ u → eqb n 0 ≡ v
+        → pick t (PacketRead.Refused cutShort)
+        (pick u (PacketRead.Refused leftOver) (pick v (PacketRead.Refused sizeWrong) (PacketRead.Packet (Packet.Body (partFrom bodyStart n)))))
         ≡ PacketRead.Packet (Packet.Body p) → BodyRead s p
     by true u v q r k e = absurd (let z : _≡_ {A = ℕ} 0 1 = cc in omega arith)
     by false true v q r k e = absurd (let z : _≡_ {A = ℕ} 0 1 = cc in omega arith)
     by false false true q r k e = absurd (let z : _≡_ {A = ℕ} 0 1 = cc in omega arith)
     by false false false q r k e =
-        let same : partFrom 6 n ≡ p = cc in
-        rw (← same) (sized n refl k (omega (arith, ltb-false (length s) (6 + n) q, ltb-false (6 + n) (length s) r)))
+        let same : partFrom bodyStart n ≡ p = cc in
+        rw (← same) (sized n refl k (omega (arith, ltb-false (length s) (bodyStart + n) q, ltb-false (bodyStart + n) (length s) r)))
 
-    go : (t u : Bool) → eqb (length s) 4 ≡ t
-        → pick t (PacketRead.Packet (Packet.Body (partFrom 4 0)))
-        (sizedOf (length s) (pick u (NumberRead.Number n 6) (NumberRead.Refused 3))) ≡ PacketRead.Packet (Packet.Body p) → BodyRead s p
+    go : (t u : Bool) → eqb (length s) payloadPlace ≡ t
+        → pick t (PacketRead.Packet (Packet.Body (partFrom payloadPlace 0)))
+        (sizedOf (length s) (pick u (NumberRead.Number n bodyStart) (NumberRead.Refused cutShort))) ≡ PacketRead.Packet (Packet.Body p) → BodyRead s p
     go true u q e =
-        let same : partFrom 4 0 ≡ p = cc in
-        rw (← same) (empty (eqb-true (length s) 4 q))
-    go false true q e = by (ltb (length s) (6 + n)) (ltb (6 + n) (length s)) (eqb n 0) refl refl refl e
+        let same : partFrom payloadPlace 0 ≡ p = cc in
+        rw (← same) (empty (eqb-true (length s) payloadPlace q))
+    go false true q e = by (ltb (length s) (bodyStart + n)) (ltb (bodyStart + n) (length s)) (eqb n 0) refl refl refl e
     go false false q e = absurd (let z : _≡_ {A = ℕ} 0 1 = cc in omega arith)
 
 -- a packet with a code, and so many bytes behind it
@@ -471,12 +474,12 @@ behind-kept {d} {s} {p} r b bytes n size behind e =
 
 -- the payload of a body packet is that of its bytes
 body-payload : {s : List ℕ} {p : Part} → Bytes s → BodyRead s p
-    → (drop 4 s ≡ bodyPayload (part s (p .start .0) (p .len))) × (length (part s (p .start .0) (p .len)) ≡ p .len)
+    → (drop payloadPlace s ≡ bodyPayload (part s (p .start .0) (p .len))) × (length (part s (p .start .0) (p .len)) ≡ p .len)
 body-payload {s} bytes (empty e) = rw (part-zero s 4) (rest-part s 4 0 (omega (arith, e)) ∙ part-zero s 4, refl)
 body-payload {s} bytes (sized n e some size) =
-    let long : length (part s 6 n) ≡ n = length-part s 6 n (omega (arith, size)) in
-    let behind : drop 4 s ≡ integerBytes n ++ part s 6 n =
-    rest-part s 4 (2 + n) (omega (arith, size)) ∙ part-add s 4 2 n ∙ rw (integer-kept s 4 bytes (omega (arith, size)), e) in
+    let long : length (part s bodyStart n) ≡ n = length-part s bodyStart n (omega (arith, size)) in
+    let behind : drop payloadPlace s ≡ integerBytes n ++ part s bodyStart n =
+    rest-part s payloadPlace (2 + n) (omega (arith, size)) ∙ part-add s payloadPlace 2 n ∙ rw (integer-kept s payloadPlace bytes (omega (arith, size)), e) in
     (behind ∙ rw (long, some), long)
 
 module _ {d : Direction} {s : List ℕ} (bytes : Bytes s) where
@@ -503,7 +506,7 @@ module _ {d : Direction} {s : List ℕ} (bytes : Bytes s) where
   get-kept asked r =
       let f = get-read s asked (r .fields-are) in (
         behind-kept r refl bytes 2 (f .0) (integerBytes asked)
-            (integer-kept s 5 bytes (omega (arith, f .0)) ∙ ap integerBytes (f .1)),
+            (integer-kept s afterCodePlace bytes (omega (arith, f .0)) ∙ ap integerBytes (f .1)),
         omega (arith, f .1, bytes 5, bytes 6),
       )
 
@@ -521,9 +524,9 @@ module _ {d : Direction} {s : List ℕ} (bytes : Bytes s) where
   chunk-kept p r =
       let f = chunk-read s p (r .fields-are) in
       let n : ℕ = p .len in
-      let size : length (part s 7 n) ≡ n = length-part s 7 n (omega (arith, f .size)) in
-      let behind : part s 5 (2 + (n + 1)) ≡ integerBytes (length (part s 7 n)) ++ (part s 7 n ++ (0 ∷ [])) =
-      part-add s 5 2 (n + 1) ∙ rw (part-add s 7 n 1, part-one s (7 + n) (omega (arith, f .size)), f .zero, integer-kept s 5 bytes (omega (arith, f .size)), f .len-is, size) in
+      let size : length (part s chunkStart n) ≡ n = length-part s chunkStart n (omega (arith, f .size)) in
+      let behind : part s afterCodePlace (2 + (n + 1)) ≡ integerBytes (length (part s chunkStart n)) ++ (part s chunkStart n ++ (0 ∷ [])) =
+      part-add s afterCodePlace 2 (n + 1) ∙ rw (part-add s chunkStart n 1, part-one s (chunkStart + n) (omega (arith, f .size)), f .zero, integer-kept s afterCodePlace bytes (omega (arith, f .size)), f .len-is, size) in
       rw (f .starts) (behind-kept r refl bytes (2 + (n + 1)) (omega (arith, f .size)) _ behind, size)
 
   -- of a body packet
@@ -533,7 +536,7 @@ module _ {d : Direction} {s : List ℕ} (bytes : Bytes s) where
   body-kept p r =
       let f = body-payload bytes (body-read s p (r .fields-are)) in (
         head-kept d s (length s) bytes (r .whole-is) refl
-            ∙ ap (λ (way : Direction). packet way (drop 4 s)) (sym (r .way))
+            ∙ ap (λ (way : Direction). packet way (drop payloadPlace s)) (sym (r .way))
             ∙ ap (packet Direction.ToContainer) (f .0),
         f .1,
       )
@@ -571,7 +574,7 @@ one-back p one d c s table bytes r a places buffer room =
     let m : Message = messageShown (told p) s (tableOf p s table) in
     let k = one-shown d s (tableOf p s table) p one bytes r in
     let same : packetOf (moveIn p) (payloadOf m) ≡ s = k .calls .bytes-are ∙ sym (k .kept) in
-    let most : length (packetOf (moveIn p) (payloadOf m)) ≤ 8192 = rw same (parses-most r) in
+    let most : length (packetOf (moveIn p) (payloadOf m)) ≤ maxPacket = rw same (parses-most r) in
     let fits : length (packetOf (moveIn p) (payloadOf m)) ≤ length buffer = rw same room in
     record {
       written = k .calls .call-is c buffer ∙ one-done c (moveIn p) (payloadOf m) buffer a most fits

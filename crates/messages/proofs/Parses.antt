@@ -13,7 +13,7 @@ use lib.Dec.{leb, eqb}
 use lib.ListN.{length, getD, drop}
 use lib.Seq.{take-length, drop-cons}
 use Rattle.wire.specs.Pick.{pick, both, either}
-use Rattle.wire.specs.Refusal.{leftOver}
+use Rattle.wire.specs.Refusal.{leftOver, codeNotServed, codeWrong, cutShort}
 use Rattle.wire.specs.Bytes.{part}
 use Rattle.wire.specs.Field.{byteAt}
 use Rattle.wire.specs.Packet.{head, packet}
@@ -24,13 +24,14 @@ use Rattle.wire.proofs.Field.{head-four}
 use Rattle.wire.proofs.Bytes.{length-part}
 use Rattle.wire.proofs.RoundTrip.{byte-written}
 use Rattle.wire.specs.Facts.{Bytes}
-use Rattle.connection.specs.Connection.{isIdle, isBusy, bodyDue}
+use Rattle.connection.specs.Connection.{isIdle, isBusy, bodyDue, maxPacket, maxPayload}
 use Rattle.connection.specs.Cycle.{kindOf, directionOf, inState, inSize, allowed, after}
 use Rattle.connection.specs.declared.State.{State}
 use Rattle.connection.specs.declared.Kind.{Kind}
 use Rattle.connection.specs.declared.Move.{Move}
 use Rattle.connection.specs.declared.Connection.{Connection}
-use Rattle.payload.specs.Code.{codeOf, codeKind, kindOfCode, kindAt}
+use Rattle.places.specs.Entries.{maxPlaces}
+use Rattle.payload.specs.Code.{codeOf, codeKind, kindOfCode, kindAt, afterCodePlace, codePlace, pingCode, shutdownCode}
 use Rattle.payload.specs.Kinds.{packetAt, kindIn, moveIn}
 use Rattle.payload.specs.Packet.{finished}
 use Rattle.payload.specs.declared.KindRead.{KindRead}
@@ -116,11 +117,11 @@ parses-accepted {d} {s} {p} r c a rest room h =
     later-answer s rest d c room (subst Answered (sym alone) tt) ∙ alone
 
 -- it has at most 8192 bytes
-pub parses-most : {d : Direction} {s : List ℕ} {p : Packet} → Parses d s p → length s ≤ 8192
+pub parses-most : {d : Direction} {s : List ℕ} {p : Packet} → Parses d s p → length s ≤ maxPacket
 parses-most {d} {s} r = frame-inside d s (FrameRead.Whole (length s)) (r .whole-is) .1 .0
 
 -- it asks for at most 328 places
-pub parses-places : {d : Direction} {s : List ℕ} {p : Packet} → Parses d s p → placesNeeded (told p) ≤ 328
+pub parses-places : {d : Direction} {s : List ℕ} {p : Packet} → Parses d s p → placesNeeded (told p) ≤ maxPlaces
 parses-places {d} {s} {p} r = told-inside (kindIn p) s p (r .fields-are) .places-most
 
 -- what an accepted packet is
@@ -140,7 +141,7 @@ read-way Direction.ToContainer c s kind e = go (bodyDue c) refl
     go : (t : Bool) → bodyDue c ≡ t → directionOf kind ≡ Direction.ToContainer
     go false q = kind-direction Direction.ToContainer (bodyDue c) s kind e q
     go true q =
-        let k : KindRead.Kind Kind.Body ≡ KindRead.Kind kind = sym (kind-is Direction.ToContainer (bodyDue c) true s (byteAt s 4) q refl) ∙ e in
+        let k : KindRead.Kind Kind.Body ≡ KindRead.Kind kind = sym (kind-is Direction.ToContainer (bodyDue c) true s (byteAt s codePlace) q refl) ∙ e in
         let b : Kind.Body ≡ kind = cc in
         ap directionOf (sym b)
 
@@ -183,62 +184,62 @@ kind-written k rest e =
     let d : Direction = directionOf k in
     let code : ℕ = codeOf k in
     let before : List ℕ = head d (length (code ∷ rest)) in
-    let read : byteAt (packet d (code ∷ rest)) 4 ≡ NumberRead.Number code 5 =
+    let read : byteAt (packet d (code ∷ rest)) codePlace ≡ NumberRead.Number code afterCodePlace =
     subst (λ (at : ℕ). byteAt (before ++ (code ∷ rest)) at ≡ NumberRead.Number code (at + 1)) (head-four d (length (code ∷ rest)))
     (byte-written before rest code) in
-    kind-is d (isBody k) false (packet d (code ∷ rest)) (NumberRead.Number code 5) e read
+    kind-is d (isBody k) false (packet d (code ∷ rest)) (NumberRead.Number code afterCodePlace) e read
     ∙ code-found k (λ q. false≢true (sym e ∙ ap isBody q))
 
 -- a code that is of a kind is that kind's
 code-of-kind : (d : Direction) (code : ℕ) (k : Kind) → codeKind d code ≡ KindRead.Kind k → code ≡ codeOf k
 unfolding codeKind
-code-of-kind Direction.ToContainer code k = go (eqb code 2) (eqb code 10) (either (eqb code 7) (eqb code 8)) refl refl
+code-of-kind Direction.ToContainer code k = go (eqb code (codeOf Kind.Forward)) (eqb code (codeOf Kind.CPing)) (either (eqb code shutdownCode) (eqb code pingCode)) refl refl
   where
-    go : (a b u : Bool) → eqb code 2 ≡ a → eqb code 10 ≡ b
+    go : (a b u : Bool) → eqb code (codeOf Kind.Forward) ≡ a → eqb code (codeOf Kind.CPing) ≡ b
         → pick a (KindRead.Kind Kind.Forward)
-        (pick b (KindRead.Kind Kind.CPing) (pick u (KindRead.Refused 5) (KindRead.Refused 4))) ≡ KindRead.Kind k → code ≡ codeOf k
-    go true b u p q e = let z : Kind.Forward ≡ k = cc in eqb-true code 2 p ∙ ap codeOf z
-    go false true u p q e = let z : Kind.CPing ≡ k = cc in eqb-true code 10 q ∙ ap codeOf z
+        (pick b (KindRead.Kind Kind.CPing) (pick u (KindRead.Refused codeNotServed) (KindRead.Refused codeWrong))) ≡ KindRead.Kind k → code ≡ codeOf k
+    go true b u p q e = let z : Kind.Forward ≡ k = cc in eqb-true code (codeOf Kind.Forward) p ∙ ap codeOf z
+    go false true u p q e = let z : Kind.CPing ≡ k = cc in eqb-true code (codeOf Kind.CPing) q ∙ ap codeOf z
     go false false true p q e = cc
     go false false false p q e = cc
 code-of-kind Direction.ToServer code k =
-    go (eqb code 3) (eqb code 4) (eqb code 5) (eqb code 6) (eqb code 9) refl refl refl refl refl
+    go (eqb code (codeOf Kind.BodyChunk)) (eqb code (codeOf Kind.SendHeaders)) (eqb code (codeOf Kind.End)) (eqb code (codeOf Kind.GetBody)) (eqb code (codeOf Kind.CPong)) refl refl refl refl refl
   where
-    go : (a b c d e : Bool) → eqb code 3 ≡ a → eqb code 4 ≡ b → eqb code 5 ≡ c → eqb code 6 ≡ d → eqb code 9 ≡ e
+    go : (a b c d e : Bool) → eqb code (codeOf Kind.BodyChunk) ≡ a → eqb code (codeOf Kind.SendHeaders) ≡ b → eqb code (codeOf Kind.End) ≡ c → eqb code (codeOf Kind.GetBody) ≡ d → eqb code (codeOf Kind.CPong) ≡ e
         → pick a (KindRead.Kind Kind.BodyChunk)
         (pick b (KindRead.Kind Kind.SendHeaders)
         (pick c (KindRead.Kind Kind.End)
-        (pick d (KindRead.Kind Kind.GetBody) (pick e (KindRead.Kind Kind.CPong) (KindRead.Refused 4))))) ≡ KindRead.Kind k → code ≡ codeOf k
-    go true b c d e p q r s t f = let z : Kind.BodyChunk ≡ k = cc in eqb-true code 3 p ∙ ap codeOf z
-    go false true c d e p q r s t f = let z : Kind.SendHeaders ≡ k = cc in eqb-true code 4 q ∙ ap codeOf z
-    go false false true d e p q r s t f = let z : Kind.End ≡ k = cc in eqb-true code 5 r ∙ ap codeOf z
-    go false false false true e p q r s t f = let z : Kind.GetBody ≡ k = cc in eqb-true code 6 s ∙ ap codeOf z
-    go false false false false true p q r s t f = let z : Kind.CPong ≡ k = cc in eqb-true code 9 t ∙ ap codeOf z
+        (pick d (KindRead.Kind Kind.GetBody) (pick e (KindRead.Kind Kind.CPong) (KindRead.Refused codeWrong))))) ≡ KindRead.Kind k → code ≡ codeOf k
+    go true b c d e p q r s t f = let z : Kind.BodyChunk ≡ k = cc in eqb-true code (codeOf Kind.BodyChunk) p ∙ ap codeOf z
+    go false true c d e p q r s t f = let z : Kind.SendHeaders ≡ k = cc in eqb-true code (codeOf Kind.SendHeaders) q ∙ ap codeOf z
+    go false false true d e p q r s t f = let z : Kind.End ≡ k = cc in eqb-true code (codeOf Kind.End) r ∙ ap codeOf z
+    go false false false true e p q r s t f = let z : Kind.GetBody ≡ k = cc in eqb-true code (codeOf Kind.GetBody) s ∙ ap codeOf z
+    go false false false false true p q r s t f = let z : Kind.CPong ≡ k = cc in eqb-true code (codeOf Kind.CPong) t ∙ ap codeOf z
     go false false false false false p q r s t f = cc
 
 -- a packet that is not a body packet has its code behind its head
 code-kept : (d : Direction) (s : List ℕ) (k : Kind) → isBody k ≡ false → kindAt d (isBody k) s ≡ KindRead.Kind k
-    → (5 ≤ length s) × (getD s 4 0 ≡ codeOf k)
+    → (afterCodePlace ≤ length s) × (getD s codePlace 0 ≡ codeOf k)
 unfolding byteAt
-code-kept d s k b e = go (leb 5 (length s)) refl (sym (kind-is d (isBody k) false s (byteAt s 4) b refl) ∙ e)
+code-kept d s k b e = go (leb afterCodePlace (length s)) refl (sym (kind-is d (isBody k) false s (byteAt s codePlace) b refl) ∙ e)
   where
-    go : (t : Bool) → leb 5 (length s) ≡ t
-        → kindOfCode d (pick t (NumberRead.Number (getD s 4 0) 5) (NumberRead.Refused 3)) ≡ KindRead.Kind k
-        → (5 ≤ length s) × (getD s 4 0 ≡ codeOf k)
-    go true p q = (leb-true 5 (length s) p, code-of-kind d (getD s 4 0) k q)
+    go : (t : Bool) → leb afterCodePlace (length s) ≡ t
+        → kindOfCode d (pick t (NumberRead.Number (getD s codePlace 0) afterCodePlace) (NumberRead.Refused cutShort)) ≡ KindRead.Kind k
+        → (afterCodePlace ≤ length s) × (getD s codePlace 0 ≡ codeOf k)
+    go true p q = (leb-true afterCodePlace (length s) p, code-of-kind d (getD s codePlace 0) k q)
     go false p q = absurd (let z : _≡_ {A = ℕ} 0 1 = cc in omega arith)
 
 -- so it is its head, its code and what stands behind that
 pub coded-kept : {d : Direction} {s : List ℕ} {p : Packet} → Parses d s p → isBody (kindIn p) ≡ false → Bytes s
-    → s ≡ packet (directionOf (kindIn p)) (codeOf (kindIn p) ∷ drop 5 s)
+    → s ≡ packet (directionOf (kindIn p)) (codeOf (kindIn p) ∷ drop afterCodePlace s)
 coded-kept {d} {s} {p} r b bytes =
     let code = code-kept d s (kindIn p) b (r .kind-is) in
-    let behind : drop 4 s ≡ codeOf (kindIn p) ∷ drop 5 s = drop-cons s 4 0 (omega (arith, code .0)) ∙ ap (λ (n : ℕ). n ∷ drop 5 s) (code .1) in
+    let behind : drop 4 s ≡ codeOf (kindIn p) ∷ drop afterCodePlace s = drop-cons s 4 0 (omega (arith, code .0)) ∙ ap (λ (n : ℕ). n ∷ drop afterCodePlace s) (code .1) in
     head-kept d s (length s) bytes (r .whole-is) refl ∙ ap (packet d) behind
-    ∙ ap (λ (way : Direction). packet way (codeOf (kindIn p) ∷ drop 5 s)) (sym (r .way))
+    ∙ ap (λ (way : Direction). packet way (codeOf (kindIn p) ∷ drop afterCodePlace s)) (sym (r .way))
 
 -- a packet that was written with its code first in its payload parses where its fields are read
-pub coded-parses : (p : Packet) (rest : List ℕ) → isBody (kindIn p) ≡ false → length rest ≤ 8187
+pub coded-parses : (p : Packet) (rest : List ℕ) → isBody (kindIn p) ≡ false → length rest + 1 ≤ maxPayload
     → packetAt (kindIn p) (packet (directionOf (kindIn p)) (codeOf (kindIn p) ∷ rest)) .end ≡ PacketRead.Packet p
     → Parses (directionOf (kindIn p)) (packet (directionOf (kindIn p)) (codeOf (kindIn p) ∷ rest)) p
 coded-parses p rest b most fields =
@@ -249,12 +250,3 @@ coded-parses p rest b most fields =
       kind-is = kind-written k rest b;
       fields-are = fields;
     }
-
--- nothing stands behind a packet's last field, and the packet is the one that was found
-pub finished-is : (size next : ℕ) (found p : Packet) → finished size next found ≡ PacketRead.Packet p → (next ≡ size) × (found ≡ p)
-finished-is size next found p = go (eqb next size) refl
-  where
-    go : (t : Bool) → eqb next size ≡ t → pick t (PacketRead.Packet found) (PacketRead.Refused leftOver) ≡ PacketRead.Packet p
-        → (next ≡ size) × (found ≡ p)
-    go true q e = (eqb-true next size q, cc)
-    go false q e = absurd (let z : _≡_ {A = ℕ} 0 1 = cc in omega arith)

@@ -14,6 +14,8 @@ use Rattle.wire.specs.Bytes.{over}
 use Rattle.packet.specs.declared.Direction.{Direction}
 use Rattle.wire.proofs.Bytes.{length-over, over-none, over-over}
 use Rattle.connection.specs.Cycle.{directionOf}
+use Rattle.connection.specs.Connection.{maxPacket}
+use Rattle.places.specs.Entries.{maxHeaders}
 use Rattle.fields.specs.Fault.{orElse, faultAfter, firstFault, fitFault}
 use Rattle.fields.specs.Field.{Field, faultsOf, bytesOf}
 use Rattle.fields.specs.Call.{Call, done, refusalOf, outcome, bufferAfter}
@@ -107,7 +109,7 @@ module _ (call : Call Building) (buffer raw : List ℕ) (at : call .at ≡ lengt
           absurd (h f (ap (builtBy (bufferAfter call x)) (sym (refused-answer call x f refl (eqb-false f 0 e)))))
 
   -- where it has no fault of its own, and its bytes fit
-  pieced-fits : firstFault (call .faults) ≡ 0 → length (raw ++ call .bytes) ≤ 8192 → length (raw ++ call .bytes) ≤ length buffer
+  pieced-fits : firstFault (call .faults) ≡ 0 → length (raw ++ call .bytes) ≤ maxPacket → length (raw ++ call .bytes) ≤ length buffer
       → Pieced call buffer raw
   unfolding refusalOf
   pieced-fits own within fits =
@@ -117,7 +119,7 @@ module _ (call : Call Building) (buffer raw : List ℕ) (at : call .at ≡ lengt
       let end : ℕ = call .at + length (call .bytes) in
       pieced
       (ap (λ (f : ℕ). orElse f (fitFault end (length x))) own
-      ∙ sym (fit-by end (length x) true true (le-leb end 8192 (omega arith)) (le-leb end (length x) (omega arith))))
+      ∙ sym (fit-by end (length x) true true (le-leb end maxPacket (omega arith)) (le-leb end (length x) (omega arith))))
 
 -- what pieces have come to: the bytes of the packet so far stand in the buffer from its first place on and within it, and the record is the one
 -- behind them, which can be
@@ -174,7 +176,7 @@ module _ (kind : BuildingKind) (own : List Field) (buffer : List ℕ) where
       (sym (fixed-faults kind own) ∙ p .own, begun p)
 
   -- where they have none and fit, they are written
-  pub fixed-fits : FieldsFine own → length (bytesOf (fixed kind own)) ≤ 8192 → length (bytesOf (fixed kind own)) ≤ length buffer
+  pub fixed-fits : FieldsFine own → length (bytesOf (fixed kind own)) ≤ maxPacket → length (bytesOf (fixed kind own)) ≤ length buffer
       → Reached (piece (fixedCall kind own) buffer) kind (length (bytesOf (fixed kind own)) - 2) 0 false buffer (bytesOf (fixed kind own))
   fixed-fits fine within fits =
       begun (pieced-fits (fixedCall kind own) buffer [] refl (omega arith) (fixed-faults kind own ∙ fine) within fits)
@@ -212,16 +214,16 @@ module _ {x : Built} {kind : BuildingKind} {count headers : ℕ} {buffer raw : L
       (or-first (firstFault (faultsOf headerOwn)) (countFault r) rest, headed p)
 
   -- where it has none, one more may come and it fits, it is written
-  header-fits : FieldsFine headerOwn → headers < 100 → length (raw ++ bytesOf headerOwn) ≤ 8192 → length (raw ++ bytesOf headerOwn) ≤ length buffer
+  header-fits : FieldsFine headerOwn → headers < maxHeaders → length (raw ++ bytesOf headerOwn) ≤ maxPacket → length (raw ++ bytesOf headerOwn) ≤ length buffer
       → Reached (addHeader x header) kind count (headers + 1) false buffer (raw ++ bytesOf headerOwn)
   unfolding headerNow countFault
   header-fits fine few within fits =
       let r : Building = fields kind (length raw) count headers false in
       let can : isPossible r (over buffer 0 raw) ≡ true = here .possible in
-      let now : headerNow r (over buffer 0 raw) ≡ 0 = rw can in
-      let one : countFault r ≡ 0 = rw (lt-ltb headers 100 few) in
+      let allowed : headerNow r (over buffer 0 raw) ≡ 0 = rw can in
+      let one : countFault r ≡ 0 = rw (lt-ltb headers maxHeaders few) in
       headed
-      (pieced-fits headerHere buffer raw refl (here .room) (around-none (headerNow r (over buffer 0 raw)) (countFault r) headerOwn now fine one) within fits)
+      (pieced-fits headerHere buffer raw refl (here .room) (around-none (headerNow r (over buffer 0 raw)) (countFault r) headerOwn allowed fine one) within fits)
 
 -- three rows of bytes are within a number, however they are grouped
 regrouped-within : (a b c : List ℕ) {n : ℕ} → length (a ++ (b ++ c)) ≤ n → length (a ++ b ++ c) ≤ n
@@ -256,8 +258,8 @@ headers-unstopped {x} {kind} {count} {before} {buffer} {raw} (header ∷ later) 
 
 -- where none has a fault, and all fit, they are written
 pub headers-fit : {x : Built} {kind : BuildingKind} {count before : ℕ} {buffer raw : List ℕ} (headers : List Header)
-    → Reached x kind count before false buffer raw → HeadersFine (directionOf (kindIn kind)) headers → before + length headers ≤ 100
-    → length (raw ++ headersBytes (directionOf (kindIn kind)) headers) ≤ 8192
+    → Reached x kind count before false buffer raw → HeadersFine (directionOf (kindIn kind)) headers → before + length headers ≤ maxHeaders
+    → length (raw ++ headersBytes (directionOf (kindIn kind)) headers) ≤ maxPacket
     → length (raw ++ headersBytes (directionOf (kindIn kind)) headers) ≤ length buffer
     → Reached (addHeaders x headers) kind count (before + length headers) false buffer (raw ++ headersBytes (directionOf (kindIn kind)) headers)
 headers-fit {x} {kind} {count} {before} {buffer} {raw} [] here fine few within fits =
@@ -297,16 +299,16 @@ module _ {x : Built} {kind : BuildingKind} {count headers : ℕ} {came : Bool} {
       → FieldsFine (attributeFields attribute)
       × Reached (addAttribute x attribute) kind count headers true buffer (raw ++ bytesOf (attributeFields attribute))
   attribute-unstopped h =
-      let now : ℕ = attributeNow (fields kind (length raw) count headers came) (over buffer 0 raw) in
+      let before : ℕ = attributeNow (fields kind (length raw) count headers came) (over buffer 0 raw) in
       let own : List ℕ = faultsOf (attributeFields attribute) in
       let p : Pieced attributeHere buffer raw = pieced-unstopped attributeHere buffer raw refl (here .room) (λ n e. h n (attribute-is ∙ e)) in
-      let first : now ≡ 0 = first-none now own (p .own) in (
+      let first : before ≡ 0 = first-none before own (p .own) in (
         subst (λ (f : ℕ). faultAfter f own ≡ 0) first (p .own),
         attributed p,
       )
 
   -- where the packet is a Forward, and it has no fault and fits, it is written
-  attribute-fits : isForward kind ≡ true → FieldsFine (attributeFields attribute) → length (raw ++ bytesOf (attributeFields attribute)) ≤ 8192
+  attribute-fits : isForward kind ≡ true → FieldsFine (attributeFields attribute) → length (raw ++ bytesOf (attributeFields attribute)) ≤ maxPacket
       → length (raw ++ bytesOf (attributeFields attribute)) ≤ length buffer
       → Reached (addAttribute x attribute) kind count headers true buffer (raw ++ bytesOf (attributeFields attribute))
   unfolding attributeNow
@@ -346,7 +348,7 @@ attributes-unstopped {raw = raw} (attribute ∷ later) here h =
 
 -- where none has a fault, the packet takes them, and all fit, they are written
 pub attributes-fit : {x : Built} {kind : BuildingKind} {count headers : ℕ} {came : Bool} {buffer raw : List ℕ} (attributes : List Attribute)
-    → Reached x kind count headers came buffer raw → Takes kind attributes → AttributesFine attributes → length (raw ++ attributesBytes attributes) ≤ 8192
+    → Reached x kind count headers came buffer raw → Takes kind attributes → AttributesFine attributes → length (raw ++ attributesBytes attributes) ≤ maxPacket
     → length (raw ++ attributesBytes attributes) ≤ length buffer
     → Reached (addAttributes x attributes) kind count headers (cameAfter came attributes) buffer (raw ++ attributesBytes attributes)
 attributes-fit {raw = raw} [] here takes fine within fits = reached-same refl (sym (append-nil raw)) here

@@ -32,7 +32,7 @@ use Rattle.headers.specs.Headers.{headersAt}
 use Rattle.headers.specs.declared.HeadersRead.{HeadersRead}
 use Rattle.attributes.specs.Attributes.{attributesAt}
 use Rattle.attributes.specs.declared.AttributesRead.{AttributesRead}
-use Rattle.payload.specs.Code.{codeOf}
+use Rattle.payload.specs.Code.{codeOf, afterCodePlace}
 use Rattle.payload.specs.Sequence.{afterCode, stringField as stringRead, stringFieldAt, stringAfter, booleanNumber, booleanField, booleanFieldAt, booleanAfter, numberField, anyIntegerAfter, bounded, byteAfter, integerAfter, placeOf, valueOf}
 use Rattle.payload.specs.Lists.{headersAfter, listsOf, attributesBehind, behindHeaders, listsAt}
 use Rattle.payload.specs.Forward.{firstMethod, lastMethod, forwardOf, forwardAt}
@@ -44,7 +44,7 @@ use Rattle.packet.specs.declared.SendHeaders.{SendHeaders}
 use Rattle.packet.specs.declared.Packet.{Packet}
 use Rattle.payload.specs.declared.found.PacketRead.{PacketRead}
 use Rattle.payload.specs.Handed.{StringEnds}
-use Rattle.payload.proofs.Handed.{FieldEnds, forward-same, head-same, attributes-handed}
+use Rattle.payload.proofs.Handed.{FieldEnds, forward-same, head-same, attributes-handed, finished-is}
 use Rattle.fields.specs.Fault.{rangeFault}
 use Rattle.fields.specs.Field.{Field, plain, byteWithin, integerWithin, bytesOf}
 use Rattle.fields.proofs.Faults.{range-most}
@@ -57,7 +57,7 @@ use Rattle.messages.specs.Bytes.{attributesBytes, requestFields, respons
 use Rattle.messages.specs.Shown.{textShown, headersShown, attributesShown, shownBy}
 use Rattle.messages.proofs.Fine.{FieldsFine, HeadersFine, AttributesFine}
 use Rattle.messages.proofs.Fixed.{boolean-back}
-use Rattle.messages.proofs.Parses.{Parses, coded-kept, finished-is}
+use Rattle.messages.proofs.Parses.{Parses, coded-kept}
 use Rattle.messages.proofs.Texts.{textField}
 use Rattle.messages.proofs.FieldsShown.{headers-many}
 use Rattle.messages.proofs.FieldsKept.{Held, held-none, held-byte, held-join, FieldKept, FieldsKept, fields-front, fields-last, string-kept, number-kept, NumberKept, HeadersKept, headers-kept, AttributesKept, attributes-kept}
@@ -201,7 +201,7 @@ headers-behind d s (FieldRead.Field from count at) bytes = go (headersAt d s at 
     go : (r : HeadersRead) → headersAt d s at count Declared.Absent .end ≡ r
         → HeadersBehind d s (FieldRead.Field from count at) (headersAt d s at count Declared.Absent .places) r
     go (HeadersRead.Refused n) e = tt
-    go (HeadersRead.Headers now end) e = (at, refl, λ h. headers-kept d s at count Declared.Absent now end bytes h e)
+    go (HeadersRead.Headers after end) e = (at, refl, λ h. headers-kept d s at count Declared.Absent after end bytes h e)
 
 -- attributes that end with the packet, where they are read
 abbrev LastOnes : List ℕ → ℕ → List ℕ → ListsRead → Type 0
@@ -270,7 +270,7 @@ pub record PiecesKept (direction : Direction) (s : List ℕ) (m : Message) (own 
   pub way-is : wayOf m ≡ direction
   pub own-fine : FieldsFine own
   pub headers-fine : HeadersFine direction headers
-  pub few : length headers ≤ 100
+  pub few : length headers ≤ maxHeaders
   pub attributes-fine : AttributesFine attributes
   pub fit : Fit m
 
@@ -299,14 +299,14 @@ held-rest s at bytes h = rest-part s at (length s - at) (omega (arith, h .forth)
 
 -- a packet whose pieces are kept, one behind the other, from behind its code to its end
 pieces-kept : (kind : BuildingKind) (s : List ℕ) {own : List Field} {at count next n : ℕ} {places : List ℕ} {middle : ℕ} (attributes : List Attribute)
-    (m : Message) → s ≡ packet (directionOf (kindIn kind)) (codeOf (kindIn kind) ∷ drop 5 s) → wayOf m ≡ directionOf (kindIn kind)
-    → payloadOf m ≡ piecesPayload kind own (headersShown s places) attributes → 5 ≡ at → FieldsKept s at count own
+    (m : Message) → s ≡ packet (directionOf (kindIn kind)) (codeOf (kindIn kind) ∷ drop afterCodePlace s) → wayOf m ≡ directionOf (kindIn kind)
+    → payloadOf m ≡ piecesPayload kind own (headersShown s places) attributes → afterCodePlace ≡ at → FieldsKept s at count own
     → FieldKept s count next (integerWithin 0 maxHeaders n) → HeadersKept (directionOf (kindIn kind)) s next n places middle
     → Held s middle (length s) (attributesBytes attributes ++ lastBytes kind) → AttributesFine attributes → Fit m
     → PiecesKept (directionOf (kindIn kind)) s m own (headersShown s places) attributes
 unfolding messageBytes
 pieces-kept kind s {own} {at} {count} {next} {n} {places} {middle} attributes m packed way payload opened fixed counted of-headers rest fine fit =
-    let first : Held s 5 count (bytesOf own) = subst (λ (i : ℕ). Held s i count (bytesOf own)) (sym opened) (fixed .held) in
+    let first : Held s afterCodePlace count (bytesOf own) = subst (λ (i : ℕ). Held s i count (bytesOf own)) (sym opened) (fixed .held) in
     let own-many : length (headersShown s places) ≡ n = headers-many s places n (omega (arith, of-headers .placed)) in
     let many : Held s count next (integerBytes (length (headersShown s places))) =
     subst (λ (k : ℕ). Held s count next (integerBytes k)) (sym own-many) (counted .held) in
@@ -314,7 +314,7 @@ pieces-kept kind s {own} {at} {count} {next} {n} {places} {middle} attributes m 
     record {
       bytes-are =
           ap (λ (d : Direction). packet d (payloadOf m)) way
-          ∙ ap (packet (directionOf (kindIn kind))) (payload ∙ ap (λ (l : List ℕ). codeOf (kindIn kind) ∷ l) (sym (held-rest s 5 _ whole)))
+          ∙ ap (packet (directionOf (kindIn kind))) (payload ∙ ap (λ (l : List ℕ). codeOf (kindIn kind) ∷ l) (sym (held-rest s afterCodePlace _ whole)))
           ∙ sym packed;
       way-is = way;
       own-fine = fixed .fine;
@@ -325,7 +325,7 @@ pieces-kept kind s {own} {at} {count} {next} {n} {places} {middle} attributes m 
     }
 
 -- a Forward, by its fixed fields, each of which stands behind the one before it
-module _ (s : List ℕ) (packed : s ≡ packet Direction.ToContainer (codeOf Kind.Forward ∷ drop 5 s))
+module _ (s : List ℕ) (packed : s ≡ packet Direction.ToContainer (codeOf Kind.Forward ∷ drop afterCodePlace s))
     (method protocol uri addr host name port ssl count : FieldRead)
     (method-behind : KeptBehind s afterCode method (byteWithin firstMethod lastMethod (valueOf method)))
     (protocol-behind : KeptBehind s method protocol (textField StringField.Protocol (textShown s (placeOf protocol .0))))
@@ -398,7 +398,7 @@ forward-kept s f headers attributes bytes r are many =
     (same-rest (headersOf s count) (attributesOf s count) headers attributes parted same) (found .1))
 
 -- a Send Headers, by its fixed fields, each of which stands behind the one before it
-module _ (s : List ℕ) (packed : s ≡ packet Direction.ToServer (codeOf Kind.SendHeaders ∷ drop 5 s)) (status message count : FieldRead)
+module _ (s : List ℕ) (packed : s ≡ packet Direction.ToServer (codeOf Kind.SendHeaders ∷ drop afterCodePlace s)) (status message count : FieldRead)
     (status-behind : KeptBehind s afterCode status (integerWithin leastStatus greatestStatus (valueOf status)))
     (message-behind : KeptBehind s status message (textField StringField.Message (textShown s (placeOf message .0))))
     (count-behind : KeptBehind s message count (integerWithin 0 maxHeaders (valueOf count)))

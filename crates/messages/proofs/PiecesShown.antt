@@ -16,13 +16,14 @@ use Rattle.wire.specs.declared.read.NumberRead.{NumberRead}
 use Rattle.wire.specs.declared.read.BooleanRead.{BooleanRead}
 use Rattle.wire.proofs.Field.{byte-inside, integer-inside, boolean-inside}
 use Rattle.connection.specs.declared.Kind.{Kind}
-use Rattle.places.specs.Entries.{Entries}
+use Rattle.connection.specs.Connection.{maxPacket}
+use Rattle.places.specs.Entries.{Entries, maxHeaders}
 use Rattle.headers.specs.declared.HeadersRead.{HeadersRead}
 use Rattle.attributes.specs.Attributes.{lastMark}
 use Rattle.payload.specs.Code.{afterCodePlace}
 use Rattle.payload.specs.Sequence.{booleanNumber, placeOf, valueOf}
 use Rattle.payload.specs.Forward.{forwardOf, forwardAt}
-use Rattle.payload.specs.SendHeaders.{sendHeadersOf, sendHeadersAt}
+use Rattle.payload.specs.SendHeaders.{sendHeadersOf, sendHeadersAt, greatestStatus, leastStatus}
 use Rattle.payload.specs.Lists.{headersAfter, listsAt}
 use Rattle.payload.specs.declared.field.FieldRead.{FieldRead}
 use Rattle.payload.specs.declared.lists.ListsRead.{ListsRead}
@@ -30,7 +31,7 @@ use Rattle.packet.specs.declared.Forward.{Forward}
 use Rattle.packet.specs.declared.SendHeaders.{SendHeaders}
 use Rattle.packet.specs.declared.Packet.{Packet}
 use Rattle.payload.specs.declared.found.PacketRead.{PacketRead}
-use Rattle.payload.proofs.Handed.{forward-handed, head-handed}
+use Rattle.payload.proofs.Handed.{forward-handed, head-handed, finished-is}
 use Rattle.fields.specs.Field.{opening, faultsOf, bytesOf}
 use Rattle.fields.proofs.Sizes.{boolean-one}
 use Rattle.fields.proofs.Faults.{faultless, range-most}
@@ -41,7 +42,6 @@ use Rattle.messages.specs.Shown.{headersShown, attributesShown, shownBy,
 use Rattle.messages.proofs.Fine.{FieldsFine, HeadersFine, AttributesFine}
 use Rattle.messages.proofs.Judged.{among}
 use Rattle.messages.proofs.Fixed.{Ahead, ahead-next, forward-read, send-headers-read, reached, boolean-back}
-use Rattle.messages.proofs.Parses.{finished-is}
 use Rattle.messages.proofs.Tables.{forward-many, forward-table, send-headers-many, send-headers-table}
 use Rattle.messages.proofs.RoundTrip.{Shows}
 use Rattle.messages.proofs.Texts.{textBytes}
@@ -65,14 +65,14 @@ abbrev behindCount : Request → List ℕ
 behindCount request = headersBytes Direction.ToContainer (request .headers) ++ (attributesBytes (request .attributes) ++ (lastMark ∷ []))
 
 -- a Forward without fault, behind five bytes
-module _ {s : List ℕ} (short : length s ≤ 8192) (request : Request) (own : FieldsFine (requestFields request))
+module _ {s : List ℕ} (short : length s ≤ maxPacket) (request : Request) (own : FieldsFine (requestFields request))
     (headers-fine : HeadersFine Direction.ToContainer (request .headers)) (attributes-fine : AttributesFine (request .attributes))
-    (port-fits : request .port < 65536) (fit : AttributesFit (request .attributes)) (few : length (request .headers) ≤ 100)
-    (stands : Ahead s 5 (bytesOf (requestFields request) ++ (integerBytes (length (request .headers)) ++ behindCount request))) where
+    (port-fits : request .port < 65536) (fit : AttributesFit (request .attributes)) (few : length (request .headers) ≤ maxHeaders)
+    (stands : Ahead s afterCodePlace (bytesOf (requestFields request) ++ (integerBytes (length (request .headers)) ++ behindCount request))) where
   -- where it is read, its numbers are those that were written
-  forward-counts : (f : Forward) → forwardAt s .end ≡ PacketRead.Packet (Packet.Forward f) → length (bytesIn (request .protocol)) ≤ 8192
-      → length (bytesIn (request .uri)) ≤ 8192 → length (bytesIn (request .addr)) ≤ 8192 → length (bytesIn (request .host)) ≤ 8192
-      → length (bytesIn (request .name)) ≤ 8192
+  forward-counts : (f : Forward) → forwardAt s .end ≡ PacketRead.Packet (Packet.Forward f) → length (bytesIn (request .protocol)) ≤ maxPacket
+      → length (bytesIn (request .uri)) ≤ maxPacket → length (bytesIn (request .addr)) ≤ maxPacket → length (bytesIn (request .host)) ≤ maxPacket
+      → length (bytesIn (request .name)) ≤ maxPacket
       → (f .method ≡ request .method) × (f .«server_port» ≡ request .port) × (eqb (booleanNumber (f .«is_ssl»)) 1 ≡ request .ssl)
       × (f .headers ≡ length (request .headers))
   forward-counts f e h1 h2 h3 h4 h5 =
@@ -80,7 +80,7 @@ module _ {s : List ℕ} (short : length s ≤ 8192) (request : Request) (own : F
       let read =
       forward-read (stands .front) (behindCount request) (numbersOf request) (nullsOf request) (bytesIn (request .protocol)) (bytesIn (request .uri))
       (bytesIn (request .addr)) (bytesIn (request .host)) (bytesIn (request .name)) count (stands .place) port-fits few h1 h2 h3 h4 h5 (rw own) in
-      let f1 : FieldRead = FieldRead.Field 5 (request .method) 6 in
+      let f1 : FieldRead = FieldRead.Field afterCodePlace (request .method) 6 in
       let f2 : FieldRead = reached 0 (length (textBytes (request .protocol))) f1 in
       let f3 : FieldRead = reached 0 (length (textBytes (request .uri))) f2 in
       let f4 : FieldRead = reached 0 (length (textBytes (request .addr))) f3 in
@@ -111,7 +111,7 @@ module _ {s : List ℕ} (short : length s ≤ 8192) (request : Request) (own : F
       let t1 : List ℕ = textBytes (request .protocol) ++ t2 in
       let none = faultless (faultsOf (requestFields request)) own in
       let handed = forward-handed s f e in
-      let fields : Ahead s 5 (request .method ∷ t1) = simp append-assoc at stands in
+      let fields : Ahead s afterCodePlace (request .method ∷ t1) = simp append-assoc at stands in
       let first : f .protocol .0 ≡ afterCodePlace + 1 =
       byte-inside s afterCodePlace (NumberRead.Number (f .method) (f .protocol .0)) (handed .method-read) .0 in
       let r1 : Ahead s (f .protocol .0) t1 = rw first (ahead-next (request .method ∷ []) t1 fields) in
@@ -159,13 +159,13 @@ send-headers-numbers size status message headers (HeadersRead.Headers declared n
     (status-is, headers-are)
 
 -- a Send Headers without fault, behind five bytes
-module _ {s : List ℕ} (short : length s ≤ 8192) (response : Response) (own : FieldsFine (responseFields response))
-    (headers-fine : HeadersFine Direction.ToServer (response .headers)) (few : length (response .headers) ≤ 100)
-    (stands : Ahead s 5
+module _ {s : List ℕ} (short : length s ≤ maxPacket) (response : Response) (own : FieldsFine (responseFields response))
+    (headers-fine : HeadersFine Direction.ToServer (response .headers)) (few : length (response .headers) ≤ maxHeaders)
+    (stands : Ahead s afterCodePlace
     (bytesOf (responseFields response)
     ++ (integerBytes (length (response .headers)) ++ (headersBytes Direction.ToServer (response .headers) ++ [])))) where
   -- where it is read, its numbers are those that were written
-  send-headers-counts : (h : SendHeaders) → sendHeadersAt s .end ≡ PacketRead.Packet (Packet.SendHeaders h) → length (bytesIn (response .message)) ≤ 8192
+  send-headers-counts : (h : SendHeaders) → sendHeadersAt s .end ≡ PacketRead.Packet (Packet.SendHeaders h) → length (bytesIn (response .message)) ≤ maxPacket
       → (h .status ≡ response .status) × (h .headers ≡ length (response .headers))
   send-headers-counts h e size =
       let count : ℕ = length (response .headers) in
@@ -173,8 +173,8 @@ module _ {s : List ℕ} (short : length s ≤ 8192) (response : Response) (own :
       let none = faultless (faultsOf (responseFields response)) own in
       let read =
       send-headers-read (stands .front) b (response .status) (isNull (response .message)) (bytesIn (response .message)) count (stands .place)
-      (omega (arith, range-most 100 599 (response .status) (none .0))) size few (rw own) in
-      let f1 : FieldRead = FieldRead.Field 5 (response .status) 7 in
+      (omega (arith, range-most leastStatus greatestStatus (response .status) (none .0))) size few (rw own) in
+      let f1 : FieldRead = FieldRead.Field afterCodePlace (response .status) 7 in
       let f2 : FieldRead = reached 0 (length (textBytes (response .message))) f1 in
       let f3 : FieldRead = reached count 2 f2 in
       let l : List ℕ = among (stands .front) (responseFields response) (integerBytes count ++ b) in
@@ -191,7 +191,7 @@ module _ {s : List ℕ} (short : length s ≤ 8192) (response : Response) (own :
       let t1 : List ℕ = textBytes (response .message) ++ t2 in
       let none = faultless (faultsOf (responseFields response)) own in
       let handed = head-handed s h e in
-      let fields : Ahead s 5 (integerBytes (response .status) ++ t1) = simp append-assoc at stands in
+      let fields : Ahead s afterCodePlace (integerBytes (response .status) ++ t1) = simp append-assoc at stands in
       let first : h .message .0 ≡ afterCodePlace + 2 =
       integer-inside s afterCodePlace (NumberRead.Number (h .status) (h .message .0)) (handed .status-read) .0 in
       let r1 : Ahead s (h .message .0) t1 = rw first (ahead-next (integerBytes (response .status)) t1 fields) in
@@ -210,14 +210,14 @@ module _ {s : List ℕ} (short : length s ≤ 8192) (response : Response) (own :
 
 -- the bytes of a Forward behind the first five
 forward-stands : (request : Request)
-    → Ahead (messageBytes (forward request)) 5
+    → Ahead (messageBytes (forward request)) afterCodePlace
     (bytesOf (requestFields request) ++ (integerBytes (length (request .headers)) ++ behindCount request))
 unfolding messageBytes
 forward-stands request = record { front = opening Kind.Forward (length (payloadOf (forward request))); is = refl; place = refl }
 
 -- and those of a Send Headers
 send-headers-stands : (response : Response)
-    → Ahead (messageBytes (sendHeaders response)) 5
+    → Ahead (messageBytes (sendHeaders response)) afterCodePlace
     (bytesOf (responseFields response)
     ++ (integerBytes (length (response .headers)) ++ (headersBytes Direction.ToServer (response .headers) ++ [])))
 unfolding messageBytes
@@ -225,8 +225,8 @@ send-headers-stands response = record { front = opening Kind.SendHeaders (length
 
 -- so a Forward without fault, where it is read, shows the message that was written
 pub forward-shown : (request : Request) → FieldsFine (requestFields request) → HeadersFine Direction.ToContainer (request .headers)
-    → AttributesFine (request .attributes) → request .port < 65536 → AttributesFit (request .attributes) → length (request .headers) ≤ 100
-    → length (messageBytes (forward request)) ≤ 8192 → (f : Forward)
+    → AttributesFine (request .attributes) → request .port < 65536 → AttributesFit (request .attributes) → length (request .headers) ≤ maxHeaders
+    → length (messageBytes (forward request)) ≤ maxPacket → (f : Forward)
     → forwardAt (messageBytes (forward request)) .end ≡ PacketRead.Packet (Packet.Forward f)
     → Shows (Packet.Forward f) (messageBytes (forward request)) (forward request)
 unfolding messageShown
@@ -251,7 +251,7 @@ forward-shown request own headers-fine attributes-fine port fit few short f e =
 
 -- and so does a Send Headers
 pub send-headers-shown : (response : Response) → FieldsFine (responseFields response) → HeadersFine Direction.ToServer (response .headers)
-    → length (response .headers) ≤ 100 → length (messageBytes (sendHeaders response)) ≤ 8192 → (h : SendHeaders)
+    → length (response .headers) ≤ maxHeaders → length (messageBytes (sendHeaders response)) ≤ maxPacket → (h : SendHeaders)
     → sendHeadersAt (messageBytes (sendHeaders response)) .end ≡ PacketRead.Packet (Packet.SendHeaders h)
     → Shows (Packet.SendHeaders h) (messageBytes (sendHeaders response)) (sendHeaders response)
 unfolding messageShown

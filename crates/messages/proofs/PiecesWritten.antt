@@ -16,6 +16,8 @@ use Rattle.wire.proofs.Field.{length-leading, head-four}
 use Rattle.wire.proofs.Parts.{over-inside}
 use Rattle.connection.specs.Cycle.{directionOf, inState}
 use Rattle.connection.specs.declared.Connection.{Connection}
+use Rattle.connection.specs.Connection.{maxPacket}
+use Rattle.places.specs.Entries.{maxHeaders}
 use Rattle.payload.specs.Code.{codeOf}
 use Rattle.fields.specs.Field.{Field, opening, bytesOf}
 use Rattle.fields.proofs.Rows.{bytes-append}
@@ -182,8 +184,8 @@ pub record PiecesWritten (c : Connection) (kind : BuildingKind) (own : List Fiel
   pub own-fine : FieldsFine own
   pub headers-fine : HeadersFine (directionOf (kindIn kind)) headers
   pub attributes-fine : AttributesFine attributes
-  pub few : length headers ≤ 100
-  pub within : length whole ≤ 8192
+  pub few : length headers ≤ maxHeaders
+  pub within : length whole ≤ maxPacket
   pub fits : length whole ≤ length buffer
   pub size : w .size ≡ length whole
   pub is : after ≡ over buffer 0 whole
@@ -195,7 +197,7 @@ pub record PiecesWritten (c : Connection) (kind : BuildingKind) (own : List Fiel
 -- and the other way: where no piece has a fault, all fit, and the packet is judged good, it is written
 abbrev pub Writes : Connection → BuildingKind → List Field → List Header → List Attribute → List ℕ → List ℕ → Wrote → Type 0
 Writes c kind own headers attributes whole buffer answer = (t : Told) (taken : ℕ) (next : Connection) → FieldsFine own
-    → HeadersFine (directionOf (kindIn kind)) headers → AttributesFine attributes → length headers ≤ 100 → length whole ≤ 8192
+    → HeadersFine (directionOf (kindIn kind)) headers → AttributesFine attributes → length headers ≤ maxHeaders → length whole ≤ maxPacket
     → length whole ≤ length buffer → inState c (kindIn kind) ≡ true
     → judging c (parse (directionOf (kindIn kind)) (readAsBody (directionOf (kindIn kind)) c) whole) ≡ accepted t taken next
     → answer ≡ wrote (record { size = length whole; connection = next }) (over buffer 0 whole)
@@ -224,7 +226,7 @@ module _ (c : Connection) (kind : BuildingKind) (own : List Field) (headers : Li
 
   -- where none has a fault, and all fit, they are
   all-fit : FieldsFine own → HeadersFine (directionOf (kindIn kind)) headers → AttributesFine attributes → Takes kind attributes
-      → length headers ≤ 100 → length (piecesBytes kind own headers attributes) ≤ 8192 → length (piecesBytes kind own headers attributes) ≤ length buffer
+      → length headers ≤ maxHeaders → length (piecesBytes kind own headers attributes) ≤ maxPacket → length (piecesBytes kind own headers attributes) ≤ length buffer
       → Reached allPieces kind (countPlace kind own) (length headers) (cameAfter false attributes) buffer (piecesBytes kind own headers attributes)
   all-fit own-fine headers-fine attributes-fine takes few within fits =
       let a : List ℕ = bytesOf (fixed kind own) in

@@ -24,26 +24,15 @@ use Rattle.reading_laws.proofs.Acceptance.{accepted-is}
 use Rattle.messages.specs.Message.{Message, wayOf, placesFor, Fit}
 use Rattle.messages.specs.Writing.{unwritten, wrote, wroteBy, writing}
 use Rattle.messages.specs.Shown.{messageShown}
+use Rattle.messages.specs.RoundTrips.{ReadBack, WrittenBack}
 use Rattle.messages.proofs.Parses.{Parses, parses-accepted, accepted-parses}
 use Rattle.messages.proofs.Tables.{tableOf, table-filled}
-
--- reading these bytes gives this message, takes so many bytes and steps to this connection
-pub record ReadBack (d : Direction) (c : Connection) (s table : List ℕ) (m : Message) (n : ℕ) (next : Connection) : Type 0 where
-  pub told : Told
-  pub answer : reading d c s (length table) ≡ accepted told n next
-  pub message : messageShown told (part s 0 n) (tableAfter d c s table) ≡ m
 
 -- what is written for a message, with whatever behind it, is read as that message by the connection with which it was written
 abbrev pub Forth : Message → Type 0
 Forth m = (c : Connection) (buffer : List ℕ) (w : Written) (left : List ℕ) → Fit m → writing c m buffer ≡ wrote w left
     → (rest table : List ℕ) → placesFor m ≤ length table
     → ReadBack (wayOf m) c (part left 0 (w .size) ++ rest) table m (w .size) (w .connection)
-
--- a message is written as these bytes, goes this way and steps to this connection
-pub record WrittenBack (d : Direction) (c : Connection) (s buffer : List ℕ) (m : Message) (n : ℕ) (next : Connection) : Type 0 where
-  pub written : writing c m buffer ≡ wrote (record { size = n; connection = next }) (over buffer 0 s)
-  pub fit : Fit m
-  pub way : wayOf m ≡ d
 
 -- a packet is written again as its bytes: the message that it shows, by each connection that allows its move
 abbrev pub Back : Packet → Type 0

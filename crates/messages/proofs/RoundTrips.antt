@@ -19,16 +19,11 @@ use Rattle.messages.specs.Message.{Message, kindOf, cping, cpong, forwar
 use Rattle.messages.specs.Bytes.{payloadOf, messageBytes}
 use Rattle.messages.specs.Writing.{wrote, writing}
 use Rattle.messages.specs.Shown.{messageShown}
-use Rattle.messages.proofs.RoundTrip.{ReadBack, Forth, WrittenBack, Back, back-by}
+use Rattle.messages.specs.RoundTrips.{WrittenBytes, ReadBack, WrittenBack}
+use Rattle.messages.proofs.RoundTrip.{Forth, Back, back-by}
 use Rattle.messages.proofs.OneCall.{IsOne, one-packet, one-written, one-forth, one-back}
 use Rattle.messages.proofs.PiecesWritten.{forward-written, send-headers-written}
 use Rattle.messages.proofs.InPieces.{forward-forth, send-headers-forth, forward-back, send-headers-back}
-
--- what was written for a message: its bytes from the buffer's first place on, all else as it was, and their number is answered
-pub record WrittenBytes (m : Message) (buffer : List ℕ) (w : Written) (left : List ℕ) : Type 0 where
-  pub buffer-is : left ≡ over buffer 0 (messageBytes m)
-  pub size : w .size ≡ length (messageBytes m)
-  pub fits : length (messageBytes m) ≤ length buffer
 
 -- by one call
 one-bytes : (m : Message) → IsOne (kindOf m) → (c : Connection) (buffer : List ℕ) (w : Written) (left : List ℕ) → Fit m → writing c m buffer ≡ wrote w left

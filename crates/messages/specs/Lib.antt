@@ -3,3 +3,4 @@ pub mod Bytes
 pub mod Writing
 pub mod Shown
 pub mod Declared
+pub mod RoundTrips

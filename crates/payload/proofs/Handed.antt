@@ -531,9 +531,9 @@ module _ (s : List ℕ) where
       head-found h (headers .places) (headers .end) (headers-behind Direction.ToServer s headCountRead)
       (headers-places Direction.ToServer s headCountRead (headers .end) refl) e
 
--- a packet whose last field ends with it
-finished-handed : (size next : ℕ) (found packet : Packet) → finished size next found ≡ PacketRead.Packet packet → (next ≡ size) × (found ≡ packet)
-finished-handed size next found packet = go (eqb next size) refl
+-- nothing stands behind a packet's last field, and the packet is the one that was found
+pub finished-is : (size next : ℕ) (found packet : Packet) → finished size next found ≡ PacketRead.Packet packet → (next ≡ size) × (found ≡ packet)
+finished-is size next found packet = go (eqb next size) refl
   where
     go : (t : Bool) → eqb next size ≡ t → pick t (PacketRead.Packet found) (PacketRead.Refused leftOver) ≡ PacketRead.Packet packet
         → (next ≡ size) × (found ≡ packet)
@@ -542,7 +542,7 @@ finished-handed size next found packet = go (eqb next size) refl
 
 -- a CPing or a CPong
 bare-handed : (s : List ℕ) (packet : Packet) → finished (length s) afterCodePlace packet ≡ PacketRead.Packet packet → BareHanded s []
-bare-handed s packet e = record { ends = sym (finished-handed (length s) afterCodePlace packet packet e .0); no-places = refl }
+bare-handed s packet e = record { ends = sym (finished-is (length s) afterCodePlace packet packet e .0); no-places = refl }
 
 -- a Get Body Chunk
 get-handed : (s : List ℕ) (asked : ℕ) → getAt s ≡ PacketRead.Packet (Packet.GetBody asked) → GetHanded s asked []
@@ -552,7 +552,7 @@ get-handed s asked = go (integerAt s afterCodePlace) refl
     go : (r : NumberRead) → integerAt s afterCodePlace ≡ r → getOf (length s) r ≡ PacketRead.Packet (Packet.GetBody asked) → GetHanded s asked []
     go (NumberRead.Refused n) q e = let z : _≡_ {A = ℕ} 0 1 = cc in absurd (omega arith)
     go (NumberRead.Number value next) q e =
-        let f = finished-handed (length s) next (Packet.GetBody value) (Packet.GetBody asked) e in
+        let f = finished-is (length s) next (Packet.GetBody value) (Packet.GetBody asked) e in
         let g : Packet.GetBody value ≡ Packet.GetBody asked = f .1 in
         let same : value ≡ asked = cc in
         let ends : next ≡ length s = f .0 in
@@ -566,7 +566,7 @@ end-handed s reuse = go (booleanAt s afterCodePlace) refl
     go : (r : BooleanRead) → booleanAt s afterCodePlace ≡ r → endOf (length s) r ≡ PacketRead.Packet (Packet.End reuse) → EndHanded s reuse []
     go (BooleanRead.Refused n) q e = let z : _≡_ {A = ℕ} 0 1 = cc in absurd (omega arith)
     go (BooleanRead.Boolean value next) q e =
-        let f = finished-handed (length s) next (Packet.End value) (Packet.End reuse) e in
+        let f = finished-is (length s) next (Packet.End value) (Packet.End reuse) e in
         let g : Packet.End value ≡ Packet.End reuse = f .1 in
         let same : value ≡ reuse = cc in
         let ends : next ≡ length s = f .0 in
@@ -631,7 +631,7 @@ chunk-handed s p = by-length (integerAt s afterCodePlace) refl
     by-tests len f false b g q = let z : _≡_ {A = ℕ} 0 1 = cc in absurd (omega arith)
     by-tests len f true false g q = let z : _≡_ {A = ℕ} 0 1 = cc in absurd (omega arith)
     by-tests len f true true g q =
-        let done = finished-handed (length s) (chunkStart + len + 1) (Packet.BodyChunk (partFrom chunkStart len)) (Packet.BodyChunk p) q in
+        let done = finished-is (length s) (chunkStart + len + 1) (Packet.BodyChunk (partFrom chunkStart len)) (Packet.BodyChunk p) q in
         subst (λ (part : Part). ChunkHanded s (part .start .0) (part .len) []) (chunk-same (partFrom chunkStart len) p (done .1))
         (record { size-read = f; closed = eqb-true (getD s (chunkStart + len) 0) 0 g; rest = done .0; no-places = refl })
 

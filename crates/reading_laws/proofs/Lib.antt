@@ -5,3 +5,4 @@ pub mod Shown
 pub mod Handed
 pub mod StarredSet
 pub mod Aside
+pub mod Refusals
