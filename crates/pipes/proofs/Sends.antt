@@ -47,13 +47,13 @@ made : (c : Connection) (call : Send) (bytes : List ℕ) (next : Connection) (p 
     → isBody (kindIn p) ≡ isBodyCall call → heldIn (packetBy call bytes) ≡ bodyGiven call → allowed c (moveIn p) ≡ true
     → next ≡ after c (moveIn p) → moveIn p ≡ moveOf call (told p) → Made c call bytes next
 made c call bytes next p parses same holds allows steps is =
-    let as : ReadableAs (wayOf call) (packetBy call bytes) (moveIn p) (told p) = readable-as parses (isBodyCall call) same in
+    let shown : ReadableAs (wayOf call) (packetBy call bytes) (moveIn p) (told p) = readable-as parses (isBodyCall call) same in
     record {
       move = moveIn p;
       allows = allows;
       steps = steps;
-      readable = as .readable;
-      move-is = is ∙ ap (moveOf call) (sym (as .tells-is));
+      readable = shown .readable;
+      move-is = is ∙ ap (moveOf call) (sym (shown .tells-is));
       holds = holds;
     }
 
