@@ -15,7 +15,7 @@ use Rattle.fields.specs.Call.{Outcome, refused, done}
 use Rattle.writer.specs.Meaning.{Written}
 use Rattle.reader.specs.Meaning as read
 use Rattle.reader.specs.Reading.{reading}
-use Rattle.pipes.specs.Ends.{Send, wayOf, outcomeOf, bufferOf, isBodyCall, bodyGiven, Packet, Ends, pipeOf, senderOf, receiverOf, withSent, withRead, connectionAfter, packetsOf, afterSend, allBytes, Delivery, lent, answerOf, afterAnswer}
+use Rattle.pipes.specs.Ends.{Send, wayOf, outcomeOf, bufferOf, bodyGiven, Packet, Ends, pipeOf, senderOf, receiverOf, withSent, withRead, sentFrom, afterSend, allBytes, Delivery, lent, answerOf, afterAnswer}
 use Rattle.pipes.specs.Past.{sent, refusedSend, delivered, World, start, send, deliver, entryOf, deliverFrom, happen, sentBytes, receivedBytes, heldIn, bytesIn, Request, requests}
 use Rattle.pipes.specs.Claims.{AllTaken, NoneChanged}
 use Rattle.pipes.proofs.Moves.{opposite}
@@ -109,7 +109,7 @@ module _ (call : Send) (w : World) (kept : Kept w) where
   -- the world after the send, by what the call comes to
   abbrev sentWorld : Outcome Written → World
   sentWorld o = record {
-    ends = withSent (wayOf call) (connectionAfter given o) (pipeOf (wayOf call) (w .ends) ++ packetsOf (bufferOf given call) (isBodyCall call) o) (w .ends);
+    ends = sentFrom given (wayOf call) call (w .ends) o;
     past = entryOf call (w .ends) o ∷ w .past;
   }
 
@@ -118,7 +118,7 @@ module _ (call : Send) (w : World) (kept : Kept w) where
   refused-keeps n e =
       let same : withSent (wayOf call) given (pipeOf (wayOf call) (w .ends) ++ []) (w .ends) ≡ w .ends = same-ends (wayOf call) (w .ends) in
       let stays : afterSend call (w .ends) ≡ w .ends = ap (λ (o : Outcome Written). sentWorld o .ends) e ∙ same in
-      subst (λ (x : Ends). Kept (record { ends = x; past = refusedSend (w .ends) (afterSend call (w .ends)) ∷ w .past })) (sym same)
+      subst (λ (x : Ends). Kept (record { ends = x; past = refusedSend (bodyGiven call) (w .ends) (afterSend call (w .ends)) ∷ w .past })) (sym same)
       (record {
         meeting = kept .meeting;
         taken = kept .taken;

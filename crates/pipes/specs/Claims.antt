@@ -19,14 +19,14 @@ Taken packet (read.accepted t taken after) = taken ≡ length packet
 abbrev pub AllTaken : List Entry → Type 0
 AllTaken [] = Unit
 AllTaken (sent bytes ∷ before) = AllTaken before
-AllTaken (refusedSend e f ∷ before) = AllTaken before
+AllTaken (refusedSend bytes e f ∷ before) = AllTaken before
 AllTaken (delivered packet lent answer ∷ before) = Taken packet answer × AllTaken before
 
 -- a refused send changed neither end and neither pipe
 abbrev pub NoneChanged : List Entry → Type 0
 NoneChanged [] = Unit
 NoneChanged (sent bytes ∷ before) = NoneChanged before
-NoneChanged (refusedSend e f ∷ before) = (e ≡ f) × NoneChanged before
+NoneChanged (refusedSend bytes e f ∷ before) = (e ≡ f) × NoneChanged before
 NoneChanged (delivered packet lent answer ∷ before) = NoneChanged before
 
 -- no request got more than it declared

@@ -151,14 +151,14 @@ abbrev pub packetsOf : List ℕ → Bool → Outcome Written → List Packet
 packetsOf buffer ofBody (refused n) = []
 packetsOf buffer ofBody (done written) = record { bytes = part buffer 0 (written .size); ofBody = ofBody } ∷ []
 
--- a send: the packet goes last into its pipe
-abbrev pub sendFrom : Connection → Direction → Send → Ends → Ends
-sendFrom c direction call e =
-    withSent direction (connectionAfter c (outcomeOf c call))
-    (pipeOf direction e ++ packetsOf (bufferOf c call) (isBodyCall call) (outcomeOf c call)) e
+-- a send that came to this: the packet goes last into its pipe
+abbrev pub sentFrom : Connection → Direction → Send → Ends → Outcome Written → Ends
+sentFrom c direction call e o =
+    withSent direction (connectionAfter c o) (pipeOf direction e ++ packetsOf (bufferOf c call) (isBodyCall call) o) e
 
+-- a send
 abbrev pub afterSend : Send → Ends → Ends
-afterSend call e = sendFrom (senderOf (wayOf call) e) (wayOf call) call e
+afterSend call e = sentFrom (senderOf (wayOf call) e) (wayOf call) call e (outcomeOf (senderOf (wayOf call) e) call)
 
 -- the bytes of packets, one behind the other
 abbrev pub allBytes : List Packet → List ℕ

@@ -16,11 +16,11 @@ use Rattle.reader.specs.Meaning as read
 use Rattle.reader.specs.Meaning.{Told}
 use Rattle.pipes.specs.Ends.{Send, wayOf, outcomeOf, bodyGiven, Packet, Ends, freshEnds, pipeOf, senderOf, receiverOf, afterSend, Delivery, lent, answerOf, afterAnswer}
 
--- something that happened: a send that was written, with the body bytes given to it; a refused send, with the ends and pipes before it and
--- after it; a delivery, with the packet's bytes, the bytes lent and the answer
+-- something that happened: a send that was written, with the body bytes given to it; a refused send, with the body bytes given to it
+-- and the ends and pipes before it and after it; a delivery, with the packet's bytes, the bytes lent and the answer
 pub data Entry : Type 0 where
   sent : (bytes : List ℕ) → Entry
-  refusedSend : (before after : Ends) → Entry
+  refusedSend : (bytes : List ℕ) (before after : Ends) → Entry
   delivered : (packet lent : List ℕ) → read.Meaning → Entry
 
 -- the ends and pipes, and what happened so far
@@ -39,7 +39,7 @@ pub data Event : Type 0 where
 
 -- what is noted of a send
 abbrev pub entryOf : Send → Ends → Outcome Written → Entry
-entryOf call e (refused n) = refusedSend e (afterSend call e)
+entryOf call e (refused n) = refusedSend (bodyGiven call) e (afterSend call e)
 entryOf call e (done written) = sent (bodyGiven call)
 
 -- a delivery to the end that reads from a pipe; on an empty pipe nothing happens
@@ -69,7 +69,7 @@ run (event ∷ later) w = run later (happen event w)
 abbrev pub sentBytes : List Entry → List ℕ
 sentBytes [] = []
 sentBytes (sent bytes ∷ before) = sentBytes before ++ bytes
-sentBytes (refusedSend e f ∷ before) = sentBytes before
+sentBytes (refusedSend bytes e f ∷ before) = sentBytes before
 sentBytes (delivered packet lent answer ∷ before) = sentBytes before
 
 -- the bytes that an accepted packet hands out as a body, a part of the bytes lent
@@ -92,7 +92,7 @@ bodyHanded lent (read.accepted t taken after) = bodyPart lent t (t .kind)
 abbrev pub receivedBytes : List Entry → List ℕ
 receivedBytes [] = []
 receivedBytes (sent bytes ∷ before) = receivedBytes before
-receivedBytes (refusedSend e f ∷ before) = receivedBytes before
+receivedBytes (refusedSend bytes e f ∷ before) = receivedBytes before
 receivedBytes (delivered packet lent answer ∷ before) = receivedBytes before ++ bodyHanded lent answer
 
 -- the body bytes in a pipe: those that the packets of body calls hold, behind the six bytes that come before a body
@@ -133,5 +133,5 @@ countAnswer lent (read.accepted t taken after) before = countKind lent t (t .kin
 abbrev pub requests : List Entry → List Request
 requests [] = []
 requests (sent bytes ∷ before) = requests before
-requests (refusedSend e f ∷ before) = requests before
+requests (refusedSend bytes e f ∷ before) = requests before
 requests (delivered packet lent answer ∷ before) = countAnswer lent answer (requests before)
