@@ -53,7 +53,7 @@ use Rattle.reader.specs.Reading.{reading, tableAfter}
 use Rattle.reading_laws.proofs.Shown.{text-shown, code-shown, spelled-shown}
 use Rattle.messages.specs.Message.{Text, null, text, Name, coded, spelled, Header, isNull, bytesIn}
 use Rattle.messages.specs.Shown.{textShown, nameShown, headersShown, headerPlaces, messageShown}
-use Rattle.messages.specs.Declared.{namesLength, lengthsIn, zeroDigit, nineDigit, valueFrom, decimalValue, mostDeclared, LengthDeclared, MessageDeclares}
+use Rattle.messages.specs.Declared.{namesLength, lengthValues, zeroDigit, nineDigit, valueFrom, decimalValue, mostDeclared, LengthDeclared, MessageDeclares}
 use Rattle.messages.proofs.Texts.{null-told, text-told}
 use Rattle.messages.proofs.Parses.{accepted-parses}
 use Rattle.messages.proofs.Tables.{tableOf, table-filled, header-places}
@@ -281,14 +281,14 @@ make-more (Declared.Known n) middle after value true values h later = absurd h
 -- headers with these places, where none is refused
 abbrev HeadersMake : List ℕ → Declared → List ℕ → HeadersRead → Type 0
 HeadersMake s before places (HeadersRead.Refused n) = Unit
-HeadersMake s before places (HeadersRead.Headers after end) = MakeAll before after (lengthsIn (headersShown s places))
+HeadersMake s before places (HeadersRead.Headers after end) = MakeAll before after (lengthValues (headersShown s places))
 
 -- with one in front
 header-front : (s : List ℕ) (at value next : ℕ) (before middle : Declared) (places : List ℕ) (r : HeadersRead)
     → HeaderMakes s at before (HeaderRead.Header value middle next) → HeadersMake s middle places r → HeadersMake s before (at ∷ value ∷ places) r
 header-front s at value next before middle places (HeadersRead.Refused n) h later = tt
 header-front s at value next before middle places (HeadersRead.Headers after end) h later =
-    make-more before middle after (textShown s value) (namesLength (nameShown s at)) (lengthsIn (headersShown s places)) h later
+    make-more before middle after (textShown s value) (namesLength (nameShown s at)) (lengthValues (headersShown s places)) h later
 
 -- so many from a place on
 headers-make : (s : List ℕ) (at count : ℕ) (before : Declared)
@@ -363,7 +363,7 @@ forward-by method protocol uri addr host name port ssl count headers (ListsRead.
 
 -- a Forward declares what the headers at its places in the table do
 forward-declares : (s table : List ℕ) (f : Forward) → forwardAt s .end ≡ PacketRead.Packet (Packet.Forward f)
-    → (let p = Packet.Forward f in LengthDeclared (f .declared .0) (lengthsIn (headersShown s (headerPlaces (told p) (tableOf p s table)))))
+    → (let p = Packet.Forward f in LengthDeclared (f .declared .0) (lengthValues (headersShown s (headerPlaces (told p) (tableOf p s table)))))
 unfolding forwardAt listsAt
 forward-declares s table f e =
     let method = byteAfter s firstMethod lastMethod outOfRange afterCode in
@@ -380,10 +380,10 @@ forward-declares s table f e =
     let many = headers-places Direction.ToContainer s count (HeadersRead.Headers (by .0) (by .1)) (by .2) in
     let places : headerPlaces (told (Packet.Forward f)) (tableOf (Packet.Forward f) s table) ≡ headers .places =
     header-places (Packet.Forward f) s table (headers .places) (behindHeaders s (headers .end) .places) refl (omega (arith, many, by .4)) in
-    let make : MakeAll Declared.Absent (by .0) (lengthsIn (headersShown s (headers .places))) =
+    let make : MakeAll Declared.Absent (by .0) (lengthValues (headersShown s (headers .places))) =
     subst (HeadersMake s Declared.Absent (headers .places)) (by .2) (headers-behind s count) in
-    subst (λ (l : List ℕ). LengthDeclared (f .declared .0) (lengthsIn (headersShown s l))) (sym places)
-    (subst (λ (n : ℕ). LengthDeclared n (lengthsIn (headersShown s (headers .places)))) (sym (by .3)) (all-declared (by .0) (lengthsIn (headersShown s (headers .places))) make))
+    subst (λ (l : List ℕ). LengthDeclared (f .declared .0) (lengthValues (headersShown s l))) (sym places)
+    (subst (λ (n : ℕ). LengthDeclared n (lengthValues (headersShown s (headers .places)))) (sym (by .3)) (all-declared (by .0) (lengthValues (headersShown s (headers .places))) make))
 
 -- a packet declares what the message that it shows does
 packet-declares : (p : Packet) (s table : List ℕ) → packetAt (kindIn p) s .end ≡ PacketRead.Packet p

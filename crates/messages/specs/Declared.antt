@@ -21,9 +21,9 @@ abbrev pub namesLength : Name → Bool
 namesLength name = sameName true (ascii "content-length") (nameText name)
 
 -- the values of the headers whose name is content-length
-abbrev pub lengthsIn : List Header → List Text
-lengthsIn [] = []
-lengthsIn (header ∷ later) = pick (namesLength (header .name)) (header .value ∷ lengthsIn later) (lengthsIn later)
+abbrev pub lengthValues : List Header → List Text
+lengthValues [] = []
+lengthValues (header ∷ later) = pick (namesLength (header .name)) (header .value ∷ lengthValues later) (lengthValues later)
 
 -- the byte of the digit 0, and that of 9
 abbrev pub zeroDigit : ℕ
@@ -56,7 +56,7 @@ LengthDeclared n (text digits ∷ second ∷ later) = ⊥
 abbrev pub MessageDeclares : ℕ → Message → Type 0
 MessageDeclares n cping = n ≡ 0
 MessageDeclares n cpong = n ≡ 0
-MessageDeclares n (forward request) = LengthDeclared n (lengthsIn (request .headers))
+MessageDeclares n (forward request) = LengthDeclared n (lengthValues (request .headers))
 MessageDeclares n (body bytes) = n ≡ 0
 MessageDeclares n (getBody asked) = n ≡ 0
 MessageDeclares n (sendHeaders response) = n ≡ 0

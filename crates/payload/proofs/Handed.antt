@@ -53,7 +53,7 @@ use Rattle.payload.specs.Lists.{headersAfter, listsOf, attributesBehind,
 use Rattle.payload.specs.Forward.{firstMethod, lastMethod, forwardOf, forwardAt}
 use Rattle.payload.specs.SendHeaders.{leastStatus, greatestStatus, sendHeadersOf, sendHeadersAt}
 use Rattle.payload.specs.Kinds.{packetAt, kindIn}
-use Rattle.payload.specs.Handed.{StringEnds, NumberEnds, NameEnds, StringThere, HeadersHanded, ValueThere, AttributesHanded, ListsHanded, ForwardHanded, HeadHanded, bodySize, BodyHanded, ChunkHanded, GetHanded, EndHanded, BareHanded, PacketHanded}
+use Rattle.payload.specs.Handed.{StringEnds, NumberEnds, NameEnds, StringThere, HeadersHanded, ValueThere, AttributesHanded, ListsHanded, ForwardHanded, HeadHanded, bodySizeRead, BodyHanded, ChunkHanded, GetHanded, EndHanded, BareHanded, PacketHanded}
 use Rattle.payload.proofs.Laws.{body-inside}
 use Rattle.payload.proofs.Below.{attributes-many}
 use Rattle.payload.proofs.Listing.{HeadersPlaces, headers-places}

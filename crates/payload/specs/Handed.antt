@@ -108,12 +108,12 @@ pub record HeadHanded (s : List ℕ) (status message headers : ℕ) (places : Li
   pub headers-there : HeadersHanded Direction.ToServer s headers-place places (length s)
 
 -- the size that a body packet tells: none where it has no payload, else the payload's first integer
-abbrev pub bodySize : List ℕ → NumberRead
-bodySize s = pick (eqb (length s) payloadPlace) (NumberRead.Number 0 payloadPlace) (integerAt s payloadPlace)
+abbrev pub bodySizeRead : List ℕ → NumberRead
+bodySizeRead s = pick (eqb (length s) payloadPlace) (NumberRead.Number 0 payloadPlace) (integerAt s payloadPlace)
 
 -- a body packet: its size is what is read, and so many bytes stand behind it, the rest of the packet
 pub record BodyHanded (s : List ℕ) (start len : ℕ) (places : List ℕ) : Type 0 where
-  pub size-read : bodySize s ≡ NumberRead.Number len start
+  pub size-read : bodySizeRead s ≡ NumberRead.Number len start
   pub rest : start + len ≡ length s
   pub no-places : places ≡ []
 
