@@ -26,6 +26,7 @@ use Rattle.payload.specs.Forward.{forwardOf, forwardAt, firstMethod, lastMethod
 use Rattle.payload.specs.SendHeaders.{sendHeadersOf, sendHeadersAt, greatestStatus, leastStatus}
 use Rattle.payload.specs.declared.field.FieldRead.{FieldRead}
 use Rattle.payload.specs.declared.found.PacketRead.{PacketRead}
+use Rattle.payload.specs.Code.{afterCodePlace, codePlace}
 use Rattle.fields.specs.Fault.{unless, orElse, firstFault, stringFault, rangeFault}
 use Rattle.fields.specs.Field.{opening, faultsOf}
 use Rattle.fields.proofs.Sizes.{boolean-one}
@@ -175,16 +176,16 @@ abbrev pub reached : ℕ → ℕ → FieldRead → FieldRead
 reached value size = behind (λ at. FieldRead.Field at value (at + size))
 
 -- before the first of them only the opening was read
-reads-start : (s a rest : List ℕ) → length a ≡ 5 → s ≡ a ++ rest → Reads s afterCode 0 4 0 5 rest
+reads-start : (s a rest : List ℕ) → length a ≡ afterCodePlace → s ≡ a ++ rest → Reads s afterCode 0 codePlace 0 afterCodePlace rest
 reads-start s a rest opened e = record { is = refl; ahead = record { front = a; is = e; place = opened } }
 
 -- which has five bytes
-pub opening-five : (kind : BuildingKind) (n : ℕ) → length (opening (kindIn kind) n) ≡ 5
+pub opening-five : (kind : BuildingKind) (n : ℕ) → length (opening (kindIn kind) n) ≡ afterCodePlace
 opening-five BuildingKind.Forward n = refl
 opening-five BuildingKind.SendHeaders n = refl
 
 -- the fixed fields of a Send Headers, behind an opening, and a count of headers
-module _ (a b : List ℕ) (status : ℕ) (null : Bool) (message : List ℕ) (count : ℕ) (opened : length a ≡ 5) (small : status < 65536)
+module _ (a b : List ℕ) (status : ℕ) (null : Bool) (message : List ℕ) (count : ℕ) (opened : length a ≡ afterCodePlace) (small : status < 65536)
     (short : length message ≤ maxPacket) (few : count ≤ maxHeaders) where
   -- each is read by the first fault up to it
   send-headers-by : (
@@ -192,9 +193,9 @@ module _ (a b : List ℕ) (status : ℕ) (null : Bool) (message : List ℕ) (cou
       let g1 = rangeFault leastStatus greatestStatus status in
       let g2 = orElse g1 (stringFault StringField.Message null message) in
       let g3 = orElse g2 0 in
-      let n = 7 + length (stringBytes null message) in
+      let n = afterCodePlace + 2 + length (stringBytes null message) in
       sendHeadersAt s
-      ≡ ending (sendHeadersOf (length s) (fieldUnless g1 5 status 7) (fieldUnless g2 7 0 n) (fieldUnless g3 n count (n + 2)))
+      ≡ ending (sendHeadersOf (length s) (fieldUnless g1 afterCodePlace status (afterCodePlace + 2)) (fieldUnless g2 (afterCodePlace + 2) 0 n) (fieldUnless g3 n count (n + 2)))
       (headersAfter Direction.ToServer s (fieldUnless g3 n count (n + 2))))
   unfolding sendHeadersAt
   send-headers-by =
@@ -219,7 +220,7 @@ module _ (a b : List ℕ) (status : ℕ) (null : Bool) (message : List ℕ) (cou
   pub send-headers-read : firstFault (faultsOf (fixed BuildingKind.SendHeaders (sendHeadersFields status null message))) ≡ 0
       → (
       let s = among a (sendHeadersFields status null message) (integerBytes count ++ b) in
-      let f1 = FieldRead.Field 5 status 7 in
+      let f1 = FieldRead.Field afterCodePlace status (afterCodePlace + 2) in
       let f2 = reached 0 (length (stringBytes null message)) f1 in
       let f3 = reached count 2 f2 in
       sendHeadersAt s ≡ ending (sendHeadersOf (length s) f1 f2 f3) (headersAfter Direction.ToServer s f3))
@@ -228,7 +229,7 @@ module _ (a b : List ℕ) (status : ℕ) (null : Bool) (message : List ℕ) (cou
       rw (none .1 .0, none .1 .1 .0) at send-headers-by
 
 -- the fixed fields of a Forward, behind an opening, and a count of headers
-module _ (a b : List ℕ) (numbers : Numbers) (nulls : Nulls) (protocol uri addr host name : List ℕ) (count : ℕ) (opened : length a ≡ 5)
+module _ (a b : List ℕ) (numbers : Numbers) (nulls : Nulls) (protocol uri addr host name : List ℕ) (count : ℕ) (opened : length a ≡ afterCodePlace)
     (port : numbers .«server_port» < 65536) (few : count ≤ maxHeaders) (protocol-short : length protocol ≤ maxPacket) (uri-short : length uri ≤ maxPacket)
     (addr-short : length addr ≤ maxPacket) (host-short : length host ≤ maxPacket) (name-short : length name ≤ maxPacket) where
   -- each is read by the first fault up to it
@@ -243,14 +244,14 @@ module _ (a b : List ℕ) (numbers : Numbers) (nulls : Nulls) (protocol uri addr
       let g7 = orElse g6 0 in
       let g8 = orElse g7 0 in
       let g9 = orElse g8 0 in
-      let n3 = 6 + length (stringBytes (nulls .protocol) protocol) in
+      let n3 = afterCodePlace + 1 + length (stringBytes (nulls .protocol) protocol) in
       let n4 = n3 + length (stringBytes (nulls .«req_uri») uri) in
       let n5 = n4 + length (stringBytes (nulls .«remote_addr») addr) in
       let n6 = n5 + length (stringBytes (nulls .«remote_host») host) in
       let n7 = n6 + length (stringBytes (nulls .«server_name») name) in
       forwardAt s
       ≡ ending
-      (forwardOf (fieldUnless g1 5 (numbers .method) 6) (fieldUnless g2 6 0 n3) (fieldUnless g3 n3 0 n4) (fieldUnless g4 n4 0 n5) (fieldUnless g5 n5 0 n6)
+      (forwardOf (fieldUnless g1 afterCodePlace (numbers .method) (afterCodePlace + 1)) (fieldUnless g2 (afterCodePlace + 1) 0 n3) (fieldUnless g3 n3 0 n4) (fieldUnless g4 n4 0 n5) (fieldUnless g5 n5 0 n6)
       (fieldUnless g6 n6 0 n7) (fieldUnless g7 n7 (numbers .«server_port») (n7 + 2)) (fieldUnless g8 (n7 + 2) (booleanNumber (numbers .«is_ssl»)) (n7 + 2 + 1))
       (fieldUnless g9 (n7 + 2 + 1) count (n7 + 2 + 1 + 2)))
       (listsAt s (fieldUnless g9 (n7 + 2 + 1) count (n7 + 2 + 1 + 2))))
@@ -289,7 +290,7 @@ module _ (a b : List ℕ) (numbers : Numbers) (nulls : Nulls) (protocol uri addr
   pub forward-read : firstFault (faultsOf (fixed BuildingKind.Forward (forwardFields numbers nulls protocol uri addr host name))) ≡ 0
       → (
       let s = among a (forwardFields numbers nulls protocol uri addr host name) (integerBytes count ++ b) in
-      let f1 = FieldRead.Field 5 (numbers .method) 6 in
+      let f1 = FieldRead.Field afterCodePlace (numbers .method) (afterCodePlace + 1) in
       let f2 = reached 0 (length (stringBytes (nulls .protocol) protocol)) f1 in
       let f3 = reached 0 (length (stringBytes (nulls .«req_uri») uri)) f2 in
       let f4 = reached 0 (length (stringBytes (nulls .«remote_addr») addr)) f3 in

@@ -114,7 +114,7 @@ part-whole d s n e =
     framed-whole (record {
       first = getD-take n s 0 0 (omega arith) ∙ f .first;
       second = getD-take n s 1 0 (omega arith) ∙ f .second;
-      size = rw (getD-take n s 2 0 (omega arith), getD-take n s 3 0 (omega arith)) (f .size);
+      size = rw (getD-take n s lengthPlace 0 (omega arith), getD-take n s (lengthPlace + 1) 0 (omega arith)) (f .size);
       most = f .most;
       there = omega (arith, length-part s 0 n (omega arith));
     })

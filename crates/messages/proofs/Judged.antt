@@ -22,7 +22,7 @@ use Rattle.wire.specs.declared.read.StringRead.{StringRead}
 use Rattle.wire.proofs.Bytes.{part-middle}
 use Rattle.wire.proofs.Field.{size-null, size-text}
 use Rattle.wire.proofs.RoundTrip.{integer-written}
-use Rattle.names.specs.Names.{requestNames, responseNames, isListed}
+use Rattle.names.specs.Names.{requestNames, responseNames, isListed, firstCode, namesIn}
 use Rattle.names.specs.Header.{beginsCode, codeFault, spelledFault}
 use Rattle.names.specs.Length.{decimalOf, asDeclared}
 use Rattle.names.specs.Attribute.{attributeKind, mayRepeat, isServed, attributeFault}
@@ -30,6 +30,7 @@ use Rattle.packet.specs.declared.AttributeKind.{AttributeKind}
 use Rattle.names.specs.declared.length.Decimal.{Decimal}
 use Rattle.names.specs.declared.length.Declared.{Declared}
 use Rattle.names.specs.declared.length.Declaring.{Declaring}
+use Rattle.names.specs.declared.NameList.{NameList}
 use Rattle.connection.specs.Connection.{maxPacket}
 use Rattle.headers.specs.Headers.{declares, declaredBy, valued, valueOf, valueAt, spelledOf, nameAt, headerOf, headerAt}
 use Rattle.headers.specs.declared.NameRead.{NameRead}
@@ -246,8 +247,16 @@ code-begins d code h = go d h
     listed first past false u p q h = absurd (omega (arith, h))
 
     go : (d : Direction) → codeFault d code ≡ 0 → (40960 ≤ code) × (code < 41216)
-    go Direction.ToContainer h = let r = listed 40961 40975 (leb 40961 code) (ltb code 40975) refl refl h in (omega arith, omega arith)
-    go Direction.ToServer h = let r = listed 40961 40972 (leb 40961 code) (ltb code 40972) refl refl h in (omega arith, omega arith)
+    go Direction.ToContainer h =
+        let first : ℕ = firstCode NameList.RequestHeaders in
+        let past : ℕ = first + length (namesIn NameList.RequestHeaders) in
+        let r = listed first past (leb first code) (ltb code past) refl refl h in
+        (omega arith, omega arith)
+    go Direction.ToServer h =
+        let first : ℕ = firstCode NameList.ResponseHeaders in
+        let past : ℕ = first + length (namesIn NameList.ResponseHeaders) in
+        let r = listed first past (leb first code) (ltb code past) refl refl h in
+        (omega arith, omega arith)
 
 -- what is declared by a value without fault
 abbrev pub declaredIn : Declaring → Declared

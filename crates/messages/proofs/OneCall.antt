@@ -24,7 +24,7 @@ use Rattle.wire.proofs.Field.{boolean-inside}
 use Rattle.wire.proofs.RoundTrip.{integer-written, integer-kept, boolean-kept}
 use Rattle.wire.specs.Facts.{Bytes}
 use Rattle.wire.proofs.Parts.{part-zero, rest-part, stands-there}
-use Rattle.wire.specs.Refusal.{cutShort, leftOver, sizeWrong, stringWrong}
+use Rattle.wire.specs.Refusal.{cutShort, leftOver, sizeWrong, stringWrong, notNow}
 use Rattle.connection.specs.Cycle.{kindOf, directionOf, inState, inSize, allowed, after}
 use Rattle.connection.specs.declared.Connection.{Connection}
 use Rattle.connection.specs.declared.Kind.{Kind}
@@ -89,8 +89,8 @@ module _ (c : Connection) (m : Move) (payload buffer : List ℕ) where
       let call : Call Written = sending c m payload in
       let d = answered-done (refusalOf call (length buffer)) (call .answer) w e in
       let fine = faultless (sendingFaults c m) (done-own call buffer (refusalOf call (length buffer)) refl (d .0)) in
-      let state : inState c (kindOf m) ≡ true = unless-none (inState c (kindOf m)) 13 (omega arith) (fine .0) in
-      let size : inSize c m ≡ true = unless-none (inSize c m) 14 (omega arith) (fine .1 .0) in
+      let state : inState c (kindOf m) ≡ true = unless-none (inState c (kindOf m)) notNow (omega arith) (fine .0) in
+      let size : inSize c m ≡ true = unless-none (inSize c m) sizeWrong (omega arith) (fine .1 .0) in
       let fits = done-fits call buffer (refusalOf call (length buffer)) refl (d .0) in
       let own : List ℕ = packetOf m payload in
       let length-is : w .size ≡ length own = ap (λ (v : Written). v .size) (sym (d .1)) in
@@ -138,7 +138,7 @@ pub get-parses : (asked : ℕ) → asked < 65536 → Parses Direction.ToServer (
 unfolding messageBytes
 get-parses asked small =
     coded-parses (Packet.GetBody asked) (integerBytes asked) refl (omega arith)
-    (get-is _ (NumberRead.Number asked 7) (integer-written (opening Kind.GetBody 3) [] asked small))
+    (get-is _ (NumberRead.Number asked (afterCodePlace + 2)) (integer-written (opening Kind.GetBody 3) [] asked small))
 
 -- and an End, with whether the connection is used again
 pub end-parses : (reuse : Bool) → Parses Direction.ToServer (messageBytes (end reuse)) (Packet.End reuse)
@@ -467,15 +467,15 @@ body-read s p = go (eqb (length s) payloadPlace) (leb bodyStart (length s)) refl
     go false false q e = absurd (let z : _≡_ {A = ℕ} 0 1 = cc in omega arith)
 
 -- a packet with a code, and so many bytes behind it
-behind-kept : {d : Direction} {s : List ℕ} {p : Packet} → Parses d s p → isBody (kindIn p) ≡ false → Bytes s → (n : ℕ) → length s ≡ 5 + n
-    → (behind : List ℕ) → part s 5 n ≡ behind → s ≡ packet (directionOf (kindIn p)) (codeOf (kindIn p) ∷ behind)
+behind-kept : {d : Direction} {s : List ℕ} {p : Packet} → Parses d s p → isBody (kindIn p) ≡ false → Bytes s → (n : ℕ) → length s ≡ afterCodePlace + n
+    → (behind : List ℕ) → part s afterCodePlace n ≡ behind → s ≡ packet (directionOf (kindIn p)) (codeOf (kindIn p) ∷ behind)
 behind-kept {d} {s} {p} r b bytes n size behind e =
-    coded-kept r b bytes ∙ ap (λ (l : List ℕ). packet (directionOf (kindIn p)) (codeOf (kindIn p) ∷ l)) (rest-part s 5 n size ∙ e)
+    coded-kept r b bytes ∙ ap (λ (l : List ℕ). packet (directionOf (kindIn p)) (codeOf (kindIn p) ∷ l)) (rest-part s afterCodePlace n size ∙ e)
 
 -- the payload of a body packet is that of its bytes
 body-payload : {s : List ℕ} {p : Part} → Bytes s → BodyRead s p
     → (drop payloadPlace s ≡ bodyPayload (part s (p .start .0) (p .len))) × (length (part s (p .start .0) (p .len)) ≡ p .len)
-body-payload {s} bytes (empty e) = rw (part-zero s 4) (rest-part s 4 0 (omega (arith, e)) ∙ part-zero s 4, refl)
+body-payload {s} bytes (empty e) = rw (part-zero s payloadPlace) (rest-part s payloadPlace 0 (omega (arith, e)) ∙ part-zero s payloadPlace, refl)
 body-payload {s} bytes (sized n e some size) =
     let long : length (part s bodyStart n) ≡ n = length-part s bodyStart n (omega (arith, size)) in
     let behind : drop payloadPlace s ≡ integerBytes n ++ part s bodyStart n =
@@ -487,8 +487,8 @@ module _ {d : Direction} {s : List ℕ} (bytes : Bytes s) where
   bare-kept : (p : Packet) → isBody (kindIn p) ≡ false → packetAt (kindIn p) s .end ≡ bareAt s p → Parses d s p
       → s ≡ packet (directionOf (kindIn p)) (codeOf (kindIn p) ∷ [])
   bare-kept p b e r =
-      let f = finished-is (length s) 5 p p (sym e ∙ r .fields-are) in
-      behind-kept r b bytes 0 (sym (f .0)) [] (part-zero s 5)
+      let f = finished-is (length s) afterCodePlace p p (sym e ∙ r .fields-are) in
+      behind-kept r b bytes 0 (sym (f .0)) [] (part-zero s afterCodePlace)
 
   -- of CPing
   cping-kept : Parses d s Packet.CPing → s ≡ messageBytes cping
@@ -507,7 +507,7 @@ module _ {d : Direction} {s : List ℕ} (bytes : Bytes s) where
       let f = get-read s asked (r .fields-are) in (
         behind-kept r refl bytes 2 (f .0) (integerBytes asked)
             (integer-kept s afterCodePlace bytes (omega (arith, f .0)) ∙ ap integerBytes (f .1)),
-        omega (arith, f .1, bytes 5, bytes 6),
+        omega (arith, f .1, bytes afterCodePlace, bytes (afterCodePlace + 1)),
       )
 
   -- of an End
@@ -515,7 +515,7 @@ module _ {d : Direction} {s : List ℕ} (bytes : Bytes s) where
   unfolding messageBytes
   end-kept reuse r =
       let f = end-read s reuse (r .fields-are) in
-      behind-kept r refl bytes 1 (f .0) (booleanBytes reuse) (boolean-kept s 5 reuse 6 (f .1))
+      behind-kept r refl bytes 1 (f .0) (booleanBytes reuse) (boolean-kept s afterCodePlace reuse (afterCodePlace + 1) (f .1))
 
   -- of a chunk
   chunk-kept : (p : Part) → Parses d s (Packet.BodyChunk p)

@@ -234,7 +234,7 @@ pub coded-kept : {d : Direction} {s : List ℕ} {p : Packet} → Parses d s p �
     → s ≡ packet (directionOf (kindIn p)) (codeOf (kindIn p) ∷ drop afterCodePlace s)
 coded-kept {d} {s} {p} r b bytes =
     let code = code-kept d s (kindIn p) b (r .kind-is) in
-    let behind : drop 4 s ≡ codeOf (kindIn p) ∷ drop afterCodePlace s = drop-cons s 4 0 (omega (arith, code .0)) ∙ ap (λ (n : ℕ). n ∷ drop afterCodePlace s) (code .1) in
+    let behind : drop codePlace s ≡ codeOf (kindIn p) ∷ drop afterCodePlace s = drop-cons s codePlace 0 (omega (arith, code .0)) ∙ ap (λ (n : ℕ). n ∷ drop afterCodePlace s) (code .1) in
     head-kept d s (length s) bytes (r .whole-is) refl ∙ ap (packet d) behind
     ∙ ap (λ (way : Direction). packet way (codeOf (kindIn p) ∷ drop afterCodePlace s)) (sym (r .way))
 

@@ -80,7 +80,7 @@ module _ {s : List ℕ} (short : length s ≤ maxPacket) (request : Request) (ow
       let read =
       forward-read (stands .front) (behindCount request) (numbersOf request) (nullsOf request) (bytesIn (request .protocol)) (bytesIn (request .uri))
       (bytesIn (request .addr)) (bytesIn (request .host)) (bytesIn (request .name)) count (stands .place) port-fits few h1 h2 h3 h4 h5 (rw own) in
-      let f1 : FieldRead = FieldRead.Field afterCodePlace (request .method) 6 in
+      let f1 : FieldRead = FieldRead.Field afterCodePlace (request .method) (afterCodePlace + 1) in
       let f2 : FieldRead = reached 0 (length (textBytes (request .protocol))) f1 in
       let f3 : FieldRead = reached 0 (length (textBytes (request .uri))) f2 in
       let f4 : FieldRead = reached 0 (length (textBytes (request .addr))) f3 in
@@ -174,7 +174,7 @@ module _ {s : List ℕ} (short : length s ≤ maxPacket) (response : Response) (
       let read =
       send-headers-read (stands .front) b (response .status) (isNull (response .message)) (bytesIn (response .message)) count (stands .place)
       (omega (arith, range-most leastStatus greatestStatus (response .status) (none .0))) size few (rw own) in
-      let f1 : FieldRead = FieldRead.Field afterCodePlace (response .status) 7 in
+      let f1 : FieldRead = FieldRead.Field afterCodePlace (response .status) (afterCodePlace + 2) in
       let f2 : FieldRead = reached 0 (length (textBytes (response .message))) f1 in
       let f3 : FieldRead = reached count 2 f2 in
       let l : List ℕ = among (stands .front) (responseFields response) (integerBytes count ++ b) in

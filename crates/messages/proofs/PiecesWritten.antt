@@ -18,7 +18,7 @@ use Rattle.connection.specs.Cycle.{directionOf, inState}
 use Rattle.connection.specs.declared.Connection.{Connection}
 use Rattle.connection.specs.Connection.{maxPacket}
 use Rattle.places.specs.Entries.{maxHeaders}
-use Rattle.payload.specs.Code.{codeOf}
+use Rattle.payload.specs.Code.{codeOf, afterCodePlace, payloadPlace}
 use Rattle.fields.specs.Field.{Field, opening, bytesOf}
 use Rattle.fields.proofs.Rows.{bytes-append}
 use Rattle.building_record.specs.Record.{kindIn, fields}
@@ -47,7 +47,7 @@ unclosed kind own size count rest =
 
 module _ (kind : BuildingKind) (own rest buffer : List ℕ) where
   -- how long it is goes neither by the length that it tells nor by its count
-  unclosed-length : (size count : ℕ) → length (unclosed kind own size count rest) ≡ 7 + length own + length rest
+  unclosed-length : (size count : ℕ) → length (unclosed kind own size count rest) ≡ afterCodePlace + 2 + length own + length rest
   unclosed-length size count =
       let d : Direction = directionOf (kindIn kind) in
       omega (
@@ -58,17 +58,17 @@ module _ (kind : BuildingKind) (own rest buffer : List ℕ) where
       )
 
   -- the count is set
-  count-set : (count : ℕ) → over (over buffer 0 (unclosed kind own 0 0 rest)) (5 + length own) (integerBytes count)
+  count-set : (count : ℕ) → over (over buffer 0 (unclosed kind own 0 0 rest)) (afterCodePlace + length own) (integerBytes count)
       ≡ over buffer 0 (unclosed kind own 0 count rest)
   count-set count =
       let d : Direction = directionOf (kindIn kind) in
       let front : List ℕ = leading d ++ (integerBytes 0 ++ (codeOf (kindIn kind) ∷ own)) in
-      let place : 5 + length own ≡ length front =
+      let place : afterCodePlace + length own ≡ length front =
       omega (arith, length-leading d, length-append (leading d) (integerBytes 0 ++ (codeOf (kindIn kind) ∷ own))) in
       let parted : (n : ℕ) → front ++ (integerBytes n ++ rest) ≡ unclosed kind own 0 n rest =
       λ n. append-assoc (leading d) (integerBytes 0 ++ (codeOf (kindIn kind) ∷ own)) (integerBytes n ++ rest) in
-      ap (λ (l : List ℕ). over (over buffer 0 l) (5 + length own) (integerBytes count)) (sym (parted 0))
-      ∙ over-inside buffer front (integerBytes 0) (integerBytes count) rest (5 + length own) place refl
+      ap (λ (l : List ℕ). over (over buffer 0 l) (afterCodePlace + length own) (integerBytes count)) (sym (parted 0))
+      ∙ over-inside buffer front (integerBytes 0) (integerBytes count) rest (afterCodePlace + length own) place refl
       ∙ ap (over buffer 0) (parted count)
 
   -- the length is set
@@ -79,13 +79,13 @@ module _ (kind : BuildingKind) (own rest buffer : List ℕ) where
       (codeOf (kindIn kind) ∷ (own ++ (integerBytes count ++ rest))) 2 (sym (length-leading (directionOf (kindIn kind)))) refl
 
   -- and with both set the last bytes are written
-  all-set : (next count headers : ℕ) (came : Bool) → next ≡ length (unclosed kind own 0 0 rest) → count ≡ 5 + length own
+  all-set : (next count headers : ℕ) (came : Bool) → next ≡ length (unclosed kind own 0 0 rest) → count ≡ afterCodePlace + length own
       → length (unclosed kind own 0 0 rest) ≤ length buffer
       → closed (fields kind next count headers came) (over buffer 0 (unclosed kind own 0 0 rest))
-      ≡ over buffer 0 (unclosed kind own (next + length (lastBytes kind) - 4) headers rest ++ lastBytes kind)
+      ≡ over buffer 0 (unclosed kind own (next + length (lastBytes kind) - payloadPlace) headers rest ++ lastBytes kind)
   unfolding closed
   all-set next count headers came behind place fits =
-      let size : ℕ = next + length (lastBytes kind) - 4 in
+      let size : ℕ = next + length (lastBytes kind) - payloadPlace in
       let last : List ℕ = lastBytes kind in
       let end : next ≡ 0 + length (unclosed kind own size headers rest) =
       omega (arith, unclosed-length 0 0, unclosed-length size headers) in
@@ -134,7 +134,7 @@ module _ (kind : BuildingKind) (own : List Field) (headers : List Header) (attri
       )
 
   -- and how long its payload is
-  payload-length : length (wholePacket kind own headers attributes) - 4 ≡ length (piecesPayload kind own headers attributes)
+  payload-length : length (wholePacket kind own headers attributes) - payloadPlace ≡ length (piecesPayload kind own headers attributes)
   payload-length =
       let d : Direction = directionOf (kindIn kind) in
       let payload : List ℕ = piecesPayload kind own headers attributes in
@@ -146,7 +146,7 @@ module _ (kind : BuildingKind) (own : List Field) (headers : List Header) (attri
   pieces-parts = rw (bytes-append own (unset ∷ [])) (simp append-assoc)
 
   -- where their count is
-  count-place : countPlace kind own ≡ 5 + length (bytesOf own)
+  count-place : countPlace kind own ≡ afterCodePlace + length (bytesOf own)
   count-place =
       omega (
         arith,
@@ -161,7 +161,7 @@ module _ (kind : BuildingKind) (own : List Field) (headers : List Header) (attri
       → closed (behindAll kind own headers attributes came) (over buffer 0 (piecesBytes kind own headers attributes)) ≡ over buffer 0 (wholePacket kind own headers attributes)
   closed-bytes buffer came fits =
       let next : ℕ = length (piecesBytes kind own headers attributes) in
-      let size : next + length (lastBytes kind) - 4 ≡ length (piecesPayload kind own headers attributes) =
+      let size : next + length (lastBytes kind) - payloadPlace ≡ length (piecesPayload kind own headers attributes) =
       omega (arith, whole-length, payload-length) in
       all-set kind (bytesOf own) (listsBytes kind headers attributes) buffer next (countPlace kind own) (length headers) came refl count-place fits
       ∙ ap (λ (n : ℕ). over buffer 0 (unclosed kind (bytesOf own) n (length headers) (listsBytes kind headers attributes) ++ lastBytes kind)) size
