@@ -22,6 +22,7 @@ use Rattle.wire.proofs.RoundTrip.{integer-written, string-written}
 use Rattle.wire.specs.Facts.{written}
 use Rattle.wire.specs.Refusal.{stringWrong}
 use Rattle.fields.specs.Fault.{stringFault}
+use Rattle.fields.specs.Judged.{judged}
 
 -- a text that holds a byte which no string may hold
 text-barred : (p t b : List ℕ) → holdsBarred t ≡ true → textAt (p ++ (t ++ (0 ∷ b))) (length p) (length t) ≡ StringRead.Refused stringWrong
@@ -80,10 +81,7 @@ string-refused a b false true text h bad =
     ∙ sym (after-is (a ++ (integerBytes nullLength ++ b)) false nullLength (length a + 2) true true refl refl)
 string-refused a b optional false text h bad = text-refused a b optional text h bad
 
--- what reading answers where a string stands that was judged: it is read, or refused with its fault
-abbrev pub judged : ℕ → ℕ → Bool → List ℕ → StringRead
-judged fault at null text = pick (eqb fault 0) (written at null text) (StringRead.Refused fault)
-
+-- what reading answers where a string was written is what it was judged to be
 pub string-judged : (a b : List ℕ) (field : StringField) (null : Bool) (text : List ℕ) → length text < nullLength
     → stringAt (a ++ (stringBytes null text ++ b)) (length a) (isOptional field) ≡ judged (stringFault field null text) (length a) null text
 unfolding stringFault

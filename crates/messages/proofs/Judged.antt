@@ -44,7 +44,8 @@ use Rattle.attributes.proofs.Laws.{text-value, integer-value, pair-value, coded
 use Rattle.fields.specs.Fault.{unless, orElse, firstFault, stringFault}
 use Rattle.fields.specs.Field.{Field, faultsOf, bytesOf}
 use Rattle.fields.proofs.Sizes.{or-first, or-second}
-use Rattle.fields.proofs.Judged.{judged, string-judged}
+use Rattle.fields.specs.Judged.{judged}
+use Rattle.fields.proofs.Judged.{string-judged}
 use Rattle.pieces.specs.Header.{spelledName, declaringFault, valueFault, codedFields, spelledFields}
 use Rattle.pieces.specs.Attribute.{isText, isInteger, isPair, textFields, integerFields, pairFields}
 

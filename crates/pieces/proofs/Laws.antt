@@ -6,15 +6,14 @@ use mathlib.Core.Path.{_≡_, sym, ap, _∙_}
 use mathlib.Core.Bool.{Bool}
 use mathlib.Core.List.{List, [], _∷_, _++_, append-nil}
 use Prim.Native.Nat.{ℕ, _+_, _≤_}
-use lib.Dec.{leb, eqb}
-use lib.ListN.{length, getD, length-append}
-use Rattle.wire.specs.Pick.{both, between}
+use lib.Dec.{leb}
+use lib.ListN.{length, length-append}
+use Rattle.wire.specs.Pick.{between}
 use Rattle.wire.specs.Bytes.{integerBytes}
 use Rattle.wire.specs.Field.{booleanBytes, stringBytes}
 use Rattle.wire.proofs.Tests.{both-second}
 use Rattle.wire.specs.Refusal.{outOfRange}
 use Rattle.connection.specs.declared.Kind.{Kind}
-use Rattle.payload.specs.Code.{codeOf}
 use Rattle.names.specs.Header.{headerNames}
 use Rattle.names.specs.Names.{codeIn}
 use Rattle.names.specs.declared.CodeFound.{CodeFound}
@@ -28,7 +27,7 @@ use Rattle.building_record.specs.declared.BuildingKind.{BuildingKind}
 use Rattle.pieces.specs.declared.forward.Numbers.{Numbers}
 use Rattle.pieces.specs.declared.forward.Nulls.{Nulls}
 use Rattle.building_record.specs.declared.Building.{Building}
-use Rattle.building_record.specs.Record.{kindIn, directionIn, isPossible}
+use Rattle.building_record.specs.Record.{directionIn}
 use Rattle.pieces.specs.Fixed.{fixed, forwardFields, sendHeadersFields}
 use Rattle.pieces.specs.Header.{namedBy, namedCall}
 use Rattle.pieces.specs.Private.{forwardStrings, forwardTail}

@@ -23,7 +23,7 @@ use Rattle.building_record.specs.declared.Building.{Building}
 use Rattle.building_record.specs.Record.{directionIn}
 use Rattle.pieces.specs.declared.forward.Numbers.{Numbers}
 use Rattle.pieces.specs.declared.forward.Nulls.{Nulls}
-use Rattle.pieces.specs.Fixed.{fixedCall, forwardFields, forwardCall, sendHeadersCall}
+use Rattle.pieces.specs.Fixed.{fixedCall, forwardCall, sendHeadersCall}
 use Rattle.pieces.specs.Header.{spelledName, valueFault, headerValue, codedName, headerCall, codedCall, spelledCall, namedBy, namedCall}
 use Rattle.pieces.specs.Attribute.{isText, isPair, codeField, attributeCall, textCall, pairCall}
 

@@ -14,6 +14,7 @@ use Rattle.names.specs.Header.{codeFault}
 use Rattle.names.specs.Names.{isListed, requestNames, responseNames}
 use Rattle.names.specs.Length.{digits, decimalOf}
 use Rattle.connection.specs.Cycle.{largestBody, stepOf}
+use Rattle.places.specs.Entries.{maxPlaces}
 use Rattle.headers.specs.Headers.{codeNameOf, nameAt, declaredBy, valueAt, headerAt, headersAt}
 use Rattle.attributes.specs.Attributes.{attributeAt, attributesAt}
 use Rattle.payload.specs.Code.{codeKind, kindAt}
@@ -64,7 +65,7 @@ tooMuch = 0x68 ∷ 0x69 ∷ 0x21 ∷ []
 
 -- a delivery with the packet behind the first lent too
 abbrev withNext : Delivery
-withNext = record { behind = 1; table = replicate 328 0; places = refl }
+withNext = record { behind = 1; table = replicate maxPlaces 0; places = refl }
 
 -- a Forward, a body packet that is refused (14), one that is sent, both delivered; Send Headers and End, both delivered
 abbrev sample : List Event
