@@ -1,22 +1,25 @@
--- `text::field` ends.
+-- `read::equal` ends and reads no place past either table.
 -- Assumes nothing.
 use borrow.Author.Needs.{needs}
 use Prim.Native.Nat.{_-_}
-use Rattle.cases.proofs.text.field.Statement.{statement}
-use Rattle.cases.proofs.text.field.Tie as tie
+use lib.ListN.{length}
+use Rattle.vectors.proofs.read.equal.Statement.{statement}
+use Rattle.vectors.proofs.read.equal.Tie as tie
 
 abbrev Inv-loop : tie.InvT-loop
-Inv-loop s separator index start₀ i₀ start i = Unit {0}
+Inv-loop a b i₀ i = Unit {0}
 
 abbrev μ-loop : tie.MeasureT-loop
-μ-loop s separator index start₀ i₀ start i = index - i
+μ-loop a b i₀ i = length a - i
 
-pub field-spec : {M : Type 1} → statement M
-field-spec =
+pub equal-spec : {M : Type 1} → statement M
+equal-spec =
     tie.close
     (tie.spec
     Inv-loop
     μ-loop
+    (search needs)
+    (search needs)
     (search needs)
     (search needs)
     (search needs)

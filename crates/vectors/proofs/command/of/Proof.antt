@@ -1,18 +1,18 @@
--- `command::to_build` ends.
+-- `command::of` ends.
 -- Assumes nothing.
 use borrow.Author.Needs.{needs}
 use Prim.Native.Nat.{_-_}
-use Rattle.vectors.proofs.command.to_build.Statement.{statement}
-use Rattle.vectors.proofs.command.to_build.Tie as tie
+use Rattle.vectors.proofs.command.of.Statement.{statement}
+use Rattle.vectors.proofs.command.of.Tie as tie
 
 abbrev Inv-loop : tie.InvT-loop
-Inv-loop name names command₀ command = Unit {0}
+Inv-loop case forms command₀ command = Unit {0}
 
 abbrev μ-loop : tie.MeasureT-loop
-μ-loop name names command₀ command = 13 - command
+μ-loop case forms command₀ command = 24 - command
 
-pub to-build-spec : {M : Type 1} → statement M
-to-build-spec =
+pub of-spec : {M : Type 1} → statement M
+of-spec =
     tie.close
     (tie.spec
     Inv-loop
