@@ -1,58 +1,105 @@
-// The commands that make a piece, and closing. Each is lent the buffer of its case, and room for the bytes of its strings.
-use crate::attribute;
-use crate::close;
-use crate::forward;
-use crate::header;
-use crate::send_headers;
+// The commands that make a piece. Those that add one begin with the record, K,N,N,N,F, and have what they add from word 7 on.
+use crate::record;
+use cases::answer;
+use cases::answer::Answer;
 use cases::commands;
 use cases::parse;
+use cases::string;
 use cases::text;
+use pieces::Added;
+use pieces::attribute;
+use pieces::forward;
+use pieces::forward::Nulls;
+use pieces::forward::Numbers;
+use pieces::header;
+use pieces::send_headers;
 
-// The most bytes of all strings of a case.
-const TEXTS: usize = 131072;
-
-// Writes the library's answer to a case; the place behind it.
-pub fn answer(command: usize, case: &[u8], out: &mut [u8]) -> usize {
-    let mut buffer = [0u8; commands::BYTES];
-    let listed = text::field(case, b' ', buffer_word(command));
-    let room = parse::bytes(listed, &mut buffer);
-    let mut texts = [0u8; TEXTS];
-    lent(command, case, &mut buffer, room, &mut texts, out)
-}
-
-// The word that is the buffer.
-fn buffer_word(command: usize) -> usize {
-    match command {
-        commands::FORWARD => forward::BUFFER,
-        commands::SEND_HEADERS => send_headers::BUFFER,
-        commands::HEADER => header::BUFFER,
-        commands::CLOSE => close::BUFFER,
-        _ => attribute::BUFFER,
+pub fn answer(command: usize, case: &[u8], texts: &[u8], buffer: &mut [u8]) -> Answer {
+    match made(command, case, texts, buffer) {
+        Added::Refused(n) => Answer::of(answer::REFUSED).with(n as u64),
+        Added::Next(building) => record::told(Answer::of(answer::ADDED), building),
     }
 }
 
-// The answer, with so many bytes of the buffer lent.
-fn lent(
-    command: usize,
-    case: &[u8],
-    buffer: &mut [u8],
-    room: usize,
-    texts: &mut [u8],
-    out: &mut [u8],
-) -> usize {
-    if buffer.len() < room {
-        return commands::NOT_UNDERSTOOD;
+// Makes the piece of a command.
+fn made(command: usize, case: &[u8], texts: &[u8], buffer: &mut [u8]) -> Added {
+    match command {
+        commands::FORWARD => forward(case, texts, buffer),
+        commands::SEND_HEADERS => {
+            let message = string::bytes(case, 3, texts);
+            send_headers::begin(
+                buffer,
+                parse::number(case, 2),
+                message,
+                string::is_null(case, 3),
+            )
+        }
+        _ => added(command, case, texts, buffer),
     }
-    made(command, case, &mut buffer[0..room], texts, out)
 }
 
-// The answer to a command.
-fn made(command: usize, case: &[u8], buffer: &mut [u8], texts: &mut [u8], out: &mut [u8]) -> usize {
+// Begins a Forward.
+fn forward(case: &[u8], texts: &[u8], buffer: &mut [u8]) -> Added {
+    forward::begin(
+        buffer,
+        numbers(case),
+        nulls(case),
+        string::bytes(case, 3, texts),
+        string::bytes(case, 4, texts),
+        string::bytes(case, 5, texts),
+        string::bytes(case, 6, texts),
+        string::bytes(case, 7, texts),
+    )
+}
+
+fn numbers(case: &[u8]) -> Numbers {
+    Numbers {
+        method: parse::number(case, 2),
+        server_port: parse::number(case, 8),
+        is_ssl: parse::flag(case, 9),
+    }
+}
+
+fn nulls(case: &[u8]) -> Nulls {
+    Nulls {
+        protocol: string::is_null(case, 3),
+        req_uri: string::is_null(case, 4),
+        remote_addr: string::is_null(case, 5),
+        remote_host: string::is_null(case, 6),
+        server_name: string::is_null(case, 7),
+    }
+}
+
+// Adds a header or an attribute: words 8 and 9 are a header's name and its value, 7 is an attribute's code, and 9 its value, or the name
+// before it.
+fn added(command: usize, case: &[u8], texts: &[u8], buffer: &mut [u8]) -> Added {
+    let building = record::parse(text::from_word(case, 1));
+    let code = parse::number(case, 7);
+    let text = string::bytes(case, 9, texts);
+    let null = string::is_null(case, 9);
     match command {
-        commands::FORWARD => forward::answer(case, buffer, texts, out),
-        commands::SEND_HEADERS => send_headers::answer(case, buffer, texts, out),
-        commands::HEADER => header::answer(case, buffer, texts, out),
-        commands::CLOSE => close::answer(case, buffer, out),
-        _ => attribute::answer(case, buffer, texts, out),
+        commands::HEADER_BY_CODE => {
+            header::coded(building, buffer, parse::number(case, 8), text, null)
+        }
+        commands::HEADER_BY_NAME => {
+            let name = string::bytes(case, 8, texts);
+            header::spelled(building, buffer, name, string::is_null(case, 8), text, null)
+        }
+        commands::TEXT_ATTRIBUTE => attribute::text(building, buffer, code, text, null),
+        commands::INTEGER_ATTRIBUTE => {
+            attribute::integer(building, buffer, code, parse::number(case, 9))
+        }
+        _ => {
+            let value = string::bytes(case, 10, texts);
+            attribute::pair(
+                building,
+                buffer,
+                code,
+                text,
+                null,
+                value,
+                string::is_null(case, 10),
+            )
+        }
     }
 }

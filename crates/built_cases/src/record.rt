@@ -2,19 +2,16 @@
 // are, and whether an attribute was added.
 use building_record::Building;
 use building_record::BuildingKind;
+use cases::answer::Answer;
 use cases::parse;
-use cases::put;
-use cases::text;
 use packet::Place;
 
-// The record that a word says.
-pub fn parse(word: &[u8]) -> Building {
-    let kind = kind(text::byte_at(word, 0));
-    let next = Place(parse::number(text::field(word, b',', 1)));
-    let count = Place(parse::number(text::field(word, b',', 2)));
-    let headers = parse::number(text::field(word, b',', 3));
-    let attributes = parse::flag(text::field(word, b',', 4));
-    Building::with_fields(kind, next, count, headers, attributes)
+// The record that the first five words of a text say.
+pub fn parse(s: &[u8]) -> Building {
+    let kind = kind(parse::letter(s, 0));
+    let next = Place(parse::number(s, 1));
+    let count = Place(parse::number(s, 2));
+    Building::with_fields(kind, next, count, parse::number(s, 3), parse::flag(s, 4))
 }
 
 fn kind(letter: u8) -> BuildingKind {
@@ -24,16 +21,14 @@ fn kind(letter: u8) -> BuildingKind {
     }
 }
 
-// Writes a record.
-pub fn put(out: &mut [u8], at: usize, building: Building) -> usize {
+// An answer with a record.
+pub fn told(answer: Answer, building: Building) -> Answer {
     let next = building.next();
     let count = building.count_place();
-    let kind = [letter(building.kind())];
-    let at = put::text(out, at, &kind);
-    let at = put::named(out, at, b",", next.0 as u64);
-    let at = put::named(out, at, b",", count.0 as u64);
-    let at = put::named(out, at, b",", building.headers() as u64);
-    put::named(out, at, b",", put::flag(building.attributes_began()) as u64)
+    let answer = answer.with(letter(building.kind()) as u64);
+    let answer = answer.with(next.0 as u64).with(count.0 as u64);
+    let answer = answer.with(building.headers() as u64);
+    answer.with_flag(building.attributes_began())
 }
 
 fn letter(kind: BuildingKind) -> u8 {

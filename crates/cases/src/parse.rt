@@ -1,5 +1,4 @@
-// What the words of a case say. A word that says nothing is taken for something all the same: before a case counts, what was taken is
-// written anew and compared with its words.
+// What the words of a case say, where it is of its form.
 ghost use Prim.Native.Nat.{_<_, _≤_};
 use crate::text;
 use connection::Connection;
@@ -25,7 +24,7 @@ fn with_digit(n: u64, spelled: u8) -> u64 {
     n * 10 + digit(spelled) as u64
 }
 
-// The digit that a byte spells, up to 15.
+// The digit that a byte spells, up to 15; 0 where it spells none.
 fn digit(spelled: u8) -> u8
     ensures { λ r. ⌜ r < 16 ⌝ }
 {
@@ -36,29 +35,30 @@ fn digit(spelled: u8) -> u8
     }
 }
 
-// The number in two bytes and in four, the largest where it is larger.
-pub fn to_u16(n: u64) -> u16 {
-    if 65535 < n {
-        return 65535;
-    }
-    n as u16
-}
-
-pub fn to_u32(n: u64) -> u32 {
+// The number that a word says, in four bytes and in two, the largest where it is larger; whether it says 1.
+fn long_number(case: &[u8], word: usize) -> u32 {
+    let n = decimal(text::word(case, word));
     if 4294967295 < n {
         return 4294967295;
     }
     n as u32
 }
 
-// The number of a word in decimal, in two bytes.
-pub fn number(word: &[u8]) -> u16 {
-    to_u16(decimal(word))
+pub fn number(case: &[u8], word: usize) -> u16 {
+    let n = long_number(case, word);
+    if 65535 < n {
+        return 65535;
+    }
+    n as u16
 }
 
-// What a word says by 1 or 0.
-pub fn flag(word: &[u8]) -> bool {
-    decimal(word) == 1
+pub fn flag(case: &[u8], word: usize) -> bool {
+    number(case, word) == 1
+}
+
+// The letter that a word is.
+pub fn letter(case: &[u8], word: usize) -> u8 {
+    text::byte_at(text::word(case, word), 0)
 }
 
 // The byte of the two hexadecimal digits at a place.
@@ -100,13 +100,13 @@ pub fn places(s: &[u8], into: &mut [u16]) -> usize {
     count
 }
 
-// A connection, such as B,9000,1,8186,0.
+// The connection that the first five words of a text say, such as B,9000,1,8186,0.
 pub fn connection(s: &[u8]) -> Connection {
-    let state = state(text::byte_at(s, 0));
-    let left = BodyLeft(to_u32(decimal(text::field(s, b',', 1))));
-    let due = flag(text::field(s, b',', 2));
-    let asked = number(text::field(s, b',', 3));
-    let headers = flag(text::field(s, b',', 4));
+    let state = state(letter(s, 0));
+    let left = BodyLeft(long_number(s, 1));
+    let due = flag(s, 2);
+    let asked = number(s, 3);
+    let headers = flag(s, 4);
     Connection::with_fields(state, left, due, asked, headers)
 }
 

@@ -1,7 +1,9 @@
 // Writes into a buffer from a place on. Each call answers the place behind what it wrote; the buffer's end where that did not fit, so that
 // nothing more fits.
-use connection::Connection;
-use connection::State;
+use crate::answer;
+use crate::answer::Answer;
+use crate::text::after;
+use crate::text::field;
 use wire::write;
 
 pub fn text(out: &mut [u8], at: usize, s: &[u8]) -> usize {
@@ -17,24 +19,10 @@ pub fn text(out: &mut [u8], at: usize, s: &[u8]) -> usize {
 }
 
 // A number in decimal.
-pub fn decimal(out: &mut [u8], at: usize, n: u64) -> usize {
+fn decimal(out: &mut [u8], at: usize, n: u64) -> usize {
     let mut digits = [0u8; 20];
     let count = io::decimal(n, &mut digits);
     text(out, at, &digits[..count])
-}
-
-// A name, or what else stands before a number, and the number.
-pub fn named(out: &mut [u8], at: usize, name: &[u8], n: u64) -> usize {
-    let start = text(out, at, name);
-    decimal(out, start, n)
-}
-
-// 1 for true, 0 for false.
-pub fn flag(is: bool) -> u16 {
-    if is {
-        return 1;
-    }
-    0
 }
 
 // The digit of a number up to 15.
@@ -46,7 +34,12 @@ fn digit(n: u8) -> u8 {
     }
 }
 
-// A byte in hexadecimal, two digits.
+// A byte as it is, and in hexadecimal, two digits.
+pub fn letter(out: &mut [u8], at: usize, b: u8) -> usize {
+    let itself = [b];
+    text(out, at, &itself)
+}
+
 pub fn byte(out: &mut [u8], at: usize, b: u8) -> usize {
     let digits = [digit(b / 16), digit(b % 16)];
     text(out, at, &digits)
@@ -59,9 +52,9 @@ fn place(out: &mut [u8], at: usize, p: u16) -> usize {
 }
 
 // Bytes in hexadecimal, - where there are none.
-pub fn bytes(out: &mut [u8], at: usize, s: &[u8]) -> usize {
+fn bytes(out: &mut [u8], at: usize, s: &[u8]) -> usize {
     if s.len() == 0 {
-        return text(out, at, b"-");
+        return letter(out, at, b'-');
     }
     let mut next = at;
     for i in 0..s.len() {
@@ -70,16 +63,10 @@ pub fn bytes(out: &mut [u8], at: usize, s: &[u8]) -> usize {
     next
 }
 
-// What stands before bytes, and the bytes.
-pub fn named_bytes(out: &mut [u8], at: usize, name: &[u8], s: &[u8]) -> usize {
-    let start = text(out, at, name);
-    bytes(out, start, s)
-}
-
 // A table of places in hexadecimal, - where it is empty.
-pub fn places(out: &mut [u8], at: usize, table: &[u16]) -> usize {
+fn places(out: &mut [u8], at: usize, table: &[u16]) -> usize {
     if table.len() == 0 {
-        return text(out, at, b"-");
+        return letter(out, at, b'-');
     }
     let mut next = at;
     for i in 0..table.len() {
@@ -88,22 +75,34 @@ pub fn places(out: &mut [u8], at: usize, table: &[u16]) -> usize {
     next
 }
 
-// A connection: the state's letter, what is left, whether a body packet is due, what was asked for, whether headers were sent.
-pub fn connection(out: &mut [u8], at: usize, c: Connection) -> usize {
-    let left = c.left();
-    let state = [letter(c.state())];
-    let at = text(out, at, &state);
-    let at = named(out, at, b",", left.0 as u64);
-    let at = named(out, at, b",", flag(c.due()) as u64);
-    let at = named(out, at, b",", c.asked() as u64);
-    named(out, at, b",", flag(c.headers()) as u64)
+// An answer in its form, with these bytes and this table.
+pub fn answer(out: &mut [u8], said: Answer, s: &[u8], table: &[u16]) -> usize {
+    let forms = answer::FORMS;
+    let form = field(&forms, b'\n', said.form);
+    let mut at = 0;
+    let mut told = 0;
+    for i in 0..form.len() {
+        at = sign(out, at, form[i], said.value(told), s, table);
+        told = told_after(told, form[i]);
+    }
+    at
 }
 
-fn letter(s: State) -> u8 {
-    match s {
-        State::Idle => b'I',
-        State::Pinged => b'P',
-        State::Busy => b'B',
-        State::Closed => b'C',
+// What a character of a form stands for.
+fn sign(out: &mut [u8], at: usize, sign: u8, value: u64, s: &[u8], table: &[u16]) -> usize {
+    match sign {
+        b'N' => decimal(out, at, value),
+        b'L' => letter(out, at, (value % 256) as u8),
+        b'B' => bytes(out, at, s),
+        b'T' => places(out, at, table),
+        _ => letter(out, at, sign),
+    }
+}
+
+// How many values are told behind a character of a form.
+fn told_after(told: usize, sign: u8) -> usize {
+    match sign {
+        b'N' | b'L' => after(told),
+        _ => told,
     }
 }

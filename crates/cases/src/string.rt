@@ -1,48 +1,40 @@
-// The strings of a case: null, or bytes in hexadecimal. The bytes of its strings stand one behind the other in a buffer, and a string says
-// where its own are.
+// The strings of a case: null, or bytes in hexadecimal. Before they are used their bytes are stored, those of each word from the place on
+// where it begins in the case.
 use crate::parse;
-use crate::put;
 use crate::text;
 use wire::part_of;
 
-// A string: whether it is null, where its bytes begin and how many they are. Of null there are none.
-pub struct Stored {
-    pub null: bool,
-    start: usize,
-    len: usize,
-}
+// More words than any case has.
+const WORDS: usize = 16;
 
-impl Stored {
-    // The place behind the string's bytes.
-    pub fn end(self) -> usize {
-        text::sum(self.start, self.len)
+// Stores the bytes of every word.
+pub fn store(case: &[u8], texts: &mut [u8]) {
+    for i in 0..WORDS {
+        store_word(case, i, texts);
     }
 }
 
-// The string that a word says. Its bytes go into the buffer from a place on, as many as there is room for.
-pub fn parse(word: &[u8], into: &mut [u8], start: usize) -> Stored {
-    let null = text::equal(word, b"null");
-    if null || into.len() < start {
-        return Stored {
-            null,
-            start,
-            len: 0,
-        };
+fn store_word(case: &[u8], word: usize, texts: &mut [u8]) {
+    let at = text::start(case, text::BETWEEN_WORDS, word);
+    if at < texts.len() {
+        parse::bytes(text::word(case, word), &mut texts[at..]);
     }
-    let len = parse::bytes(word, &mut into[start..]);
-    Stored { null, start, len }
 }
 
-// The bytes of a string.
-pub fn bytes(stored: Stored, texts: &[u8]) -> &[u8] {
-    part_of(texts, stored.start, stored.len)
+// Whether the string that a word says is null.
+pub fn is_null(case: &[u8], word: usize) -> bool {
+    text::equal(text::word(case, word), b"null")
 }
 
-// Writes what stands before a string, and the string.
-pub fn put(out: &mut [u8], at: usize, before: &[u8], stored: Stored, texts: &[u8]) -> usize {
-    let at = put::text(out, at, before);
-    if stored.null {
-        return put::text(out, at, b"null");
+// The bytes of the string that a word says, none of null, where they were stored.
+pub fn bytes<'a>(case: &[u8], word: usize, texts: &'a [u8]) -> &'a [u8] {
+    if is_null(case, word) {
+        return part_of(texts, 0, 0);
     }
-    put::bytes(out, at, bytes(stored, texts))
+    let said = text::word(case, word);
+    part_of(
+        texts,
+        text::start(case, text::BETWEEN_WORDS, word),
+        said.len() / 2,
+    )
 }

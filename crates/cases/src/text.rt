@@ -1,5 +1,8 @@
 // Texts and their parts. Every call answers for any text and any place.
 
+// As a separator this stands for any of those that part the words of a case: a space, a colon and a comma.
+pub const BETWEEN_WORDS: u8 = 0;
+
 // The sum of two numbers, or the first alone where that is too large.
 pub fn sum(a: usize, b: usize) -> usize {
     if usize::MAX - a < b {
@@ -21,11 +24,19 @@ pub fn byte_at(s: &[u8], at: usize) -> u8 {
     0
 }
 
-// The first place, from a place on, where a byte stands; the end of the text where it stands nowhere.
-pub fn find(s: &[u8], from: usize, byte: u8) -> usize {
+// Whether a byte is this separator.
+fn is_separator(byte: u8, separator: u8) -> bool {
+    match byte {
+        b' ' | b':' | b',' => byte == separator || separator == BETWEEN_WORDS,
+        _ => byte == separator,
+    }
+}
+
+// The first place, from a place on, where a separator stands; the end of the text where it stands nowhere.
+pub fn find(s: &[u8], from: usize, separator: u8) -> usize {
     let mut at = from;
     while at < s.len() {
-        if s[at] == byte {
+        if is_separator(s[at], separator) {
             return at;
         }
         at += 1;
@@ -44,15 +55,31 @@ pub fn between(s: &[u8], from: usize, to: usize) -> &[u8] {
     &s[from..to]
 }
 
-// A field of a text whose fields a separator parts, counted from 0; nothing where there are not so many.
-pub fn field(s: &[u8], separator: u8, index: usize) -> &[u8] {
-    let mut start = 0;
+// Where a field begins in a text whose fields a separator parts, counted from 0; past the end where there are not so many.
+pub fn start(s: &[u8], separator: u8, index: usize) -> usize {
+    let mut at = 0;
     let mut i = 0;
     while i < index {
-        start = after(find(s, start, separator));
+        at = after(find(s, at, separator));
         i += 1;
     }
-    between(s, start, find(s, start, separator))
+    at
+}
+
+// The field itself; nothing where there are not so many.
+pub fn field(s: &[u8], separator: u8, index: usize) -> &[u8] {
+    let at = start(s, separator, index);
+    between(s, at, find(s, at, separator))
+}
+
+// A word of a case.
+pub fn word(case: &[u8], index: usize) -> &[u8] {
+    field(case, BETWEEN_WORDS, index)
+}
+
+// A case from a word on.
+pub fn from_word(case: &[u8], index: usize) -> &[u8] {
+    between(case, start(case, BETWEEN_WORDS, index), case.len())
 }
 
 // Whether two texts are equal.

@@ -11,27 +11,8 @@ use reader::Received;
 use wire::part_of;
 use writer::Sent;
 
-// The ends after a send in a direction. The send is printed, and so are the ends.
-pub fn passed(ends: Ends, direction: Direction, name: &[u8], sent: Sent, buffer: &[u8]) -> Ends {
-    let ends = ends.counted();
-    heading(ends.sends, direction, name);
-    let ends = carried(ends, direction, sent, buffer);
-    ends.show();
-    ends
-}
-
-// Prints the number of a send, its direction and what is sent.
-fn heading(number: usize, direction: Direction, name: &[u8]) {
-    print::text(b"\n");
-    print::decimal(number as u64);
-    print::text(b". ");
-    words::way(direction);
-    print::text(name);
-    print::text(b"\n");
-}
-
-// The ends once a packet that was written is delivered; where the send was refused, as they were.
-fn carried(ends: Ends, direction: Direction, sent: Sent, buffer: &[u8]) -> Ends {
+// The ends after a send: where it was refused, as they were.
+pub fn after(ends: Ends, direction: Direction, sent: Sent, buffer: &[u8]) -> Ends {
     match sent {
         Sent::Refused(number) => {
             words::refusal(number);
@@ -40,23 +21,47 @@ fn carried(ends: Ends, direction: Direction, sent: Sent, buffer: &[u8]) -> Ends 
         Sent::Written { size, connection } => {
             let packet = part_of(buffer, 0, size);
             row::show_all(packet);
-            delivered(ends, direction, connection, packet)
+            carried(ends, direction, connection, packet)
         }
     }
 }
 
-// The ends once a packet is delivered; the sender has this connection.
-fn delivered(ends: Ends, direction: Direction, sender: Connection, bytes: &[u8]) -> Ends {
-    let receiver = ends.receiver(direction);
+// The ends once a packet is carried to the end to which a direction leads; the sender has this connection.
+fn carried(ends: Ends, direction: Direction, sender: Connection, bytes: &[u8]) -> Ends {
     let mut table = [0u16; MAX_PLACES];
-    match received(direction, receiver, bytes, &mut table) {
-        Received::Needs(n) => {
-            words::needs(n);
+    match direction {
+        Direction::ToContainer => {
+            let receiver = ends.container;
+            let received = reader::read_at_container(receiver, bytes, &mut table);
+            let receiver = read(received, receiver, direction, bytes, &table);
             ends.with(direction, sender, receiver)
+        }
+        Direction::ToServer => {
+            let receiver = ends.server;
+            let received = reader::read_at_server(receiver, bytes, &mut table);
+            let receiver = read(received, receiver, direction, bytes, &table);
+            ends.with(direction, sender, receiver)
+        }
+    }
+}
+
+// The connection of the end that read. What it read is printed.
+fn read(
+    received: Received,
+    connection: Connection,
+    direction: Direction,
+    bytes: &[u8],
+    table: &[u16],
+) -> Connection {
+    match received {
+        Received::Needs(n) => {
+            print::counted(b"    needs ", n as u64, 0);
+            print::text(b" bytes\n");
+            connection
         }
         Received::Refused(number) => {
             words::refusal(number);
-            ends.with(direction, sender, receiver)
+            connection
         }
         Received::Accepted {
             packet,
@@ -64,21 +69,8 @@ fn delivered(ends: Ends, direction: Direction, sender: Connection, bytes: &[u8])
             connection,
         } => {
             words::reads(direction, taken);
-            told::show(packet, bytes, &table);
-            ends.with(direction, sender, connection)
+            told::show(packet, bytes, table);
+            connection
         }
-    }
-}
-
-// Reads at the end to which a direction leads.
-fn received(
-    direction: Direction,
-    connection: Connection,
-    bytes: &[u8],
-    table: &mut [u16],
-) -> Received {
-    match direction {
-        Direction::ToContainer => reader::read_at_container(connection, bytes, table),
-        Direction::ToServer => reader::read_at_server(connection, bytes, table),
     }
 }

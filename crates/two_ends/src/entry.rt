@@ -16,7 +16,7 @@ pub fn headers(direction: Direction, count: u16, packet: &[u8], table: &[u16]) {
 
 // Prints the header whose places are at an index of the table.
 fn header(direction: Direction, at: usize, packet: &[u8], table: &[u16]) {
-    field::label(b"header");
+    field::label(field::HEADER);
     header_name(direction, packet, views::place_at(table, at));
     print::text(b": ");
     field::text(packet, views::place_at(table, text::after(at)));
@@ -48,7 +48,7 @@ pub fn attributes(headers: u16, count: u16, packet: &[u8], table: &[u16]) {
 fn attribute(at: usize, packet: &[u8], table: &[u16]) {
     let place = views::place_at(table, at);
     let code = views::attribute_code_at(packet, place);
-    field::label(b"attribute");
+    field::label(field::ATTRIBUTE);
     print::hex(code as u64, 2);
     print::text(b"    ");
     let kind = views::attribute_kind_at(packet, place);

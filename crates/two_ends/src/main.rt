@@ -6,70 +6,62 @@ mod entry;
 mod field;
 mod piece;
 mod print;
-mod request;
-mod response;
 mod row;
 mod send;
 mod told;
 mod words;
 
 use crate::ends::Ends;
-use connection::Connection;
+use cases::text;
+
+// The conversation, a send a line: what is sent, its letter and what it holds (`send` and `piece` say how). A line that begins with # is
+// printed. The server's end refuses to send a second Forward before the first request is over, and a body packet with more bytes than were
+// asked for; the container's end refuses to send an End while a body packet is due; and nothing more can be sent on a closed connection.
+const CONVERSATION: [u8; 1076] = *b"#A ping
+CPing|P
+CPong|Q
+#A request with a body
+Forward, POST /valves/7|F|POST|/valves/7|80|0|h,Host,orchard.example|h,Content-Type,text/plain|h,Content-Length,27|h,X-Gardener,Malee|a,route,basin-2|a,soil,dry
+body packet of 10 bytes|B|valve=open
+Forward, GET /trees/12|F|GET|/trees/12|443|1|h,Host,orchard.example|a,query_string,height|n,ssl_key_size,256
+Get Body Chunk of 8 bytes|G|8
+body packet of 17 bytes|B|;min=20;tree=lime
+body packet of 8 bytes|B|;min=20;
+Get Body Chunk of 8186 bytes|G|8186
+body packet of 9 bytes|B|tree=lime
+#Its response
+Send Headers, 200 OK|H|200|OK|h,Content-Type,text/plain|h,Content-Length,14
+Send Body Chunk of 8 bytes|C|opened: 
+Get Body Chunk of 8186 bytes|G|8186
+End, reuse|E|1
+body packet of 0 bytes|B|
+Send Body Chunk of 6 bytes|C|20 min
+End, reuse|E|1
+#A request without a body, the last one
+Forward, GET /trees/12|F|GET|/trees/12|443|1|h,Host,orchard.example|a,query_string,height|n,ssl_key_size,256
+Send Headers, 200 OK|H|200|OK|h,Content-Type,text/plain|h,Content-Length,8
+Send Body Chunk of 8 bytes|C|lime, 3m
+End, no reuse|E|0
+CPing|P";
+
+const LINES: usize = 26;
 
 fn main() {
+    let conversation = CONVERSATION;
     print::text(b"Two ends of a connection, both fresh\n");
-    let ends = Ends::fresh();
+    let mut ends = Ends::fresh();
     ends.show();
-    let ends = ping(ends);
-    let ends = request_with_body(ends);
-    let ends = response_begun(ends);
-    let ends = response_ended(ends);
-    request_without_body(ends);
+    for i in 0..LINES {
+        ends = after_line(ends, text::field(&conversation, b'\n', i));
+    }
 }
 
-// A ping and its answer.
-fn ping(ends: Ends) -> Ends {
-    print::text(b"\nA ping\n");
-    let ends = send::cping(ends);
-    send::cpong(ends)
-}
-
-// A request with a body in three packets: the first right behind the Forward, each other one when it is asked for. The server's end refuses
-// to send a second Forward meanwhile, and a body packet with more bytes than were asked for.
-fn request_with_body(ends: Ends) -> Ends {
-    print::text(b"\nA request with a body\n");
-    let ends = request::open_valve(ends);
-    let ends = send::body(ends, b"valve=open");
-    let ends = request::show_tree(ends);
-    let ends = send::get_body(ends, 8);
-    let ends = send::body(ends, b";min=20;tree=lime");
-    let ends = send::body(ends, b";min=20;");
-    let ends = send::get_body(ends, Connection::MAX_BODY);
-    send::body(ends, b"tree=lime")
-}
-
-// Its response. The container asks once more for body, and until the server says that there is none, its end refuses to send an End.
-fn response_begun(ends: Ends) -> Ends {
-    print::text(b"\nIts response\n");
-    let ends = response::ok(ends, b"14");
-    let ends = send::body_chunk(ends, b"opened: ");
-    let ends = send::get_body(ends, Connection::MAX_BODY);
-    let ends = send::end(ends, true);
-    send::body(ends, b"")
-}
-
-// The rest of the response; the connection is kept.
-fn response_ended(ends: Ends) -> Ends {
-    let ends = send::body_chunk(ends, b"20 min");
-    send::end(ends, true)
-}
-
-// A request without a body on the same connection, which is closed behind it: then nothing more can be sent.
-fn request_without_body(ends: Ends) {
-    print::text(b"\nA request without a body, the last one\n");
-    let ends = request::show_tree(ends);
-    let ends = response::ok(ends, b"8");
-    let ends = send::body_chunk(ends, b"lime, 3m");
-    let ends = send::end(ends, false);
-    send::cping(ends);
+// The ends after a line of the conversation.
+fn after_line(ends: Ends, line: &[u8]) -> Ends {
+    if text::byte_at(line, 0) == b'#' {
+        print::named(b"\n", text::field(line, b'#', 1));
+        print::text(b"\n");
+        return ends;
+    }
+    send::made(ends.counted(), line)
 }

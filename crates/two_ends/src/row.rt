@@ -1,23 +1,12 @@
 // The bytes of a packet in rows of sixteen, with their text beside them.
 use crate::print;
-use cases::put;
+use cases::text;
 use wire::part_of;
 
 // How many bytes a row has, and half a row.
 const ROW: usize = 16;
 
 const HALF: usize = 8;
-
-// Where the place of a row's first byte stands in a line, its bytes, the bar before their text, and the text.
-const PLACE: usize = 4;
-
-const BYTES: usize = 10;
-
-const BAR: usize = 60;
-
-const TEXT: usize = 61;
-
-const WIDTH: usize = 80;
 
 // Prints the rows of a packet.
 pub fn show_all(packet: &[u8]) {
@@ -29,33 +18,45 @@ pub fn show_all(packet: &[u8]) {
 
 // Prints a row: the place of its first byte, its bytes, and their text. A row without bytes is not printed.
 fn show(at: usize, bytes: &[u8]) {
-    let mut line = [b' '; WIDTH];
-    let mut digits = [0u8; 16];
-    let count = io::hex(at as u64, 4, &mut digits);
-    put::text(&mut line, PLACE, &digits[..count]);
-    put::text(&mut line, BAR, b"|");
-    let end = cells(&mut line, bytes);
-    print::text(part_of(&line, 0, end));
-}
-
-// Writes the bytes of a row and their text; the place behind it, 0 where there are none.
-fn cells(line: &mut [u8], bytes: &[u8]) -> usize {
-    let mut end = 0;
-    for i in 0..bytes.len() {
-        end = cell(line, i, bytes[i]);
+    if bytes.len() == 0 {
+        return;
     }
-    end
+    print::text(b"    ");
+    print::hex(at as u64, 4);
+    print::text(b" ");
+    cells(bytes);
+    print::text(b"  |");
+    letters(bytes);
+    print::text(b"|\n");
 }
 
-// Writes byte i of a row and its letter. The text ends behind it, so far; the next letter takes that place.
-fn cell(line: &mut [u8], i: usize, b: u8) -> usize {
-    let i = i % ROW;
-    let shown = [letter(b), b'|', b'\n'];
-    put::byte(line, BYTES + 3 * i + i / HALF, b);
-    put::text(line, TEXT + i, &shown)
+// Prints the bytes of a row in hexadecimal, and spaces for those that it lacks.
+fn cells(bytes: &[u8]) {
+    for i in 0..ROW {
+        if i == HALF {
+            print::text(b" ");
+        }
+        cell(part_of(bytes, i, 1));
+    }
 }
 
-// The letter for a byte, a dot where it has none.
+fn cell(byte: &[u8]) {
+    if byte.len() == 0 {
+        print::text(b"   ");
+        return;
+    }
+    print::text(b" ");
+    print::hex(text::byte_at(byte, 0) as u64, 2);
+}
+
+// Prints the text of a row, a dot for a byte that is no letter.
+fn letters(bytes: &[u8]) {
+    for i in 0..bytes.len() {
+        let shown = [letter(bytes[i])];
+        print::text(&shown);
+    }
+}
+
 fn letter(b: u8) -> u8 {
     match b {
         b' '..=b'~' => b,

@@ -1,86 +1,60 @@
-// The packets that one call makes, each sent by the end whose packet it is.
+// A send: the packet that a line of the conversation says, by the letter in its second field.
+//   P  CPing    Q  CPong    B  body packet, and its bytes    C  Send Body Chunk, and its bytes
+//   G  Get Body Chunk, and how many bytes it asks for    E  End, and 1 for reuse or 0    F, H  Forward, Send Headers: see `piece`
 use crate::delivery;
 use crate::ends::Ends;
-use cases::put;
+use crate::piece;
+use crate::print;
+use crate::words;
+use cases::parse;
+use cases::text;
 use connection::Connection;
 use packet::Direction;
-use wire::part_of;
 use writer::Sent;
 
-// Room for the name of a packet.
-const NAME: usize = 64;
+// The fields of a line.
+const LETTER: usize = 1;
 
-pub fn cping(ends: Ends) -> Ends {
-    let mut buffer = [0u8; Connection::MAX_PACKET];
-    let sent = writer::cping(ends.server, &mut buffer);
-    delivery::passed(ends, Direction::ToContainer, b"CPing", sent, &buffer)
+const CONTENT: usize = 2;
+
+// The ends after a send. It is printed, and so are the ends.
+pub fn made(ends: Ends, line: &[u8]) -> Ends {
+    let letter = text::byte_at(text::field(line, b'|', LETTER), 0);
+    let direction = direction(letter);
+    print::counted(b"\n", ends.sends as u64, 0);
+    print::text(b". ");
+    words::way(direction);
+    print::text(text::field(line, b'|', 0));
+    print::text(b"\n");
+    let ends = delivered(ends, direction, letter, line);
+    ends.show();
+    ends
 }
 
-pub fn cpong(ends: Ends) -> Ends {
-    let mut buffer = [0u8; Connection::MAX_PACKET];
-    let sent = writer::cpong(ends.container, &mut buffer);
-    delivery::passed(ends, Direction::ToServer, b"CPong", sent, &buffer)
-}
-
-pub fn body(ends: Ends, bytes: &[u8]) -> Ends {
-    let mut buffer = [0u8; Connection::MAX_PACKET];
-    let sent = writer::body(ends.server, &mut buffer, bytes);
-    counted(
-        ends,
-        Direction::ToContainer,
-        b"body packet of ",
-        bytes.len(),
-        sent,
-        &buffer,
-    )
-}
-
-pub fn get_body(ends: Ends, asked: u16) -> Ends {
-    let mut buffer = [0u8; Connection::MAX_PACKET];
-    let sent = writer::get_body(ends.container, &mut buffer, asked);
-    counted(
-        ends,
-        Direction::ToServer,
-        b"Get Body Chunk of ",
-        asked as usize,
-        sent,
-        &buffer,
-    )
-}
-
-pub fn body_chunk(ends: Ends, bytes: &[u8]) -> Ends {
-    let mut buffer = [0u8; Connection::MAX_PACKET];
-    let sent = writer::body_chunk(ends.container, &mut buffer, bytes);
-    counted(
-        ends,
-        Direction::ToServer,
-        b"Send Body Chunk of ",
-        bytes.len(),
-        sent,
-        &buffer,
-    )
-}
-
-pub fn end(ends: Ends, reuse: bool) -> Ends {
-    let mut buffer = [0u8; Connection::MAX_PACKET];
-    let sent = writer::end(ends.container, &mut buffer, reuse);
-    if reuse {
-        return delivery::passed(ends, Direction::ToServer, b"End, reuse", sent, &buffer);
+// Which way a packet goes.
+fn direction(letter: u8) -> Direction {
+    match letter {
+        b'P' | b'B' | b'F' => Direction::ToContainer,
+        _ => Direction::ToServer,
     }
-    delivery::passed(ends, Direction::ToServer, b"End, no reuse", sent, &buffer)
 }
 
-// Passes on a packet whose name tells a number of bytes.
-fn counted(
-    ends: Ends,
-    direction: Direction,
-    name: &[u8],
-    count: usize,
-    sent: Sent,
-    buffer: &[u8],
-) -> Ends {
-    let mut named = [0u8; NAME];
-    let end = put::named(&mut named, 0, name, count as u64);
-    let end = put::text(&mut named, end, b" bytes");
-    delivery::passed(ends, direction, part_of(&named, 0, end), sent, buffer)
+// Writes the packet and delivers it.
+fn delivered(ends: Ends, direction: Direction, letter: u8, line: &[u8]) -> Ends {
+    let mut buffer = [0u8; Connection::MAX_PACKET];
+    let sent = sent(ends.sender(direction), letter, line, &mut buffer);
+    delivery::after(ends, direction, sent, &buffer)
+}
+
+fn sent(connection: Connection, letter: u8, line: &[u8], buffer: &mut [u8]) -> Sent {
+    let content = text::field(line, b'|', CONTENT);
+    match letter {
+        b'P' => writer::cping(connection, buffer),
+        b'Q' => writer::cpong(connection, buffer),
+        b'B' => writer::body(connection, buffer, content),
+        b'C' => writer::body_chunk(connection, buffer, content),
+        b'G' => writer::get_body(connection, buffer, parse::number(content, 0)),
+        b'E' => writer::end(connection, buffer, parse::flag(content, 0)),
+        _ => piece::closed(connection, letter, line, buffer),
+    }
 }

@@ -1,86 +1,80 @@
-// Words for what is printed.
+// Words for what is printed, by number, each list a text with a slash between two.
 use crate::print;
-use cases::put;
 use cases::text;
 use connection::State;
 use packet::Direction;
 
-// What the refusals say, in the order of their numbers from 0 on, a slash between two.
+// What the refusals say, from 0 on.
 const REFUSALS: [u8; 274] =
     *b"no fault/wrong leading bytes/packet too long/cut short/unknown code/code not served/wrong string/out of range/wrong header name/\
     wrong attribute code/wrong content-length/too many/bytes left over/not allowed in this state/wrong body size/too little room/\
     wrong building record";
 
-// The answers for false and true, and the states, in the same way.
+// The answers for false and true, the states, and what stands before a send and before what was read, by direction.
 const ANSWERS: [u8; 6] = *b"no/yes";
 
 const STATES: [u8; 23] = *b"Idle/Pinged/Busy/Closed";
 
+const WAYS: [u8; 82] =
+    *b"server -> container: /container -> server: /    container reads /    server reads ";
+
 // Prints a refusal's number and what it says.
 pub fn refusal(number: u8) {
     let refusals = REFUSALS;
-    print::text(b"    refused ");
-    print::decimal(number as u64);
-    print::text(b": ");
-    print::text(text::field(&refusals, b'/', number as usize));
+    print::counted(b"    refused ", number as u64, 0);
+    print::named(b": ", text::field(&refusals, b'/', number as usize));
     print::text(b"\n");
 }
 
-// Prints how many bytes are needed where a packet is not all there.
-pub fn needs(n: usize) {
-    print::text(b"    needs ");
-    print::decimal(n as u64);
-    print::text(b" bytes\n");
-}
-
-// Prints the end that reads, and how many bytes.
-pub fn reads(direction: Direction, taken: usize) {
-    match direction {
-        Direction::ToContainer => {
-            print::text(b"    container reads ");
-        }
-        Direction::ToServer => {
-            print::text(b"    server reads ");
-        }
-    }
-    print::decimal(taken as u64);
-    print::text(b" bytes: ");
-}
-
-// Prints the end that sends in a direction, and the one to which it leads.
-pub fn way(direction: Direction) {
-    match direction {
-        Direction::ToContainer => {
-            print::text(b"server -> container: ");
-        }
-        Direction::ToServer => {
-            print::text(b"container -> server: ");
-        }
-    }
-}
-
-// Writes a name, and yes or no; the place behind it.
-pub fn flag(line: &mut [u8], at: usize, name: &[u8], is: bool) -> usize {
+// Prints what stands before an answer, and yes or no.
+pub fn flag(before: &[u8], is: bool, width: usize) {
     let answers = ANSWERS;
-    let at = put::text(line, at, name);
-    put::text(
-        line,
-        at,
-        text::field(&answers, b'/', put::flag(is) as usize),
-    )
+    print::text(before);
+    print::padded(text::field(&answers, b'/', bit(is)), width);
 }
 
-// Writes a state; the place behind it.
-pub fn state(line: &mut [u8], at: usize, s: State) -> usize {
+// 1 for true, 0 for false.
+pub fn bit(is: bool) -> usize {
+    if is {
+        return 1;
+    }
+    0
+}
+
+// Prints a state.
+pub fn state(s: State, width: usize) {
     let states = STATES;
-    put::text(line, at, text::field(&states, b'/', number(s)))
+    print::padded(text::field(&states, b'/', state_number(s)), width);
 }
 
-fn number(s: State) -> usize {
+fn state_number(s: State) -> usize {
     match s {
         State::Idle => 0,
         State::Pinged => 1,
         State::Busy => 2,
         State::Closed => 3,
     }
+}
+
+// Prints the end that sends in a direction, and the one to which it leads.
+pub fn way(direction: Direction) {
+    match direction {
+        Direction::ToContainer => by_way(0),
+        Direction::ToServer => by_way(1),
+    }
+}
+
+// Prints the end that reads, and how many bytes.
+pub fn reads(direction: Direction, taken: usize) {
+    match direction {
+        Direction::ToContainer => by_way(2),
+        Direction::ToServer => by_way(3),
+    }
+    print::decimal(taken as u64);
+    print::text(b" bytes: ");
+}
+
+fn by_way(number: usize) {
+    let ways = WAYS;
+    print::text(text::field(&ways, b'/', number));
 }

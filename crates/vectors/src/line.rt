@@ -45,19 +45,15 @@ fn compared(line: &[u8], number: usize, answer: &mut [u8], tallies: Tallies) -> 
     tallies.with(command, true)
 }
 
-// Prints a case that differs: its line's number, its first words, what was expected and what came.
+// How many characters of a case are printed at most.
+const SHOWN: usize = 60;
+
+// Prints a case that differs: its line's number, how it begins, what was expected and what came.
 fn report(number: usize, case: &[u8], expected: &[u8], came: &[u8]) {
     print::text(b"line ");
     print::decimal(number as u64);
-    print::text(b": ");
-    print::text(text::field(case, b' ', 0));
-    print::text(b" ");
-    print::text(text::field(case, b' ', 1));
-    print::text(b" ");
-    print::text(text::field(case, b' ', 2));
-    print::text(b"\n  expected: ");
-    print::text(expected);
-    print::text(b"\n  came:     ");
-    print::text(came);
+    print::named(b": ", part_of(case, 0, SHOWN));
+    print::named(b"\n  expected: ", expected);
+    print::named(b"\n  came:     ", came);
     print::text(b"\n");
 }

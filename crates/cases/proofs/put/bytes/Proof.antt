@@ -1,7 +1,7 @@
 -- `put::bytes` ends and reads no byte past the slice.
 -- Assumes nothing.
 use borrow.Author.Needs.{needs}
-use Prim.Native.Nat.{_≤_, _-_}
+use Prim.Native.Nat.{_-_, _≤_}
 use lib.ListN.{length}
 use mathlib.Core.Path.{_≡_}
 use Rattle.cases.proofs.put.bytes.Statement.{statement}
@@ -19,7 +19,6 @@ bytes-spec =
     (tie.spec
     Inv-loop
     μ-loop
-    (search needs)
     (search needs)
     (search needs)
     (search needs)

@@ -7,10 +7,10 @@ use Rattle.cases.proofs.text.find.Statement.{statement}
 use Rattle.cases.proofs.text.find.Tie as tie
 
 abbrev Inv-loop : tie.InvT-loop
-Inv-loop s from byte at₀ at = Unit {0}
+Inv-loop s from separator at₀ at = Unit {0}
 
 abbrev μ-loop : tie.MeasureT-loop
-μ-loop s from byte at₀ at = length s - at
+μ-loop s from separator at₀ at = length s - at
 
 pub find-spec : {M : Type 1} → statement M
 find-spec =
@@ -18,6 +18,7 @@ find-spec =
     (tie.spec
     Inv-loop
     μ-loop
+    (search needs)
     (search needs)
     (search needs)
     (search needs)

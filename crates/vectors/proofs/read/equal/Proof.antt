@@ -1,22 +1,25 @@
--- `command::to_build` ends.
+-- `read::equal` ends and reads no place past either table.
 -- Assumes nothing.
 use borrow.Author.Needs.{needs}
 use Prim.Native.Nat.{_-_}
-use Rattle.vectors.proofs.command.to_build.Statement.{statement}
-use Rattle.vectors.proofs.command.to_build.Tie as tie
+use lib.ListN.{length}
+use Rattle.vectors.proofs.read.equal.Statement.{statement}
+use Rattle.vectors.proofs.read.equal.Tie as tie
 
 abbrev Inv-loop : tie.InvT-loop
-Inv-loop name names command₀ command = Unit {0}
+Inv-loop a b i₀ i = Unit {0}
 
 abbrev μ-loop : tie.MeasureT-loop
-μ-loop name names command₀ command = 13 - command
+μ-loop a b i₀ i = length a - i
 
-pub to-build-spec : {M : Type 1} → statement M
-to-build-spec =
+pub equal-spec : {M : Type 1} → statement M
+equal-spec =
     tie.close
     (tie.spec
     Inv-loop
     μ-loop
+    (search needs)
+    (search needs)
     (search needs)
     (search needs)
     (search needs)
