@@ -45,6 +45,7 @@ use Rattle.reader.specs.Meaning as read
 use Rattle.reader.specs.Reading.{parsedOf, parseWhole, parseFrame, parse, readAsBody, accepting, judging, reading}
 use Rattle.reader.proofs.Framing.{length-is}
 use Rattle.reading_laws.specs.Acceptance.{Answered}
+use Rattle.reading_laws.proofs.Handed.{told-kind}
 use Rattle.reading_laws.proofs.Acceptance.{accepted-is, accepting-answers}
 use Rattle.reading_laws.proofs.Aside.{aside}
 use Rattle.closing.specs.Closing.{closedLength, closingFault, closed, closedPacket, judgement, verdict, closeOutcome, whereDone, closeBuffer}
@@ -157,17 +158,6 @@ none-due c BuildingKind.Forward e = by (c .state) e
     by State.Busy e = absurd (false≢true e)
     by State.Closed e = refl
 none-due c BuildingKind.SendHeaders e = refl
-
--- the kind that is told of a packet is its own
-pub told-kind : (p : Packet) → read.told p .kind ≡ payload.kindIn p
-told-kind Packet.CPing = refl
-told-kind Packet.CPong = refl
-told-kind (Packet.Forward f) = refl
-told-kind (Packet.Body p) = refl
-told-kind (Packet.GetBody asked) = refl
-told-kind (Packet.SendHeaders h) = refl
-told-kind (Packet.BodyChunk p) = refl
-told-kind (Packet.End reuse) = refl
 
 -- the kind that has a record's code, or no kind's code
 code-of-kind : (kind : BuildingKind) (t : Bool) (found : Kind)

@@ -22,23 +22,13 @@ use Rattle.payload.proofs.Parsed.{parsed-kind}
 use Rattle.payload.proofs.Handed.{forward-handed, head-handed}
 use Rattle.reader.specs.Meaning.{Told, accepted, told}
 use Rattle.reader.specs.Reading.{reading, tableAfter}
+use Rattle.reading_laws.proofs.Handed.{told-kind}
 use Rattle.reading_laws.proofs.Acceptance.{accepted-is, accepted-fills}
 use Rattle.messages.specs.Shown.{headerPlaces, attributePlaces}
 
 -- the table with a packet's places
 abbrev pub tableOf : Packet → List ℕ → List ℕ → List ℕ
 tableOf p s table = over table 0 (packetAt (kindIn p) s .places)
-
--- what a packet tells is of its kind
-told-kind : (p : Packet) → told p .kind ≡ kindIn p
-told-kind Packet.CPing = refl
-told-kind Packet.CPong = refl
-told-kind (Packet.Forward forward) = refl
-told-kind (Packet.Body part) = refl
-told-kind (Packet.GetBody asked) = refl
-told-kind (Packet.SendHeaders head) = refl
-told-kind (Packet.BodyChunk part) = refl
-told-kind (Packet.End reuse) = refl
 
 -- an accepted packet fills the table with its own places
 pub table-filled : (d : Direction) (c : Connection) (s table : List ℕ) (p : Packet) (n : ℕ) (next : Connection)

@@ -32,7 +32,8 @@ use Rattle.reader.specs.Meaning.{Told, told, accepted}
 use Rattle.reader.specs.Reading.{readAsBody, reading}
 use Rattle.closing.specs.Closing.{closedPacket, closeOutcome, closeBuffer}
 use Rattle.closing.specs.Done.{CloseDone}
-use Rattle.closing.proofs.Laws.{told-kind, close-done}
+use Rattle.closing.proofs.Laws.{close-done}
+use Rattle.reading_laws.proofs.Handed.{told-kind}
 use Rattle.messages.specs.Bytes.{messageBytes}
 use Rattle.messages.proofs.Parses.{isBody, Parses, packet-as-body, none-due, AcceptedAs, accepted-parses, all-parses}
 use Rattle.messages.proofs.OneCall as one

@@ -13,12 +13,24 @@ use Rattle.packet.specs.declared.Packet.{Packet}
 use Rattle.connection.specs.declared.Connection.{Connection}
 use Rattle.connection.specs.declared.Kind.{Kind}
 use Rattle.payload.specs.Sequence.{booleanNumber}
+use Rattle.payload.specs.Kinds.{kindIn}
 use Rattle.payload.specs.Handed.{ForwardHanded, EndHanded, PacketHanded}
 use Rattle.payload.proofs.Handed.{packet-handed}
 use Rattle.reader.specs.Meaning.{Told, accepted, told}
 use Rattle.reader.specs.Reading.{parse, parseWhole, placesOf, readAsBody, reading}
 use Rattle.reading_laws.specs.Handed.{numberTold, placeTold, ToldHanded}
 use Rattle.reading_laws.proofs.Acceptance.{accepted-is}
+
+-- what is told of a packet is of its own kind
+pub told-kind : (p : Packet) → told p .kind ≡ kindIn p
+told-kind Packet.CPing = refl
+told-kind Packet.CPong = refl
+told-kind (Packet.Forward forward) = refl
+told-kind (Packet.Body part) = refl
+told-kind (Packet.GetBody asked) = refl
+told-kind (Packet.SendHeaders head) = refl
+told-kind (Packet.BodyChunk part) = refl
+told-kind (Packet.End reuse) = refl
 
 -- a boolean that is told as a number
 boolean-told : (b : Bool) → b ≡ eqb (booleanNumber b) 1
