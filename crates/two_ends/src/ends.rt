@@ -71,5 +71,5 @@ fn show(name: &[u8], c: Connection) {
     words::flag(b"due ", c.due(), 5);
     print::counted(b"asked ", c.asked() as u64, 6);
     words::flag(b"headers ", c.headers(), 0);
-    print::text(b"\n");
+    print::letter(b'\n');
 }

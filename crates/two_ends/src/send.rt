@@ -25,7 +25,7 @@ pub fn made(ends: Ends, line: &[u8]) -> Ends {
     print::text(b". ");
     words::way(direction);
     print::text(text::field(line, b'|', 0));
-    print::text(b"\n");
+    print::letter(b'\n');
     let ends = delivered(ends, direction, letter, line);
     ends.show();
     ends

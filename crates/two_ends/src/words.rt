@@ -23,7 +23,7 @@ pub fn refusal(number: u8) {
     let refusals = REFUSALS;
     print::counted(b"    refused ", number as u64, 0);
     print::named(b": ", text::field(&refusals, b'/', number as usize));
-    print::text(b"\n");
+    print::letter(b'\n');
 }
 
 // Prints what stands before an answer, and yes or no.

@@ -26,5 +26,4 @@ letters-spec =
     (search needs)
     (search needs)
     (search needs)
-    (search needs)
     (search needs))
