@@ -2,17 +2,12 @@
 // that sent it to the other, which reads it. It prints each send with its bytes, what the other end read of them, and both connections.
 mod delivery;
 mod ends;
-mod entry;
-mod field;
 mod piece;
-mod print;
-mod row;
 mod send;
-mod told;
-mod words;
 
 use crate::ends::Ends;
 use cases::text;
+use shown::print;
 
 // The conversation, a send a line: what is sent, its letter and what it holds (`send` and `piece` say how). A line that begins with # is
 // printed. The server's end refuses to send a second Forward before the first request is over, and a body packet with more bytes than were

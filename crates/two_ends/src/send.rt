@@ -4,12 +4,12 @@
 use crate::delivery;
 use crate::ends::Ends;
 use crate::piece;
-use crate::print;
-use crate::words;
 use cases::parse;
 use cases::text;
 use connection::Connection;
 use packet::Direction;
+use shown::print;
+use shown::words;
 use writer::Sent;
 
 // The fields of a line.

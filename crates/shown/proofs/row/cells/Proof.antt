@@ -2,8 +2,8 @@
 -- Assumes nothing.
 use borrow.Author.Needs.{needs}
 use Prim.Native.Nat.{_-_}
-use Rattle.two_ends.proofs.row.cells.Statement.{statement}
-use Rattle.two_ends.proofs.row.cells.Tie as tie
+use Rattle.shown.proofs.row.cells.Statement.{statement}
+use Rattle.shown.proofs.row.cells.Tie as tie
 
 abbrev Inv-loop : tie.InvT-loop
 Inv-loop bytes i₀ i = Unit {0}
