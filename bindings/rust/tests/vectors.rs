@@ -1,12 +1,12 @@
 //! The text vectors, a case a line, over the library and the plain implementation.
 //!
-//! `AJP13_VECTORS` names a folder whose files `*.tsv` hold them: a case, a tab, its answer, and at
-//! times a tab and a note. Where the variable is not set there is nothing to run. The repository
-//! holds the same cases as the crate `vectors`.
+//! They are those of the crate `vectors`, in its file `stdin`: a case, a tab and its answer. A line
+//! that begins with `#` is none, and so is an empty one. `AJP13_VECTORS` may name a folder with more
+//! of them, in files `*.tsv`, at times with a tab and a note behind the answer.
 //!
-//! Bytes are hexadecimal digits, `-` for none; a string may be `null`. A connection is
-//! `S,left,due,asked,headers` with `S` one of I, P, B, C; a building record is
-//! `K,next,count,headers,attributes` with `K` one of F, H.
+//! Bytes are hexadecimal digits, `-` for none; a string may be `null`. `[6162*3]` stands for
+//! `616261626162`, and `"ab"` for `6162`. A connection is `S,left,due,asked,headers` with `S` one of
+//! I, P, B, C; a building record is `K,next,count,headers,attributes` with `K` one of F, H.
 
 mod common {
     pub mod by_plain;
@@ -22,42 +22,71 @@ use std::path::{Path, PathBuf};
 
 #[test]
 fn vectors() {
+    let listed = Path::new(env!("CARGO_MANIFEST_DIR")).join("../../crates/vectors/stdin");
+    run(&listed);
     let Some(folder) = env::var_os("AJP13_VECTORS") else {
-        println!("skipped: AJP13_VECTORS names no folder of vectors");
         return;
     };
     let files = tsv_files(Path::new(&folder));
     assert!(!files.is_empty(), "there is no file *.tsv in {folder:?}");
     for file in files {
-        let text = fs::read_to_string(&file).expect("a file of vectors can be read");
-        let mut cases = 0;
-        for (number, line) in (1..).zip(text.lines()) {
-            let mut columns = line.split('\t');
-            let (Some(case), Some(expected)) = (columns.next(), columns.next()) else {
-                panic!("{}:{number} has no answer", file.display());
-            };
-            let (call, before) = parse(case);
-            for at_library in [true, false] {
-                let mut lent = before.clone();
-                let status = if at_library {
-                    call.at_library(&mut lent)
-                } else {
-                    call.at_plain(&mut lent)
-                };
-                let who = if at_library { "library" } else { "plain" };
-                let answer = answer(&call, status, &lent);
-                let place = format!("{}:{number}, {who}", file.display());
-                assert!(answer == expected, "{place}\n{case}\n{answer}\n{expected}");
-                // A refusal and a "needs" leave everything but the answer as it was.
-                if status != raw::DONE {
-                    lent.answer = before.answer.clone();
-                    assert!(lent == before, "{place}\n{case}\n{lent}");
-                }
-            }
-            cases += 1;
-        }
-        println!("{}: {cases} cases", file.display());
+        run(&file);
     }
+}
+
+/// Runs the cases of a file.
+fn run(file: &Path) {
+    let text = fs::read_to_string(file).expect("a file of vectors can be read");
+    let mut cases = 0;
+    for (number, line) in (1..).zip(text.lines()) {
+        if line.is_empty() || line.starts_with('#') {
+            continue;
+        }
+        let mut columns = line.split('\t').map(written_out);
+        let (Some(case), Some(expected)) = (columns.next(), columns.next()) else {
+            panic!("{}:{number} has no answer", file.display());
+        };
+        let (call, before) = parse(&case);
+        for at_library in [true, false] {
+            let mut lent = before.clone();
+            let status = if at_library {
+                call.at_library(&mut lent)
+            } else {
+                call.at_plain(&mut lent)
+            };
+            let who = if at_library { "library" } else { "plain" };
+            let answer = answer(&call, status, &lent);
+            let place = format!("{}:{number}, {who}", file.display());
+            assert!(answer == expected, "{place}\n{case}\n{answer}\n{expected}");
+            // A refusal and a "needs" leave everything but the answer as it was.
+            if status != raw::DONE && !call.hands_out_number() {
+                lent.answer = before.answer.clone();
+                assert!(lent == before, "{place}\n{case}\n{lent}");
+            }
+        }
+        cases += 1;
+    }
+    println!("{}: {cases} cases", file.display());
+}
+
+/// A listed text with its groups and quotes written out.
+fn written_out(listed: &str) -> String {
+    let mut text = String::new();
+    let mut rest = listed;
+    while let Some(at) = rest.find(['[', '"']) {
+        let (plain, opened) = rest.split_at(at);
+        text.push_str(plain);
+        let end = if opened.starts_with('[') { ']' } else { '"' };
+        let (inside, behind) = opened[1..].split_once(end).expect("a group or quotes end");
+        match inside.split_once('*') {
+            Some((unit, times)) if end == ']' => {
+                text.push_str(&unit.repeat(times.parse().expect("decimal digits")));
+            }
+            _ => text.extend(inside.bytes().map(|byte| format!("{byte:02x}"))),
+        }
+        rest = behind;
+    }
+    text + rest
 }
 
 /// The files `*.tsv` of a folder, in the order of their names.
@@ -77,6 +106,7 @@ fn parse(case: &str) -> (Call, Lent) {
     let mut lent = Lent {
         answer: Array::holding(&[7; raw::ANSWER_WORDS]),
         building: Array::holding(&[7; raw::BUILDING_WORDS]),
+        name: Array::holding(&[7; raw::NAME_BYTES]),
         ..Lent::default()
     };
     let call = match words[..] {
@@ -167,6 +197,14 @@ fn parse(case: &str) -> (Call, Lent) {
             lent.buffer = Array::holding(&bytes(buffer));
             Call::Close
         }
+        ["name", of, code] => Call::Name {
+            list: list(of),
+            code: number(code),
+        },
+        ["code", of, name] => Call::Code {
+            list: list(of),
+            text: bytes(name),
+        },
         _ => panic!("no case: {case}"),
     };
     (call, lent)
@@ -175,6 +213,15 @@ fn parse(case: &str) -> (Call, Lent) {
 /// The answer as the vectors tell it.
 fn answer(call: &Call, status: u32, lent: &Lent) -> String {
     let told = lent.answer.get();
+    match call {
+        Call::Name { .. } | Call::Code { .. } if status == 0 => return "not listed".to_string(),
+        Call::Name { .. } => {
+            let name = &lent.name.get()[..status as usize];
+            return format!("ok name={}", bytes_text(name));
+        }
+        Call::Code { .. } => return format!("ok code={status}"),
+        _ => {}
+    }
     match status {
         raw::DONE => {}
         raw::NEEDS => return format!("needs {}", told[raw::BYTES]),
@@ -252,6 +299,17 @@ fn packet_text(told: &[u32]) -> (&'static str, String) {
         ),
         raw::END => ("end", format!(" reuse={}", told[raw::REUSE])),
         kind => panic!("no kind: {kind}"),
+    }
+}
+
+/// A list of names from its word.
+fn list(text: &str) -> u32 {
+    match text {
+        "method" => raw::LIST_METHODS,
+        "request" => raw::LIST_REQUEST_HEADERS,
+        "response" => raw::LIST_RESPONSE_HEADERS,
+        "attribute" => raw::LIST_ATTRIBUTES,
+        _ => panic!("no list: {text}"),
     }
 }
 

@@ -12,12 +12,9 @@ use cases::string;
 use cases::text;
 use wire::part_of;
 
-// As many bytes as any case has.
-const TEXTS: usize = 262144;
-
 // Writes the library's answer to a case of a command; the place behind it.
 pub fn answer(command: usize, case: &[u8], out: &mut [u8]) -> usize {
-    let mut texts = [0u8; TEXTS];
+    let mut texts = text::room();
     string::store(case, &mut texts);
     with_texts(command, case, &texts, out)
 }

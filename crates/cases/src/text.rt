@@ -3,6 +3,11 @@
 // As a separator this stands for any of those that part the words of a case: a space, a colon and a comma.
 pub const BETWEEN_WORDS: u8 = 0;
 
+// Room for a line that is written out, or for an answer. Longer lines are refused.
+pub fn room() -> [u8; 262144] {
+    [0; 262144]
+}
+
 // The sum of two numbers, or the first alone where that is too large.
 pub fn sum(a: usize, b: usize) -> usize {
     if usize::MAX - a < b {

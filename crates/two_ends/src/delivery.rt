@@ -1,13 +1,13 @@
 // What becomes of a send: a packet that was written is carried to the other end, which reads it.
 use crate::ends::Ends;
-use crate::print;
-use crate::row;
-use crate::told;
-use crate::words;
 use connection::Connection;
 use packet::Direction;
 use places::MAX_PLACES;
 use reader::Received;
+use shown::print;
+use shown::row;
+use shown::told;
+use shown::words;
 use wire::part_of;
 use writer::Sent;
 

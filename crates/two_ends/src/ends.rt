@@ -1,9 +1,8 @@
 // The two ends: the connection that each of them keeps, and how many sends there were.
-use crate::print;
-use crate::words;
 use cases::text;
 use connection::Connection;
 use packet::Direction;
+use shown::record;
 
 pub struct Ends {
     pub server: Connection,
@@ -57,19 +56,7 @@ impl Ends {
 
     // Prints both connections.
     pub fn show(self) {
-        show(b"    server", self.server);
-        show(b"    container", self.container);
+        record::show(b"    server", self.server);
+        record::show(b"    container", self.container);
     }
-}
-
-// Prints a connection, each field from a column of its own.
-fn show(name: &[u8], c: Connection) {
-    let left = c.left();
-    print::padded(name, 15);
-    words::state(c.state(), 8);
-    print::counted(b"left ", left.0 as u64, 4);
-    words::flag(b"due ", c.due(), 5);
-    print::counted(b"asked ", c.asked() as u64, 6);
-    words::flag(b"headers ", c.headers(), 0);
-    print::text(b"\n");
 }

@@ -2,17 +2,12 @@
 // that sent it to the other, which reads it. It prints each send with its bytes, what the other end read of them, and both connections.
 mod delivery;
 mod ends;
-mod entry;
-mod field;
 mod piece;
-mod print;
-mod row;
 mod send;
-mod told;
-mod words;
 
 use crate::ends::Ends;
 use cases::text;
+use shown::print;
 
 // The conversation, a send a line: what is sent, its letter and what it holds (`send` and `piece` say how). A line that begins with # is
 // printed. The server's end refuses to send a second Forward before the first request is over, and a body packet with more bytes than were
@@ -21,7 +16,7 @@ const CONVERSATION: [u8; 1076] = *b"#A ping
 CPing|P
 CPong|Q
 #A request with a body
-Forward, POST /valves/7|F|POST|/valves/7|80|0|h,Host,orchard.example|h,Content-Type,text/plain|h,Content-Length,27|h,X-Gardener,Malee|a,route,basin-2|a,soil,dry
+Forward, POST /valves/7|F|POST|/valves/7|80|0|h,Host,orchard.example|h,Content-Type,text/plain|h,Content-Length,27|h,X-Gardener,Malee|a,route,basin-2|p,soil,dry
 body packet of 10 bytes|B|valve=open
 Forward, GET /trees/12|F|GET|/trees/12|443|1|h,Host,orchard.example|a,query_string,height|n,ssl_key_size,256
 Get Body Chunk of 8 bytes|G|8
@@ -60,7 +55,7 @@ fn main() {
 fn after_line(ends: Ends, line: &[u8]) -> Ends {
     if text::byte_at(line, 0) == b'#' {
         print::named(b"\n", text::field(line, b'#', 1));
-        print::text(b"\n");
+        print::letter(b'\n');
         return ends;
     }
     send::made(ends.counted(), line)

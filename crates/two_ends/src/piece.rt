@@ -1,5 +1,6 @@
 // A packet in pieces. The fields of a Forward's line are the method, req_uri, the port and 1 for ssl or 0; those of a Send Headers' line the
-// status and the message. Behind them stand the pieces: h,NAME,VALUE a header, a,NAME,VALUE an attribute, n,NAME,N one with a number.
+// status and the message. Behind them stand the pieces: h,NAME,VALUE a header, a,NAME,VALUE an attribute, n,NAME,N one
+// with a number, p,NAME,VALUE one that brings its name with it.
 use building_record::Building;
 use cases::parse;
 use cases::text;
@@ -92,21 +93,12 @@ fn with_piece(added: Added, piece: &[u8], buffer: &mut [u8]) -> Added {
 fn put(building: Building, piece: &[u8], buffer: &mut [u8]) -> Added {
     let name = text::field(piece, b',', 1);
     let value = text::field(piece, b',', 2);
+    let code = coded(code::of_attribute(name));
     match text::byte_at(piece, 0) {
         b'h' => header::named(building, buffer, name, value, false),
-        b'a' => attribute(building, name, value, buffer),
-        b'n' => {
-            let code = coded(code::of_attribute(name));
-            attribute::integer(building, buffer, code, parse::number(value, 0))
-        }
+        b'a' => attribute::text(building, buffer, code, value, false),
+        b'n' => attribute::integer(building, buffer, code, parse::number(value, 0)),
+        b'p' => attribute::pair(building, buffer, PAIR, name, false, value, false),
         _ => Added::Next(building),
-    }
-}
-
-// Adds an attribute with a string, by the code of its name where it has one.
-fn attribute(building: Building, name: &[u8], value: &[u8], buffer: &mut [u8]) -> Added {
-    match code::of_attribute(name) {
-        CodeFound::Code(code) => attribute::text(building, buffer, code, value, false),
-        CodeFound::NotListed => attribute::pair(building, buffer, PAIR, name, false, value, false),
     }
 }

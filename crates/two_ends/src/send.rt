@@ -4,12 +4,12 @@
 use crate::delivery;
 use crate::ends::Ends;
 use crate::piece;
-use crate::print;
-use crate::words;
 use cases::parse;
 use cases::text;
 use connection::Connection;
 use packet::Direction;
+use shown::print;
+use shown::words;
 use writer::Sent;
 
 // The fields of a line.
@@ -25,7 +25,7 @@ pub fn made(ends: Ends, line: &[u8]) -> Ends {
     print::text(b". ");
     words::way(direction);
     print::text(text::field(line, b'|', 0));
-    print::text(b"\n");
+    print::letter(b'\n');
     let ends = delivered(ends, direction, letter, line);
     ends.show();
     ends

@@ -13,13 +13,15 @@ use cases::text;
 use libc::STDIN_FILENO;
 use wire::part_of;
 
-// How long the buffers are: the list is shorter than the first, and a line that is written out and an answer are shorter than the others.
+// The list is shorter than this.
 const LIST: usize = 524288;
 
-const WRITTEN_OUT: usize = 262144;
+fn room_for_list() -> [u8; LIST] {
+    [0; LIST]
+}
 
 fn main() {
-    let mut list = [0u8; LIST];
+    let mut list = room_for_list();
     let count = io::read_full(STDIN_FILENO, &mut list);
     let tallies = judged(part_of(&list, 0, count));
     let tallies = whole(tallies, count);
@@ -28,8 +30,8 @@ fn main() {
 
 // The tallies of a list.
 fn judged(list: &[u8]) -> Tallies {
-    let mut case = [0u8; WRITTEN_OUT];
-    let mut answer = [0u8; WRITTEN_OUT];
+    let mut case = text::room();
+    let mut answer = text::room();
     run(list, &mut case, &mut answer)
 }
 

@@ -4,8 +4,8 @@ use borrow.Author.Needs.{needs}
 use Prim.Native.Nat.{_+_, _-_, _≤_, _/_}
 use lib.ListN.{length}
 use mathlib.Core.Path.{_≡_}
-use Rattle.two_ends.proofs.row.show_all.Statement.{statement}
-use Rattle.two_ends.proofs.row.show_all.Tie as tie
+use Rattle.shown.proofs.row.show_all.Statement.{statement}
+use Rattle.shown.proofs.row.show_all.Tie as tie
 
 abbrev Inv-loop : tie.InvT-loop
 Inv-loop packet i₀ i-end i = (i ≤ i-end) × (i-end ≡ length packet / 16 + 1)

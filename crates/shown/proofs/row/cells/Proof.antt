@@ -2,14 +2,14 @@
 -- Assumes nothing.
 use borrow.Author.Needs.{needs}
 use Prim.Native.Nat.{_-_}
-use Rattle.two_ends.proofs.row.cells.Statement.{statement}
-use Rattle.two_ends.proofs.row.cells.Tie as tie
+use Rattle.shown.proofs.row.cells.Statement.{statement}
+use Rattle.shown.proofs.row.cells.Tie as tie
 
 abbrev Inv-loop : tie.InvT-loop
-Inv-loop bytes i₀ t3 i = Unit {0}
+Inv-loop bytes i₀ i = Unit {0}
 
 abbrev μ-loop : tie.MeasureT-loop
-μ-loop bytes i₀ t3 i = 16 - i
+μ-loop bytes i₀ i = 16 - i
 
 pub cells-spec : {M : Type 1} → statement M
 cells-spec =
@@ -17,7 +17,6 @@ cells-spec =
     (tie.spec
     Inv-loop
     μ-loop
-    (search needs)
     (search needs)
     (search needs)
     (search needs)

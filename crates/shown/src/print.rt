@@ -6,6 +6,11 @@ pub fn text(s: &[u8]) {
     io::write_all(STDOUT_FILENO, s);
 }
 
+pub fn letter(b: u8) {
+    let itself = [b];
+    text(&itself);
+}
+
 // What stands before a text, and the text.
 pub fn named(before: &[u8], s: &[u8]) {
     text(before);

@@ -1,7 +1,6 @@
 // Words for what is printed, by number, each list a text with a slash between two.
 use crate::print;
 use cases::text;
-use connection::State;
 use packet::Direction;
 
 // What the refusals say, from 0 on.
@@ -10,11 +9,7 @@ const REFUSALS: [u8; 274] =
     wrong attribute code/wrong content-length/too many/bytes left over/not allowed in this state/wrong body size/too little room/\
     wrong building record";
 
-// The answers for false and true, the states, and what stands before a send and before what was read, by direction.
-const ANSWERS: [u8; 6] = *b"no/yes";
-
-const STATES: [u8; 23] = *b"Idle/Pinged/Busy/Closed";
-
+// What stands before a send and before what was read, by direction.
 const WAYS: [u8; 82] =
     *b"server -> container: /container -> server: /    container reads /    server reads ";
 
@@ -23,14 +18,7 @@ pub fn refusal(number: u8) {
     let refusals = REFUSALS;
     print::counted(b"    refused ", number as u64, 0);
     print::named(b": ", text::field(&refusals, b'/', number as usize));
-    print::text(b"\n");
-}
-
-// Prints what stands before an answer, and yes or no.
-pub fn flag(before: &[u8], is: bool, width: usize) {
-    let answers = ANSWERS;
-    print::text(before);
-    print::padded(text::field(&answers, b'/', bit(is)), width);
+    print::letter(b'\n');
 }
 
 // 1 for true, 0 for false.
@@ -39,21 +27,6 @@ pub fn bit(is: bool) -> usize {
         return 1;
     }
     0
-}
-
-// Prints a state.
-pub fn state(s: State, width: usize) {
-    let states = STATES;
-    print::padded(text::field(&states, b'/', state_number(s)), width);
-}
-
-fn state_number(s: State) -> usize {
-    match s {
-        State::Idle => 0,
-        State::Pinged => 1,
-        State::Busy => 2,
-        State::Closed => 3,
-    }
 }
 
 // Prints the end that sends in a direction, and the one to which it leads.

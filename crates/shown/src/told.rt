@@ -26,7 +26,7 @@ pub fn show(packet: Packet, bytes: &[u8], table: &[u16]) {
         Packet::BodyChunk(part) => content(6, bytes, part),
         Packet::End(reuse) => number(7, words::bit(reuse) as u64),
     }
-    print::text(b"\n");
+    print::letter(b'\n');
 }
 
 fn kind(number: usize) {
@@ -38,7 +38,7 @@ fn kind(number: usize) {
 fn content(number: usize, bytes: &[u8], part: Part) {
     kind(number);
     print::text(views::bytes_of(bytes, part));
-    print::text(b"\"");
+    print::letter(b'"');
 }
 
 // Prints a packet that holds a number.

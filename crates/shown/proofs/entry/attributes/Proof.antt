@@ -2,8 +2,8 @@
 -- Assumes nothing.
 use borrow.Author.Needs.{needs}
 use Prim.Native.Nat.{_≤_, _-_}
-use Rattle.two_ends.proofs.entry.attributes.Statement.{statement}
-use Rattle.two_ends.proofs.entry.attributes.Tie as tie
+use Rattle.shown.proofs.entry.attributes.Statement.{statement}
+use Rattle.shown.proofs.entry.attributes.Tie as tie
 
 abbrev Inv-loop : tie.InvT-loop
 Inv-loop headers count packet table i₀ i = i ≤ count

@@ -23,7 +23,7 @@ fn show(at: usize, bytes: &[u8]) {
     }
     print::text(b"    ");
     print::hex(at as u64, 4);
-    print::text(b" ");
+    print::letter(b' ');
     cells(bytes);
     print::text(b"  |");
     letters(bytes);
@@ -34,7 +34,7 @@ fn show(at: usize, bytes: &[u8]) {
 fn cells(bytes: &[u8]) {
     for i in 0..ROW {
         if i == HALF {
-            print::text(b" ");
+            print::letter(b' ');
         }
         cell(part_of(bytes, i, 1));
     }
@@ -45,15 +45,14 @@ fn cell(byte: &[u8]) {
         print::text(b"   ");
         return;
     }
-    print::text(b" ");
+    print::letter(b' ');
     print::hex(text::byte_at(byte, 0) as u64, 2);
 }
 
 // Prints the text of a row, a dot for a byte that is no letter.
 fn letters(bytes: &[u8]) {
     for i in 0..bytes.len() {
-        let shown = [letter(bytes[i])];
-        print::text(&shown);
+        print::letter(letter(bytes[i]));
     }
 }
 

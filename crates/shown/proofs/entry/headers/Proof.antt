@@ -2,8 +2,8 @@
 -- Assumes nothing.
 use borrow.Author.Needs.{needs}
 use Prim.Native.Nat.{_≤_, _-_}
-use Rattle.two_ends.proofs.entry.headers.Statement.{statement}
-use Rattle.two_ends.proofs.entry.headers.Tie as tie
+use Rattle.shown.proofs.entry.headers.Statement.{statement}
+use Rattle.shown.proofs.entry.headers.Tie as tie
 
 abbrev Inv-loop : tie.InvT-loop
 Inv-loop direction count packet table i₀ i = i ≤ count

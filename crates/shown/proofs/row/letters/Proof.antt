@@ -4,8 +4,8 @@ use borrow.Author.Needs.{needs}
 use Prim.Native.Nat.{_-_, _≤_}
 use lib.ListN.{length}
 use mathlib.Core.Path.{_≡_}
-use Rattle.two_ends.proofs.row.letters.Statement.{statement}
-use Rattle.two_ends.proofs.row.letters.Tie as tie
+use Rattle.shown.proofs.row.letters.Statement.{statement}
+use Rattle.shown.proofs.row.letters.Tie as tie
 
 abbrev Inv-loop : tie.InvT-loop
 Inv-loop bytes i₀ i-end i = (i ≤ i-end) × (i-end ≡ length bytes)
@@ -19,7 +19,6 @@ letters-spec =
     (tie.spec
     Inv-loop
     μ-loop
-    (search needs)
     (search needs)
     (search needs)
     (search needs)
