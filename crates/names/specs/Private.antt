@@ -40,6 +40,6 @@ hasAll set numbers = all (inSet set) numbers
 abbrev pub placeOf : List ℕ → ℕ
 placeOf text = getD text 0 0 % 32
 
--- flags that say of each byte whether it is one of these
+-- flags that say of each of the 256 bytes whether it is a token byte
 unfoldable pub TokenFlags : List Bool → Type 0
 TokenFlags flags = (b : ℕ) → b < 256 → getD flags b false ≡ tokenByte b
