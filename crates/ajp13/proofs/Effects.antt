@@ -10,11 +10,11 @@ use lib.ListN.{length}
 use Rattle.packet.specs.declared.Direction.{Direction}
 use Rattle.connection.specs.declared.Connection.{Connection}
 use Rattle.connection.specs.declared.Kind.{Kind}
-use Rattle.fields.specs.Fault.{orElse}
-use Rattle.fields.specs.Call.{Call, Outcome, outcome, bufferAfter}
-use Rattle.fields.proofs.Sizes.{or-first, or-second, unless-none}
+use Rattle.building.specs.Fault.{orElse}
+use Rattle.building.specs.Call.{Call, Outcome, outcome, bufferAfter}
+use Rattle.building.proofs.Sizes.{or-first, or-second, unless-none}
 use Rattle.building_record.specs.declared.Building.{Building}
-use Rattle.building_record.specs.Record.{kindIn}
+use Rattle.building_record.specs.Record.{builtKind}
 use Rattle.reader.specs.Meaning.{Meaning}
 use Rattle.reader.specs.Reading.{reading, tableAfter}
 use Rattle.writer.specs.Meaning.{Written}
@@ -120,14 +120,14 @@ send-leaves kind call connection buffer answer fault found c o after e is none f
 -- a packet that is closed
 pub close-leaves : (connection building buffer answer : List ℕ) (found : ℕ) (c : Connection) (r : Building) (kind : Kind)
     (o : Outcome Written) (after : List ℕ) (e : Effect) → found ≡ closeFault connection building answer → found ≡ 0 → c ≡ connectionIn connection
-    → r ≡ buildingIn building → kind ≡ kindIn (r .kind) → o ≡ closeOutcome c r buffer → after ≡ closeBuffer c r buffer
+    → r ≡ buildingIn building → kind ≡ builtKind (r .kind) → o ≡ closeOutcome c r buffer → after ≡ closeBuffer c r buffer
     → e ≡ afterSending kind o connection after answer → e ≡ closeEffect building connection buffer answer
 unfolding closeEffect
 close-leaves connection building buffer answer found c r kind o after e is none from record-is kind-is comes writes tells =
-    sending-leaves (kindIn (buildingIn building .kind)) connection buffer answer (closeFault connection building answer) found o _ after _ e is none
+    sending-leaves (builtKind (buildingIn building .kind)) connection buffer answer (closeFault connection building answer) found o _ after _ e is none
     (comes ∙ ap (λ (x : Connection). closeOutcome x r buffer) from ∙ ap (λ (x : Building). closeOutcome (connectionIn connection) x buffer) record-is)
     (writes ∙ ap (λ (x : Connection). closeBuffer x r buffer) from ∙ ap (λ (x : Building). closeBuffer (connectionIn connection) x buffer) record-is)
-    (tells ∙ ap (λ (k : Kind). afterSending k o connection after answer) (kind-is ∙ ap (λ (x : Building). kindIn (x .kind)) record-is))
+    (tells ∙ ap (λ (k : Kind). afterSending k o connection after answer) (kind-is ∙ ap (λ (x : Building). builtKind (x .kind)) record-is))
 
 -- what is left by the arrays that were written
 pub leaves-same : (status : ℕ) (lent : List ℕ) {connection other answer words : List ℕ} → connection ≡ other → answer ≡ words

@@ -10,8 +10,8 @@ use lib.Dec.{leb, eqb}
 use lib.ListN.{length}
 use Rattle.wire.specs.Pick.{pick, both}
 use Rattle.wire.proofs.Tests.{both-first, both-second}
-use Rattle.fields.specs.Fault.{unless}
-use Rattle.fields.proofs.Sizes.{unless-none}
+use Rattle.building.specs.Fault.{unless}
+use Rattle.building.proofs.Sizes.{unless-none}
 use Rattle.ajp13.specs.Status as status
 use Rattle.ajp13.specs.Words.{word, lastNumber}
 use Rattle.ajp13.specs.Fixed.{fixedSize, methodPlace, portPlace, areFixed, fixedFault, FixedFits}

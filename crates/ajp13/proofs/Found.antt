@@ -6,7 +6,7 @@ use mathlib.Core.List.{List}
 use Prim.Native.Nat.{ℕ}
 use lib.Dec.{eqb}
 use Rattle.wire.specs.Pick.{pick}
-use Rattle.fields.specs.Fault.{orElse}
+use Rattle.building.specs.Fault.{orElse}
 
 module _ {found fault : ℕ} (is : found ≡ fault) where
   -- a fault is told

@@ -14,8 +14,8 @@ use Rattle.names.specs.Names.{isListed, nameFor}
 use Rattle.names.specs.Row.{nameRoom, rowOf}
 use Rattle.names.specs.declared.NameList.{NameList}
 use Rattle.names.proofs.Codes.{name-length}
-use Rattle.fields.specs.Fault.{unless, orElse}
-use Rattle.fields.proofs.Sizes.{unless-none, or-first, or-second}
+use Rattle.building.specs.Fault.{unless, orElse}
+use Rattle.building.proofs.Sizes.{unless-none, or-first, or-second}
 use Rattle.ajp13.specs.Status as status
 use Rattle.ajp13.specs.Words.{lastNumber, numberFault}
 use Rattle.ajp13.specs.Name.{listIn, listFault, nameFault, nameAfter}

@@ -10,9 +10,9 @@ use lib.Dec.{eqb}
 use lib.ListN.{length}
 use Rattle.wire.specs.Pick.{pick}
 use Rattle.wire.specs.Bytes.{over}
-use Rattle.fields.specs.Fault.{firstFault}
-use Rattle.fields.specs.Call.{Call, Outcome, refused, done, refusalOf, outcome, bufferAfter}
-use Rattle.fields.proofs.Sizes.{unless-none}
+use Rattle.building.specs.Fault.{firstFault}
+use Rattle.building.specs.Call.{Call, Outcome, refused, done, refusalOf, outcome, bufferAfter}
+use Rattle.building.proofs.Sizes.{unless-none}
 use Rattle.building_record.specs.Record.{isPossible}
 use Rattle.building_record.specs.declared.Building.{Building}
 use Rattle.building_record.proofs.Laws.{possible-yes}

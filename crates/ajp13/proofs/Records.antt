@@ -14,13 +14,13 @@ use Rattle.connection.specs.declared.State.{State}
 use Rattle.connection.specs.declared.Kind.{Kind}
 use Rattle.connection.specs.declared.Connection.{Connection}
 use Rattle.payload.specs.Sequence.{booleanNumber}
-use Rattle.fields.specs.Fault.{unless}
-use Rattle.fields.proofs.Sizes.{unless-none}
+use Rattle.building.specs.Fault.{unless}
+use Rattle.building.proofs.Sizes.{unless-none}
 use Rattle.building_record.specs.Record as building
 use Rattle.building_record.specs.declared.BuildingKind.{BuildingKind}
 use Rattle.building_record.specs.declared.Building.{Building}
 use Rattle.ajp13.specs.Status as status
-use Rattle.ajp13.specs.Words.{word, lastFlag, lastNumber, lastState, connectionSize, statePlace, duePlace, askedPlace, headersPlace, areConnection, stateWord, stateIn, flagIn, connectionFault, connectionIn, connectionWords, buildingSize, kindPlace, nextPlace, countPlace, soFarPlace, attributesPlace, areBuilding, kindWord, isForward, isSendHeaders, buildingKindIn, buildingFault, buildingIn, buildingWords}
+use Rattle.ajp13.specs.Words.{word, lastFlag, lastNumber, lastState, connectionSize, statePlace, duePlace, askedPlace, headersPlace, areConnection, stateWord, stateIn, flagIn, connectionFault, connectionIn, connectionWords, buildingSize, kindPlace, nextPlace, countPlace, soFarPlace, attributesPlace, areBuilding, kindWord, isForwardWord, isSendHeadersWord, buildingKindIn, buildingFault, buildingIn, buildingWords}
 use Rattle.ajp13.specs.Private.{ConnectionFits, BuildingFits}
 
 -- where both tests hold, each does
@@ -90,10 +90,10 @@ connectionTests words = all-four (leb (word words statePlace) lastState) (leb (w
 
 -- a building record's
 abbrev buildingTests : (words : List ℕ) → areBuilding words ≡ true
-    → (either (isForward (word words kindPlace)) (isSendHeaders (word words kindPlace)) ≡ true)
+    → (either (isForwardWord (word words kindPlace)) (isSendHeadersWord (word words kindPlace)) ≡ true)
     × ((leb (word words nextPlace) lastNumber ≡ true) × ((leb (word words countPlace) lastNumber ≡ true) × ((leb (word words soFarPlace) lastNumber ≡ true) × (leb (word words attributesPlace) lastFlag ≡ true))))
 buildingTests words =
-    all-five (either (isForward (word words kindPlace)) (isSendHeaders (word words kindPlace)))
+    all-five (either (isForwardWord (word words kindPlace)) (isSendHeadersWord (word words kindPlace)))
     (leb (word words nextPlace) lastNumber) (leb (word words countPlace) lastNumber) (leb (word words soFarPlace) lastNumber) (leb (word words attributesPlace) lastFlag)
 
 -- so their numbers fit
@@ -125,7 +125,7 @@ flag-back : (flag : Bool) → flagIn (booleanNumber flag) ≡ flag
 flag-back true = refl
 flag-back false = refl
 
-kind-back : (kind : BuildingKind) → buildingKindIn (kindWord (building.kindIn kind)) ≡ kind
+kind-back : (kind : BuildingKind) → buildingKindIn (kindWord (building.builtKind kind)) ≡ kind
 unfolding buildingKindIn
 kind-back BuildingKind.Forward = refl
 kind-back BuildingKind.SendHeaders = refl
@@ -151,7 +151,7 @@ state-right State.Pinged = refl
 state-right State.Busy = refl
 state-right State.Closed = refl
 
-kind-right : (kind : BuildingKind) → either (isForward (kindWord (building.kindIn kind))) (isSendHeaders (kindWord (building.kindIn kind))) ≡ true
+kind-right : (kind : BuildingKind) → either (isForwardWord (kindWord (building.builtKind kind))) (isSendHeadersWord (kindWord (building.builtKind kind))) ≡ true
 kind-right BuildingKind.Forward = refl
 kind-right BuildingKind.SendHeaders = refl
 
@@ -186,12 +186,12 @@ flag-forth n h = go (eqb n 1) refl
     go true e = sym (eqb-true n 1 e)
     go false e = omega (arith, eqb-false n 1 e)
 
-kind-forth : (n : ℕ) → either (isForward n) (isSendHeaders n) ≡ true → kindWord (building.kindIn (buildingKindIn n)) ≡ n
+kind-forth : (n : ℕ) → either (isForwardWord n) (isSendHeadersWord n) ≡ true → kindWord (building.builtKind (buildingKindIn n)) ≡ n
 unfolding buildingKindIn
 kind-forth n h = go (eqb n (kindWord Kind.Forward)) (eqb n (kindWord Kind.SendHeaders)) refl refl h
   where
     go : (a b : Bool) → eqb n (kindWord Kind.Forward) ≡ a → eqb n (kindWord Kind.SendHeaders) ≡ b → either a b ≡ true
-        → kindWord (building.kindIn (pick a BuildingKind.Forward BuildingKind.SendHeaders)) ≡ n
+        → kindWord (building.builtKind (pick a BuildingKind.Forward BuildingKind.SendHeaders)) ≡ n
     go true b p q e = sym (eqb-true n (kindWord Kind.Forward) p)
     go false true p q e = sym (eqb-true n (kindWord Kind.SendHeaders) q)
     go false false p q e = absurd (let z : _≡_ {A = ℕ} 0 1 = cc in omega arith)

@@ -13,7 +13,7 @@ use Rattle.wire.specs.Bytes.{over}
 use Rattle.packet.specs.declared.Direction.{Direction}
 use Rattle.connection.specs.declared.Connection.{Connection}
 use Rattle.connection.specs.declared.Kind.{Kind}
-use Rattle.fields.specs.Call.{Call, Outcome, refused, done, refusalOf, outcome, bufferAfter}
+use Rattle.building.specs.Call.{Call, Outcome, refused, done, refusalOf, outcome, bufferAfter}
 use Rattle.building_record.specs.declared.Building.{Building}
 use Rattle.reader.specs.Meaning as read
 use Rattle.reader.specs.Reading.{reading, tableAfter}

@@ -14,12 +14,12 @@ use Rattle.wire.specs.Pick.{pick}
 use Rattle.wire.specs.Bytes.{part, integerIn}
 use Rattle.wire.proofs.Parts.{part-zero}
 use Rattle.payload.specs.Sequence.{booleanNumber}
-use Rattle.fields.specs.Fault.{unless}
-use Rattle.fields.proofs.Sizes.{unless-none, or-first, or-second}
+use Rattle.building.specs.Fault.{unless}
+use Rattle.building.proofs.Sizes.{unless-none, or-first, or-second}
 use Rattle.views.specs.View.{integerView, nullView, textView}
 use Rattle.ajp13.specs.Status as status
 use Rattle.ajp13.specs.Words.{word, flagIn, lastNumber, numberFault}
-use Rattle.ajp13.specs.View.{textSize, lengthSize, startPlace, lengthPlace, nullPlace, textStart, textWords, textFault}
+use Rattle.ajp13.specs.View.{textSize, lengthSize, textStartPlace, textLengthPlace, textNullPlace, textStart, textWords, textFault}
 use Rattle.ajp13.proofs.Effects.{number-within}
 
 -- the bytes start inside the packet or at its end, at most two bytes behind the place
@@ -80,7 +80,7 @@ words-are packet at p q r = rw (p, q, r) refl
 
 -- so it is with the words themselves: their first two say that part, and the third whether the string is null
 pub words-say : (packet : List ℕ) (at : ℕ) → let words = textWords packet at in
-    (part packet (word words startPlace) (word words lengthPlace) ≡ textView packet at) × (flagIn (word words nullPlace) ≡ nullView packet at)
+    (part packet (word words textStartPlace) (word words textLengthPlace) ≡ textView packet at) × (flagIn (word words textNullPlace) ≡ nullView packet at)
 unfolding textWords
 words-say packet at = (words-show packet at, go (nullView packet at))
   where

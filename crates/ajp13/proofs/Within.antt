@@ -13,9 +13,9 @@ use Rattle.packet.specs.declared.Direction.{Direction}
 use Rattle.connection.specs.Connection.{maxPacket}
 use Rattle.connection.specs.declared.Connection.{Connection}
 use Rattle.connection.specs.declared.Move.{Move}
-use Rattle.fields.specs.Field.{Fits}
-use Rattle.fields.specs.Call.{Call, Outcome, refused, done, refusalOf, outcome}
-use Rattle.fields.proofs.Calls.{done-fits}
+use Rattle.building.specs.Field.{Fits}
+use Rattle.building.specs.Call.{Call, Outcome, refused, done, refusalOf, outcome}
+use Rattle.building.proofs.Calls.{done-fits}
 use Rattle.building_record.specs.declared.Building.{Building}
 use Rattle.reader.specs.declared.frame.FrameRead.{FrameRead}
 use Rattle.reader.specs.Meaning as read

@@ -8,7 +8,7 @@ use lib.Dec.{eqb}
 use lib.ListN.{length}
 use Rattle.wire.specs.Pick.{pick}
 use Rattle.connection.specs.declared.Kind.{Kind}
-use Rattle.fields.specs.Fault.{unless}
+use Rattle.building.specs.Fault.{unless}
 use Rattle.reader.specs.Meaning.{Told}
 use Rattle.ajp13.specs.Status as status
 use Rattle.ajp13.specs.Words.{word, kindWord}

@@ -8,8 +8,8 @@ use lib.Dec.{eqb}
 use lib.ListN.{length}
 use Rattle.wire.specs.Pick.{pick}
 use Rattle.wire.specs.Refusal.{none}
-use Rattle.fields.specs.Fault.{firstFault}
-use Rattle.fields.specs.Call.{Call, Outcome, refused, done, outcome, bufferAfter}
+use Rattle.building.specs.Fault.{firstFault}
+use Rattle.building.specs.Call.{Call, Outcome, refused, done, outcome, bufferAfter}
 use Rattle.pieces.specs.Fixed.{forwardCall, sendHeadersCall}
 use Rattle.pieces.specs.Header.{codedCall, spelledCall, namedCall}
 use Rattle.pieces.specs.Attribute.{textCall, integerCall, pairCall}

@@ -6,7 +6,7 @@ use Prim.Native.Nat.{ℕ}
 use lib.Dec.{eqb}
 use Rattle.wire.specs.Pick.{pick}
 use Rattle.wire.specs.Refusal.{none}
-use Rattle.fields.specs.Fault.{firstFault}
+use Rattle.building.specs.Fault.{firstFault}
 use Rattle.ajp13.specs.Words.{connectionFault}
 use Rattle.ajp13.specs.Answer.{answerFault}
 

@@ -10,7 +10,7 @@ use Rattle.names.specs.Names.{isListed, nameFor}
 use Rattle.names.specs.Row.{nameRoom, rowOf}
 use Rattle.names.specs.declared.CodeFound.{CodeFound}
 use Rattle.names.specs.declared.NameList.{NameList}
-use Rattle.fields.specs.Fault.{unless, orElse}
+use Rattle.building.specs.Fault.{unless, orElse}
 use Rattle.ajp13.specs.Status as status
 use Rattle.ajp13.specs.Words.{numberFault}
 

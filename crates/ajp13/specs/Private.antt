@@ -6,7 +6,7 @@ use Prim.Native.Nat.{ℕ, _≤_}
 use lib.ListN.{length}
 use Rattle.packet.specs.declared.Direction.{Direction}
 use Rattle.connection.specs.Connection.{maxPacket}
-use Rattle.fields.specs.Call as call
+use Rattle.building.specs.Call as call
 use Rattle.reader.specs.Meaning as read
 use Rattle.reader.specs.Reading.{reading, tableAfter}
 use Rattle.writer.specs.Meaning.{Written}

@@ -5,9 +5,9 @@ use mathlib.Core.List.{List, [], _∷_}
 use Prim.Native.Nat.{ℕ}
 use lib.ListN.{length}
 use Rattle.connection.specs.declared.Kind.{Kind}
-use Rattle.fields.specs.Fault.{orElse, firstFault}
-use Rattle.fields.specs.Call.{Call, Outcome, refused, done, outcome, bufferAfter}
-use Rattle.building_record.specs.Record.{kindIn}
+use Rattle.building.specs.Fault.{orElse, firstFault}
+use Rattle.building.specs.Call.{Call, Outcome, refused, done, outcome, bufferAfter}
+use Rattle.building_record.specs.Record.{builtKind}
 use Rattle.writer.specs.Meaning.{Written}
 use Rattle.writer.specs.Sending.{cpingCall, cpongCall, bodyCall, chunkCall, getCall, endCall}
 use Rattle.closing.specs.Closing.{closeOutcome, closeBuffer}
@@ -63,6 +63,6 @@ closeFault connection building answer =
 unfoldable pub closeEffect : List ℕ → List ℕ → List ℕ → List ℕ → Effect
 closeEffect building connection buffer answer =
     checked (closeFault connection building answer) connection buffer answer
-    (afterSending (kindIn (buildingIn building .kind)) (closeOutcome (connectionIn connection) (buildingIn building) buffer) connection
+    (afterSending (builtKind (buildingIn building .kind)) (closeOutcome (connectionIn connection) (buildingIn building) buffer) connection
     (closeBuffer (connectionIn connection) (buildingIn building) buffer)
     answer)

@@ -7,7 +7,7 @@ use lib.Dec.{leb, eqb}
 use lib.ListN.{length}
 use Rattle.wire.specs.Pick.{pick}
 use Rattle.packet.specs.declared.AttributeKind.{AttributeKind}
-use Rattle.fields.specs.Fault.{unless, orElse}
+use Rattle.building.specs.Fault.{unless, orElse}
 use Rattle.views.specs.View.{nullView, textView}
 use Rattle.packet.specs.declared.HeaderName.{HeaderName}
 use Rattle.payload.specs.Sequence.{booleanNumber}
@@ -18,14 +18,14 @@ use Rattle.ajp13.specs.Words.{numberFault}
 abbrev pub textSize : ℕ
 textSize = 3
 
-abbrev pub startPlace : ℕ
-startPlace = 0
+abbrev pub textStartPlace : ℕ
+textStartPlace = 0
 
-abbrev pub lengthPlace : ℕ
-lengthPlace = 1
+abbrev pub textLengthPlace : ℕ
+textLengthPlace = 1
 
-abbrev pub nullPlace : ℕ
-nullPlace = 2
+abbrev pub textNullPlace : ℕ
+textNullPlace = 2
 
 -- how many bytes a string's length takes in front of its bytes
 abbrev pub lengthSize : ℕ

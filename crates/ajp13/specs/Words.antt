@@ -14,7 +14,7 @@ use Rattle.connection.specs.declared.State.{State}
 use Rattle.connection.specs.declared.Kind.{Kind}
 use Rattle.connection.specs.declared.Connection.{Connection}
 use Rattle.payload.specs.Sequence.{booleanNumber}
-use Rattle.fields.specs.Fault.{unless}
+use Rattle.building.specs.Fault.{unless}
 use Rattle.building_record.specs.Record as building
 use Rattle.building_record.specs.declared.BuildingKind.{BuildingKind}
 use Rattle.building_record.specs.declared.Building.{Building}
@@ -97,7 +97,7 @@ connectionFault words =
 -- the connection that words are, and a connection's words
 unfoldable pub connectionIn : List ℕ → Connection
 connectionIn words =
-    connection.fields
+    connection.connectionFields
     (stateIn (word words statePlace))
     (word words leftPlace)
     (flagIn (word words duePlace))
@@ -123,14 +123,14 @@ kindWord Kind.BodyChunk = 7
 kindWord Kind.End = 8
 
 -- the packet in pieces that a word is
-abbrev pub isForward : ℕ → Bool
-isForward n = eqb n (kindWord Kind.Forward)
+abbrev pub isForwardWord : ℕ → Bool
+isForwardWord n = eqb n (kindWord Kind.Forward)
 
-abbrev pub isSendHeaders : ℕ → Bool
-isSendHeaders n = eqb n (kindWord Kind.SendHeaders)
+abbrev pub isSendHeadersWord : ℕ → Bool
+isSendHeadersWord n = eqb n (kindWord Kind.SendHeaders)
 
 unfoldable pub buildingKindIn : ℕ → BuildingKind
-buildingKindIn n = pick (isForward n) BuildingKind.Forward BuildingKind.SendHeaders
+buildingKindIn n = pick (isForwardWord n) BuildingKind.Forward BuildingKind.SendHeaders
 
 -- the words of a building record: how many, and where each stands
 abbrev pub buildingSize : ℕ
@@ -156,7 +156,7 @@ abbrev pub areBuilding : List ℕ → Bool
 areBuilding words =
     both
     (both
-    (both (both (either (isForward (word words kindPlace)) (isSendHeaders (word words kindPlace))) (isNumber (word words nextPlace)))
+    (both (both (either (isForwardWord (word words kindPlace)) (isSendHeadersWord (word words kindPlace))) (isNumber (word words nextPlace)))
     (isNumber (word words countPlace)))
     (isNumber (word words soFarPlace)))
     (isFlag (word words attributesPlace))
@@ -172,7 +172,7 @@ buildingFault words =
 -- the building record that words are, and a record's words
 unfoldable pub buildingIn : List ℕ → Building
 buildingIn words =
-    building.fields
+    building.buildingFields
     (buildingKindIn (word words kindPlace))
     (word words nextPlace)
     (word words countPlace)
@@ -181,4 +181,4 @@ buildingIn words =
 
 unfoldable pub buildingWords : Building → List ℕ
 buildingWords r =
-    kindWord (building.kindIn (r .kind)) ∷ r .next .0 ∷ r .count .0 ∷ r .headers ∷ booleanNumber (r .attributes) ∷ []
+    kindWord (building.builtKind (r .kind)) ∷ r .next .0 ∷ r .count .0 ∷ r .headers ∷ booleanNumber (r .attributes) ∷ []

@@ -4,8 +4,8 @@ ghost use mathlib.Core.Path.{_≡_};
 ghost use mathlib.Core.List.{List, [], _∷_};
 ghost use Prim.Native.Nat.{ℕ};
 ghost use lib.ListN.{length};
-ghost use Rattle.fields.specs.Fault.{firstFault};
-ghost use Rattle.pieces.specs.Meaning.{meaning};
+ghost use Rattle.building.specs.Fault.{firstFault};
+ghost use Rattle.pieces.specs.Meaning.{addedOutcome};
 ghost use Rattle.ajp13.specs.Words.{buildingSize, buildingFault};
 ghost use Rattle.ajp13.specs.Building.{pieceLeaves, afterAdding, pieceEffect, forwardPiece, sendHeadersPiece, codedPiece, spelledPiece, namedPiece, textPiece, integerPiece, pairPiece};
 use crate::fixed::fixed_fault;
@@ -37,7 +37,7 @@ fn piece_fault(words: &[u32], first: u32, second: u32) -> u32
 // Tells what a piece came to: a refusal's number, or done with the words of the next record written.
 fn put_added(building: &mut [u32], added: Added) -> u32
     requires { ⌜ length (now building) ≡ buildingSize ⌝ }
-    ensures { λ r. ⌜ ((buffer : List ℕ) → pieceLeaves r (now (building .exit)) buffer ≡ afterAdding (meaning added) (now (building .entry)) buffer) ⌝ }
+    ensures { λ r. ⌜ ((buffer : List ℕ) → pieceLeaves r (now (building .exit)) buffer ≡ afterAdding (addedOutcome added) (now (building .entry)) buffer) ⌝ }
 {
     match added {
         Added::Refused(n) => n as u32,

@@ -5,7 +5,7 @@ ghost use Rattle.wire.specs.Pick.{pick};
 ghost use Rattle.wire.specs.Bytes.{put};
 ghost use Rattle.names.specs.Names.{isListed, nameFor, codeIn};
 ghost use Rattle.names.specs.Row.{rowOf};
-ghost use Rattle.fields.specs.Fault.{orElse};
+ghost use Rattle.building.specs.Fault.{orElse};
 ghost use Rattle.ajp13.specs.Name.{listIn, listFault, nameFault, nameAfter, codeNumber};
 use crate::status;
 use crate::status::or_else;

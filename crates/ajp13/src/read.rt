@@ -6,7 +6,7 @@ ghost use mathlib.Core.List.{List};
 ghost use Prim.Native.Nat.{ℕ, _≤_};
 ghost use Rattle.packet.specs.declared.Direction.{Direction};
 ghost use Rattle.connection.specs.Connection.{maxPacket};
-ghost use Rattle.reader.specs.Meaning.{accepted, parted, meaning};
+ghost use Rattle.reader.specs.Meaning.{accepted, parted, receivedMeaning};
 ghost use Rattle.ajp13.specs.Answer.{hasPart};
 ghost use Rattle.ajp13.specs.Effect.{leaves};
 ghost use Rattle.ajp13.specs.Reading.{afterReading, readEffect};
@@ -33,8 +33,8 @@ use short_ways::read_body_chunk;
 // Tells what the reader answered: the status, the connection after it and the answer's words.
 fn tell(received: Received, connection: &mut [u32], answer: &mut [u32]) -> u32
     requires { ⌜ Takes (now connection) (now answer) ⌝ }
-    requires { ⌜ ReadWithin (meaning received) ⌝ }
-    ensures { λ r. ⌜ ((table : List ℕ) → leaves r (now (connection .exit)) table (now (answer .exit)) ≡ afterReading (meaning received) (now (connection .entry)) table (now (answer .entry))) ⌝ }
+    requires { ⌜ ReadWithin (receivedMeaning received) ⌝ }
+    ensures { λ r. ⌜ ((table : List ℕ) → leaves r (now (connection .exit)) table (now (answer .exit)) ≡ afterReading (receivedMeaning received) (now (connection .entry)) table (now (answer .entry))) ⌝ }
 {
     match received {
         Received::Needs(n) => {

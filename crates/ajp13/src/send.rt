@@ -3,7 +3,7 @@
 ghost use mathlib.Core.Path.{_≡_};
 ghost use mathlib.Core.List.{List};
 ghost use Prim.Native.Nat.{ℕ};
-ghost use Rattle.writer.specs.Meaning.{meaning};
+ghost use Rattle.writer.specs.Meaning.{sentOutcome};
 ghost use Rattle.ajp13.specs.Effect.{leaves};
 ghost use Rattle.ajp13.specs.Sending.{afterSending, cpingEffect, cpongEffect, bodyEffect, chunkEffect, getEffect, endEffect};
 ghost use Rattle.ajp13.specs.Private.{Takes, SentWithin};
@@ -25,8 +25,8 @@ use writer::Sent;
 // Tells what sending a packet of a kind came to: the status, the connection after it and the answer's words.
 pub fn tell(kind: Kind, sent: Sent, connection: &mut [u32], answer: &mut [u32]) -> u32
     requires { ⌜ Takes (now connection) (now answer) ⌝ }
-    requires { ⌜ SentWithin (meaning sent) ⌝ }
-    ensures { λ r. ⌜ ((buffer : List ℕ) → leaves r (now (connection .exit)) buffer (now (answer .exit)) ≡ afterSending kind (meaning sent) (now (connection .entry)) buffer (now (answer .entry))) ⌝ }
+    requires { ⌜ SentWithin (sentOutcome sent) ⌝ }
+    ensures { λ r. ⌜ ((buffer : List ℕ) → leaves r (now (connection .exit)) buffer (now (answer .exit)) ≡ afterSending kind (sentOutcome sent) (now (connection .entry)) buffer (now (answer .entry))) ⌝ }
 {
     match sent {
         Sent::Refused(n) => n as u32,

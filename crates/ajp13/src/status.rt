@@ -1,7 +1,7 @@
 // What a call returns, under the names that `specs/Status.antt` gives: done, the number of a refusal, or one of these. A fault is the
 // number of an error, `DONE` for none.
 ghost use mathlib.Core.Path.{_≡_};
-ghost use Rattle.fields.specs.Fault.{unless, orElse};
+ghost use Rattle.building.specs.Fault.{unless, orElse};
 
 pub const DONE: u32 = 0;
 

@@ -27,7 +27,7 @@ use Rattle.attributes.specs.Facts.{AttributeInside, AttributesEnd, Attri
 use Rattle.attributes.specs.declared.ValueRead.{ValueRead}
 use Rattle.attributes.specs.declared.AttributeRead.{AttributeRead}
 use Rattle.attributes.specs.declared.AttributesRead.{AttributesRead}
-use Rattle.attributes.specs.Attributes.{lastMark, textValueOf, textValueAt, integerValueOf, integerValueAt, pairValueOf, pairValueAt, valueAt, withValue, codedAt, attributeAt, andThen, attributesAt}
+use Rattle.attributes.specs.Attributes.{lastMark, textValueOf, textValueAt, integerValueOf, integerValueAt, pairValueOf, pairValueAt, attributeValueAt, withValue, codedAt, attributeAt, attributeThen, attributesAt}
 use Rattle.attributes.proofs.Bits.{bit-none, bit-with}
 
 -- a value, by what is read at the place
@@ -49,7 +49,7 @@ module _ (s : List ℕ) (at : ℕ) where
 
 -- an attribute with a code, by the code's fault and by its value; a proof that does not reach the value says `refl`
 pub coded-by : (s : List ℕ) (at code : ℕ) (again : Bool) (fault : ℕ) (fine : Bool) (r : ValueRead)
-    → fault ≡ attributeFault code again → eqb fault none ≡ fine → valueAt s at (attributeKind code) ≡ r
+    → fault ≡ attributeFault code again → eqb fault none ≡ fine → attributeValueAt s at (attributeKind code) ≡ r
     → codedAt s at code again ≡ pick fine (withValue code r) (AttributeRead.Refused fault)
 unfolding codedAt
 coded-by s at code again fault fine r e f g = rw (← e, f, g)
@@ -105,7 +105,7 @@ pair-inside s at = go (stringAt s at (isOptional StringField.AttributeName)) (st
     go (StringRead.Text start len next) h = value-earlier (length s) at next (omega arith) (textValueAt s next) (text-inside s next)
 
 -- a value of any kind lies inside
-value-inside : (s : List ℕ) (at : ℕ) (kind : AttributeKind) → ValueInside (length s) at (valueAt s at kind)
+value-inside : (s : List ℕ) (at : ℕ) (kind : AttributeKind) → ValueInside (length s) at (attributeValueAt s at kind)
 value-inside s at AttributeKind.NotServed = tt
 value-inside s at AttributeKind.Text = text-inside s at
 value-inside s at AttributeKind.Integer = number-value-inside s at
@@ -137,8 +137,8 @@ coded-inside s at code again = go (eqb (attributeFault code again) none) refl
 
     go : (t : Bool) → eqb (attributeFault code again) none ≡ t
         → AttributeInside (length s) at
-        (pick t (withValue code (valueAt s (at + 1) (attributeKind code))) (AttributeRead.Refused (attributeFault code again)))
-    go true e = valued (valueAt s (at + 1) (attributeKind code)) (fine-low code again e) (value-inside s (at + 1) (attributeKind code))
+        (pick t (withValue code (attributeValueAt s (at + 1) (attributeKind code))) (AttributeRead.Refused (attributeFault code again)))
+    go true e = valued (attributeValueAt s (at + 1) (attributeKind code)) (fine-low code again e) (value-inside s (at + 1) (attributeKind code))
     go false e = tt
 
 -- an attribute that is read at a place lies inside
@@ -211,7 +211,7 @@ attributes-inside s at zero codes = go (attributeAt s at true (oneOf codes)) ref
   where
     go : (r : AttributeRead) → attributeAt s at true (oneOf codes) ≡ r
         → AttributesInside (length s) at zero (length codes)
-        (andThen at (length codes) r (λ code next. ended (AttributesRead.Refused tooMany)))
+        (attributeThen at (length codes) r (λ code next. ended (AttributesRead.Refused tooMany)))
     go (AttributeRead.Refused k) e = inside-refused (length s) at zero (length codes) k
     go (AttributeRead.Last next) e = inside-last (length s) at zero (length codes) next (attribute-inside s at true (oneOf codes) _ e)
     go (AttributeRead.Attribute code value next) e = absurd (full-none s at (oneOf codes) code value next e)
@@ -220,7 +220,7 @@ attributes-inside s at (suc most) codes = go (attributeAt s at false (oneOf code
     go : (r : AttributeRead) → attributeAt s at false (oneOf codes) ≡ r
         → ((code next : ℕ) → AttributesInside (length s) next most (suc (length codes)) (attributesAt s next most (code ∷ codes)))
         → AttributesInside (length s) at (suc most) (length codes)
-        (andThen at (length codes) r (λ code next. attributesAt s next most (code ∷ codes)))
+        (attributeThen at (length codes) r (λ code next. attributesAt s next most (code ∷ codes)))
     go (AttributeRead.Refused k) e ih = inside-refused (length s) at (suc most) (length codes) k
     go (AttributeRead.Last next) e ih = inside-last (length s) at (suc most) (length codes) next (attribute-inside s at false (oneOf codes) _ e)
     go (AttributeRead.Attribute code value next) e ih =
@@ -261,7 +261,7 @@ module _ (s : List ℕ) (at : ℕ) (entry table : List ℕ) (from set place coun
 
   -- the same, by what the next attribute reads as
   left-is : (r : AttributeRead) → count < maxAttributes → attributeAt s place false (bit set) ≡ r
-      → left ≡ andThen place count r (λ code next. attributesAt s next (maxAttributes - (count + 1)) (code ∷ R .codes))
+      → left ≡ attributeThen place count r (λ code next. attributesAt s next (maxAttributes - (count + 1)) (code ∷ R .codes))
   unfolding attributesAt
   left-is r h e =
       let q : maxAttributes - count ≡ suc (maxAttributes - (count + 1)) = omega arith in
@@ -269,7 +269,7 @@ module _ (s : List ℕ) (at : ℕ) (entry table : List ℕ) (from set place coun
 
   -- the same, where no more may come
   left-full : (r : AttributeRead) → maxAttributes ≤ count → attributeAt s place true (bit set) ≡ r
-      → left ≡ andThen place count r (λ code next. ended (AttributesRead.Refused tooMany))
+      → left ≡ attributeThen place count r (λ code next. ended (AttributesRead.Refused tooMany))
   unfolding attributesAt
   left-full r h e =
       let q : maxAttributes - count ≡ 0 = omega arith in
@@ -304,12 +304,12 @@ module _ (s : List ℕ) (at : ℕ) (entry table : List ℕ) (from set place coun
 
   -- the next attribute is refused, or is the byte behind the last one
   pub stop : (r : AttributeRead) (end : AttributesRead) → count < maxAttributes → attributeAt s place false (bit set) ≡ r
-      → andThen place count r (λ code next. attributesAt s next (maxAttributes - (count + 1)) (code ∷ R .codes)) ≡ ended end
+      → attributeThen place count r (λ code next. attributesAt s next (maxAttributes - (count + 1)) (code ∷ R .codes)) ≡ ended end
       → Done s at entry table from end
   stop r end h e f = done end (left-is r h e ∙ f)
 
   -- the same after as many as may come, where no more may come
   pub last : (r : AttributeRead) (end : AttributesRead) → maxAttributes ≤ count → attributeAt s place true (bit set) ≡ r
-      → andThen place count r (λ code next. ended (AttributesRead.Refused tooMany)) ≡ ended end
+      → attributeThen place count r (λ code next. ended (AttributesRead.Refused tooMany)) ≡ ended end
       → Done s at entry table from end
   last r end h e f = done end (left-full r h e ∙ f)

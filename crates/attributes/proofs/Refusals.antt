@@ -20,7 +20,7 @@ use Rattle.places.specs.Entries.{Entries, ended}
 use Rattle.attributes.specs.declared.ValueRead.{ValueRead}
 use Rattle.attributes.specs.declared.AttributeRead.{AttributeRead}
 use Rattle.attributes.specs.declared.AttributesRead.{AttributesRead}
-use Rattle.attributes.specs.Attributes.{lastMark, textValueOf, textValueAt, integerValueOf, integerValueAt, pairValueOf, pairValueAt, valueAt, withValue, codedAt, attributeAt, andThen, attributesAt}
+use Rattle.attributes.specs.Attributes.{lastMark, textValueOf, textValueAt, integerValueOf, integerValueAt, pairValueOf, pairValueAt, attributeValueAt, withValue, codedAt, attributeAt, attributeThen, attributesAt}
 
 -- a value, where it is refused
 abbrev ValueRefusal : ValueRead → Type 0
@@ -53,7 +53,7 @@ pair-refusal s at = go (stringAt s at (isOptional StringField.AttributeName)) (s
     go (StringRead.Null next) h = refl
     go (StringRead.Text start len next) h = text-refusal s next
 
-value-refusal : (s : List ℕ) (at : ℕ) (kind : AttributeKind) → ValueRefusal (valueAt s at kind)
+value-refusal : (s : List ℕ) (at : ℕ) (kind : AttributeKind) → ValueRefusal (attributeValueAt s at kind)
 value-refusal s at AttributeKind.NotServed = refl
 value-refusal s at AttributeKind.Text = text-refusal s at
 value-refusal s at AttributeKind.Integer = number-refusal s at
@@ -74,8 +74,8 @@ unfolding codedAt
 coded-refusal s at code again = go (eqb (attributeFault code again) none) refl
   where
     go : (t : Bool) → eqb (attributeFault code again) none ≡ t
-        → AttributeRefusal (pick t (withValue code (valueAt s at (attributeKind code))) (AttributeRead.Refused (attributeFault code again)))
-    go true e = with-refusal code (valueAt s at (attributeKind code)) (value-refusal s at (attributeKind code))
+        → AttributeRefusal (pick t (withValue code (attributeValueAt s at (attributeKind code))) (AttributeRead.Refused (attributeFault code again)))
+    go true e = with-refusal code (attributeValueAt s at (attributeKind code)) (value-refusal s at (attributeKind code))
     go false e = fault-refusal (attributeFault code again) (attribute-fault code again) e
 
 -- the attribute at a place
@@ -101,7 +101,7 @@ AttributesRefusal (AttributesRead.Refused n) = isRefusal n ≡ true
 AttributesRefusal (AttributesRead.Attributes count next) = Unit
 
 then-refusal : (at count : ℕ) (r : AttributeRead) (later : ℕ → ℕ → Entries AttributesRead) → AttributeRefusal r
-    → ((code next : ℕ) → AttributesRefusal (later code next .end)) → AttributesRefusal (andThen at count r later .end)
+    → ((code next : ℕ) → AttributesRefusal (later code next .end)) → AttributesRefusal (attributeThen at count r later .end)
 then-refusal at count (AttributeRead.Refused n) later h f = h
 then-refusal at count (AttributeRead.Last next) later h f = tt
 then-refusal at count (AttributeRead.Attribute code value next) later h f = f code next

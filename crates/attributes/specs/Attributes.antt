@@ -53,11 +53,11 @@ unfoldable pub pairValueAt : List ℕ → ℕ → ValueRead
 pairValueAt s at = pairValueOf s (stringAt s at (isOptional StringField.AttributeName))
 
 -- the value at a place, by the kind of value that its code has
-abbrev pub valueAt : List ℕ → ℕ → AttributeKind → ValueRead
-valueAt s at AttributeKind.NotServed = ValueRead.Refused attributeWrong
-valueAt s at AttributeKind.Text = textValueAt s at
-valueAt s at AttributeKind.Integer = integerValueAt s at
-valueAt s at AttributeKind.Pair = pairValueAt s at
+abbrev pub attributeValueAt : List ℕ → ℕ → AttributeKind → ValueRead
+attributeValueAt s at AttributeKind.NotServed = ValueRead.Refused attributeWrong
+attributeValueAt s at AttributeKind.Text = textValueAt s at
+attributeValueAt s at AttributeKind.Integer = integerValueAt s at
+attributeValueAt s at AttributeKind.Pair = pairValueAt s at
 
 -- an attribute with this code, by its value as read
 abbrev pub withValue : ℕ → ValueRead → AttributeRead
@@ -68,7 +68,7 @@ withValue code (ValueRead.Value at next) = AttributeRead.Attribute code at next
 unfoldable pub codedAt : List ℕ → ℕ → ℕ → Bool → AttributeRead
 codedAt s at code again =
     pick (eqb (attributeFault code again) none)
-    (withValue code (valueAt s at (attributeKind code)))
+    (withValue code (attributeValueAt s at (attributeKind code)))
     (AttributeRead.Refused (attributeFault code again))
 
 -- the attribute at a place, where some codes came before; `full` where no more may come: 11, before its code is judged
@@ -80,15 +80,15 @@ attributeAt s at full seen =
     (AttributeRead.Refused cutShort)
 
 -- an attribute, as read at a place, and the later ones; `count` came before
-abbrev pub andThen : ℕ → ℕ → AttributeRead → (ℕ → ℕ → Entries AttributesRead) → Entries AttributesRead
-andThen at count (AttributeRead.Refused n) later = ended (AttributesRead.Refused n)
-andThen at count (AttributeRead.Last next) later = ended (AttributesRead.Attributes count next)
-andThen at count (AttributeRead.Attribute code value next) later = front at value (later code next)
+abbrev pub attributeThen : ℕ → ℕ → AttributeRead → (ℕ → ℕ → Entries AttributesRead) → Entries AttributesRead
+attributeThen at count (AttributeRead.Refused n) later = ended (AttributesRead.Refused n)
+attributeThen at count (AttributeRead.Last next) later = ended (AttributesRead.Attributes count next)
+attributeThen at count (AttributeRead.Attribute code value next) later = front at value (later code next)
 
 -- attributes from a place on, up to FF, at most `most`; the codes that came before are listed. Where no more may come, an attribute is
 -- never answered (the law `full-none`), so what would follow it is not looked at
 unfoldable pub attributesAt : List ℕ → ℕ → ℕ → List ℕ → Entries AttributesRead
 attributesAt s at zero codes =
-    andThen at (length codes) (attributeAt s at true (oneOf codes)) (λ code next. ended (AttributesRead.Refused tooMany))
+    attributeThen at (length codes) (attributeAt s at true (oneOf codes)) (λ code next. ended (AttributesRead.Refused tooMany))
 attributesAt s at (suc most) codes =
-    andThen at (length codes) (attributeAt s at false (oneOf codes)) (λ code next. attributesAt s next most (code ∷ codes))
+    attributeThen at (length codes) (attributeAt s at false (oneOf codes)) (λ code next. attributesAt s next most (code ∷ codes))

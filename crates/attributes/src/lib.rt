@@ -8,7 +8,7 @@ ghost use Rattle.wire.specs.Bytes.{over};
 ghost use Rattle.places.specs.Entries.{maxAttributes};
 ghost use Rattle.places.specs.Private.{maxPlace};
 ghost use Rattle.attributes.specs.Private.{bit};
-ghost use Rattle.attributes.specs.Attributes.{textValueAt, integerValueAt, pairValueAt, valueAt, codedAt, attributeAt, attributesAt};
+ghost use Rattle.attributes.specs.Attributes.{textValueAt, integerValueAt, pairValueAt, attributeValueAt, codedAt, attributeAt, attributesAt};
 use names::attribute;
 use packet::AttributeKind;
 use places::MAX_ATTRIBUTES;
@@ -79,7 +79,7 @@ fn pair_value(packet: &[u8], at: usize) -> ValueRead
 
 // The value at a place, of an attribute whose code stands before it.
 fn value_at(packet: &[u8], at: usize, kind: AttributeKind) -> ValueRead
-    ensures { λ r. ⌜ r ≡ valueAt (now (packet .entry)) at kind ⌝ }
+    ensures { λ r. ⌜ r ≡ attributeValueAt (now (packet .entry)) at kind ⌝ }
 {
     match kind {
         AttributeKind::NotServed => ValueRead::Refused(refusal::ATTRIBUTE_WRONG),

@@ -13,12 +13,12 @@ use Rattle.connection.specs.Connection.{maxPacket}
 use Rattle.places.specs.Entries.{maxHeaders}
 use Rattle.payload.specs.Code.{codeOf, codePlace, payloadPlace}
 use Rattle.building_record.specs.declared.Building.{Building}
-use Rattle.building_record.specs.Record.{kindIn, isPossible, countSize, Possible}
+use Rattle.building_record.specs.Record.{builtKind, isPossible, countSize, Possible}
 
 -- a record that can be, by its tests; a proof that does not reach a test says `refl`
 pub possible-by : (r : Building) (buffer : List ℕ) (a b c d e f : Bool) → leb (r .next .0) maxPacket ≡ a → leb (r .next .0) (length buffer) ≡ b
     → leb payloadPlace (r .count .0) ≡ c → leb (r .count .0 + countSize) (r .next .0) ≡ d → leb (r .headers) maxHeaders ≡ e
-    → eqb (getD buffer codePlace 0) (codeOf (kindIn (r .kind))) ≡ f → both a (both b (both c (both d (both e f)))) ≡ isPossible r buffer
+    → eqb (getD buffer codePlace 0) (codeOf (builtKind (r .kind))) ≡ f → both a (both b (both c (both d (both e f)))) ≡ isPossible r buffer
 unfolding isPossible
 possible-by r buffer a b c d e f p q s t u v = rw (← p, ← q, ← s, ← t, ← u, ← v)
 
@@ -32,7 +32,7 @@ possible-yes r buffer e =
     let c : Bool = leb payloadPlace (r .count .0) in
     let d : Bool = leb (r .count .0 + countSize) n in
     let f : Bool = leb (r .headers) maxHeaders in
-    let g : Bool = eqb (getD buffer codePlace 0) (codeOf (kindIn (r .kind))) in
+    let g : Bool = eqb (getD buffer codePlace 0) (codeOf (builtKind (r .kind))) in
     let e1 : both b (both c (both d (both f g))) ≡ true = both-second a (both b (both c (both d (both f g)))) e in
     let e2 : both c (both d (both f g)) ≡ true = both-second b (both c (both d (both f g))) e1 in
     let e3 : both d (both f g) ≡ true = both-second c (both d (both f g)) e2 in
@@ -43,7 +43,7 @@ possible-yes r buffer e =
       behind = leb-true payloadPlace (r .count .0) (both-first c (both d (both f g)) e2);
       apart = leb-true (r .count .0 + countSize) n (both-first d (both f g) e3);
       few = leb-true (r .headers) maxHeaders (both-first f g e4);
-      code = eqb-true (getD buffer codePlace 0) (codeOf (kindIn (r .kind))) (both-second f g e4);
+      code = eqb-true (getD buffer codePlace 0) (codeOf (builtKind (r .kind))) (both-second f g e4);
     }
 
 -- and one that can be by its clauses
@@ -55,4 +55,4 @@ yes-possible r buffer p =
     (le-leb payloadPlace (r .count .0) (p .behind))
     (le-leb (r .count .0 + countSize) (r .next .0) (p .apart))
     (le-leb (r .headers) maxHeaders (p .few))
-    (eq-eqb (getD buffer codePlace 0) (codeOf (kindIn (r .kind))) (p .code)))
+    (eq-eqb (getD buffer codePlace 0) (codeOf (builtKind (r .kind))) (p .code)))

@@ -15,23 +15,23 @@ use Rattle.connection.specs.Connection.{maxPacket}
 use Rattle.connection.specs.Cycle.{directionOf}
 use Rattle.connection.specs.declared.Kind.{Kind}
 use Rattle.payload.specs.Code.{payloadPlace, codePlace, codeOf}
-use Rattle.fields.specs.Fault.{unless}
+use Rattle.building.specs.Fault.{unless}
 use Rattle.building_record.specs.declared.BuildingKind.{BuildingKind}
 use Rattle.building_record.specs.declared.Building.{Building}
 
 -- which packet: its kind
-abbrev pub kindIn : BuildingKind → Kind
-kindIn BuildingKind.Forward = Kind.Forward
-kindIn BuildingKind.SendHeaders = Kind.SendHeaders
+abbrev pub builtKind : BuildingKind → Kind
+builtKind BuildingKind.Forward = Kind.Forward
+builtKind BuildingKind.SendHeaders = Kind.SendHeaders
 
 -- a Forward is being built
 abbrev pub isForward : BuildingKind → Bool
 isForward BuildingKind.Forward = true
 isForward BuildingKind.SendHeaders = false
 
--- a record's fields as they stand: the packet, its next place, its count's place, how many headers, whether an attribute came
-abbrev pub fields : BuildingKind → ℕ → ℕ → ℕ → Bool → Building
-fields kind next count headers attributes =
+-- a record's buildingFields as they stand: the packet, its next place, its count's place, how many headers, whether an attribute came
+abbrev pub buildingFields : BuildingKind → ℕ → ℕ → ℕ → Bool → Building
+buildingFields kind next count headers attributes =
     record { kind = kind; next = record { 0 = next }; count = record { 0 = count }; headers = headers; attributes = attributes }
 
 -- how many bytes the count of headers takes
@@ -46,7 +46,7 @@ isPossible r buffer =
     (both (leb (r .next .0) (length buffer))
     (both (leb payloadPlace (r .count .0))
     (both (leb (r .count .0 + countSize) (r .next .0))
-    (both (leb (r .headers) maxHeaders) (eqb (getD buffer codePlace 0) (codeOf (kindIn (r .kind))))))))
+    (both (leb (r .headers) maxHeaders) (eqb (getD buffer codePlace 0) (codeOf (builtKind (r .kind))))))))
 
 -- the same as statements, one a clause
 pub record Possible (r : Building) (buffer : List ℕ) : Type 0 where
@@ -61,11 +61,11 @@ pub record Possible (r : Building) (buffer : List ℕ) : Type 0 where
   -- no more headers came than may
   pub few : r .headers ≤ maxHeaders
   -- the packet's code is where it belongs
-  pub code : getD buffer codePlace 0 ≡ codeOf (kindIn (r .kind))
+  pub code : getD buffer codePlace 0 ≡ codeOf (builtKind (r .kind))
 
 -- which way the packet goes that is being built
 abbrev pub directionIn : Building → Direction
-directionIn r = directionOf (kindIn (r .kind))
+directionIn r = directionOf (builtKind (r .kind))
 
 -- a header that comes now: 16 for an impossible record, and behind an attribute
 unfoldable pub headerNow : Building → List ℕ → ℕ
@@ -79,14 +79,14 @@ attributeNow r buffer = unless (both (isPossible r buffer) (isForward (r .kind))
 unfoldable pub countFault : Building → ℕ
 countFault r = unless (ltb (r .headers) maxHeaders) tooMany
 
--- the first record of a packet, whose fixed fields end at a place: the count is their last two bytes
+-- the first record of a packet, whose fixed buildingFields end at a place: the count is their last two bytes
 abbrev pub opened : BuildingKind → ℕ → Building
-opened kind end = fields kind end (end - countSize) 0 false
+opened kind end = buildingFields kind end (end - countSize) 0 false
 
 -- the record behind a header that ends at a place
 abbrev pub withHeader : Building → ℕ → Building
-withHeader r end = fields (r .kind) end (r .count .0) (r .headers + 1) (r .attributes)
+withHeader r end = buildingFields (r .kind) end (r .count .0) (r .headers + 1) (r .attributes)
 
 -- the record behind an attribute that ends at a place
 abbrev pub withAttribute : Building → ℕ → Building
-withAttribute r end = fields (r .kind) end (r .count .0) (r .headers) true
+withAttribute r end = buildingFields (r .kind) end (r .count .0) (r .headers) true

@@ -1,11 +1,11 @@
 // What is known of a Forward or a Send Headers that is being built in pieces: the building record, and whether one can be.
 // No call has a condition: any record gets an answer over any buffer.
 ghost use mathlib.Core.Path.{_≡_};
-ghost use Rattle.building_record.specs.Record.{kindIn, isForward, directionIn, fields, isPossible, headerNow, attributeNow, countFault};
+ghost use Rattle.building_record.specs.Record.{builtKind, isForward, directionIn, buildingFields, isPossible, headerNow, attributeNow, countFault};
+use building::fault::unless;
+use building::size::INTEGER;
 use connection::Connection;
 use connection::Kind;
-use fields::fault::unless;
-use fields::size::INTEGER;
 use packet::Direction;
 use packet::Place;
 use payload::CODE_PLACE;
@@ -37,7 +37,7 @@ pub struct Building {
 impl BuildingKind {
     // The kind of packet that is being built.
     pub fn kind(self) -> Kind
-        ensures { λ r. ⌜ r ≡ kindIn self ⌝ }
+        ensures { λ r. ⌜ r ≡ builtKind self ⌝ }
     {
         match self {
             BuildingKind::Forward => Kind::Forward,
@@ -65,7 +65,7 @@ impl Building {
         headers: u16,
         attributes: bool,
     ) -> Building
-        ensures { λ r. ⌜ r ≡ fields kind (next .0) (count .0) headers attributes ⌝ }
+        ensures { λ r. ⌜ r ≡ buildingFields kind (next .0) (count .0) headers attributes ⌝ }
     {
         Building {
             kind,

@@ -30,15 +30,15 @@ use Rattle.payload.specs.Kinds.{packetAt}
 use Rattle.payload.specs.declared.KindRead.{KindRead}
 use Rattle.payload.specs.declared.found.PacketRead.{PacketRead}
 use Rattle.payload.proofs.Parsed.{parsed-kind}
-use Rattle.fields.specs.Fault.{unless, orElse, fitFault}
-use Rattle.fields.specs.Call.{Outcome, refused, done}
-use Rattle.fields.proofs.Sizes.{or-first, or-second, unless-none, fit-none, fit-by}
+use Rattle.building.specs.Fault.{unless, orElse, fitFault}
+use Rattle.building.specs.Call.{Outcome, refused, done}
+use Rattle.building.proofs.Sizes.{or-first, or-second, unless-none, fit-none, fit-by}
 use Rattle.building_record.specs.declared.BuildingKind.{BuildingKind}
 use Rattle.building_record.specs.declared.Building.{Building}
-use Rattle.building_record.specs.Record.{kindIn, directionIn, isPossible}
+use Rattle.building_record.specs.Record.{builtKind, directionIn, isPossible}
 use Rattle.building_record.proofs.Laws.{possible-yes}
 use Rattle.writer.specs.declared.Sent.{Sent}
-use Rattle.writer.specs.Meaning.{Written, meaning, isWritten}
+use Rattle.writer.specs.Meaning.{Written, sentOutcome, isWritten}
 use Rattle.reader.specs.declared.frame.FrameRead.{FrameRead}
 use Rattle.reader.specs.Frame.{leadingDiffers, lengthAt, frameOf, frameAt, lengthPlace}
 use Rattle.reader.specs.Meaning as read
@@ -55,7 +55,7 @@ use Rattle.closing.proofs.Setting.{set-length, packet-length, packet-pa
 
 module _ (c : Connection) (r : Building) (buffer : List ℕ) where
   -- the fault that is found, by the three that are looked for
-  pub fault-by : {possible state fit first : ℕ} → possible ≡ unless (isPossible r buffer) recordWrong → state ≡ unless (inState c (kindIn (r .kind))) notNow
+  pub fault-by : {possible state fit first : ℕ} → possible ≡ unless (isPossible r buffer) recordWrong → state ≡ unless (inState c (builtKind (r .kind))) notNow
       → fit ≡ fitFault (closedLength r) (length buffer) → first ≡ orElse possible state → orElse first fit ≡ closingFault c r buffer
   unfolding closingFault
   fault-by p q f e = rw (e, p, q, f)
@@ -65,13 +65,13 @@ module _ (c : Connection) (r : Building) (buffer : List ℕ) where
   unfolding closingFault
   fault-ready none =
       let possible : ℕ = unless (isPossible r buffer) recordWrong in
-      let state : ℕ = unless (inState c (kindIn (r .kind))) notNow in
+      let state : ℕ = unless (inState c (builtKind (r .kind))) notNow in
       let fit : ℕ = fitFault (closedLength r) (length buffer) in
       let first : orElse possible state ≡ 0 = or-first (orElse possible state) fit none in
       let fits = fit-none (closedLength r) (length buffer) (or-second (orElse possible state) fit none) in
       record {
         possible = unless-none (isPossible r buffer) recordWrong (omega arith) (or-first possible state first);
-        allowed = unless-none (inState c (kindIn (r .kind))) notNow (omega arith) (or-second possible state first);
+        allowed = unless-none (inState c (builtKind (r .kind))) notNow (omega arith) (or-second possible state first);
         within = fits .0;
         inside = fits .1;
       }
@@ -149,7 +149,7 @@ module _ (r : Building) (buffer : List ℕ) (can : Closable r buffer) (d : Direc
       go false q = cc
 
 -- a state that allows a packet in pieces has no body packet due at the end to which it goes
-none-due : (c : Connection) (kind : BuildingKind) → inState c (kindIn kind) ≡ true → readAsBody (directionOf (kindIn kind)) c ≡ false
+none-due : (c : Connection) (kind : BuildingKind) → inState c (builtKind kind) ≡ true → readAsBody (directionOf (builtKind kind)) c ≡ false
 none-due c BuildingKind.Forward e = by (c .state) e
   where
     by : (state : State) → isIdle state ≡ true → both (isBusy state) (c .due) ≡ false
@@ -161,7 +161,7 @@ none-due c BuildingKind.SendHeaders e = refl
 
 -- the kind that has a record's code, or no kind's code
 code-of-kind : (kind : BuildingKind) (t : Bool) (found : Kind)
-    → codeKind (directionOf (kindIn kind)) (pick t 0 (codeOf (kindIn kind))) ≡ KindRead.Kind found → found ≡ kindIn kind
+    → codeKind (directionOf (builtKind kind)) (pick t 0 (codeOf (builtKind kind))) ≡ KindRead.Kind found → found ≡ builtKind kind
 unfolding codeKind
 code-of-kind BuildingKind.Forward true found e = absurd (let z : _≡_ {A = ℕ} 0 1 = cc in omega arith)
 code-of-kind BuildingKind.Forward false found e = cc
@@ -175,15 +175,15 @@ module _ (r : Building) (buffer : List ℕ) (can : Closable r buffer) where
   all-taken taken e = ap (λ (n : ℕ). take n (closedPacket r buffer)) (e ∙ sym (packet-length r buffer can)) ∙ take-length (closedPacket r buffer)
 
   -- by its code it is of the record's kind
-  code-kind : r .headers ≤ maxHeaders → getD buffer codePlace 0 ≡ codeOf (kindIn (r .kind)) → (found : Kind)
-      → kindAt (directionIn r) false (closedPacket r buffer) ≡ KindRead.Kind found → found ≡ kindIn (r .kind)
+  code-kind : r .headers ≤ maxHeaders → getD buffer codePlace 0 ≡ codeOf (builtKind (r .kind)) → (found : Kind)
+      → kindAt (directionIn r) false (closedPacket r buffer) ≡ KindRead.Kind found → found ≡ builtKind (r .kind)
   unfolding kindAt byteAt
   code-kind few is found e =
       let s : List ℕ = closedPacket r buffer in
       let there : byteAt s codePlace ≡ NumberRead.Number (getD s codePlace 0) (codePlace + 1) =
       sym (number-read 1 (getD s codePlace 0) s codePlace (omega (arith, packet-length r buffer can, can .behind, can .apart))) in
       code-of-kind (r .kind) (eqb (r .count .0) codePlace) found
-      (ap (codeKind (directionIn r)) (sym (packet-code r buffer can (codeOf (kindIn (r .kind))) few is))
+      (ap (codeKind (directionIn r)) (sym (packet-code r buffer can (codeOf (builtKind (r .kind))) few is))
       ∙ ap (kindOfCode (directionIn r)) (sym there) ∙ e)
 
 module _ (c : Connection) (r : Building) (buffer : List ℕ) where
@@ -204,7 +204,7 @@ module _ (c : Connection) (r : Building) (buffer : List ℕ) where
 
   -- the packet that passes is of the record's kind: its code is the record's, or what stands there is no code at all
   closed-kind : Ready c r buffer → (t : read.Told) (taken : ℕ) (next : Connection)
-      → judgement c r (closedPacket r buffer) ≡ read.accepted t taken next → t .kind ≡ kindIn (r .kind)
+      → judgement c r (closedPacket r buffer) ≡ read.accepted t taken next → t .kind ≡ builtKind (r .kind)
   unfolding judgement
   closed-kind ready t taken next e =
       let s : List ℕ = closedPacket r buffer in
@@ -241,23 +241,23 @@ module _ (c : Connection) (r : Building) (buffer : List ℕ) where
 
   -- an answer is closing's, and whether it says that the packet is written tells which buffer is closing's: with the packet closed, or as it was
   pub record Closes (sent : Sent) (written : Bool) : Type 0 where
-    pub answer : meaning sent ≡ closeOutcome c r buffer
+    pub answer : sentOutcome sent ≡ closeOutcome c r buffer
     pub stands : not written ≡ false → closed r buffer ≡ closeBuffer c r buffer
     pub kept : not written ≡ true → buffer ≡ closeBuffer c r buffer
 
   -- so it is with the judge's answer to the packet that stands there when nothing was found before
   pub closes : (sent : Sent) (written : Bool) {size : ℕ} {set packet : List ℕ} → closingFault c r buffer ≡ 0 → size ≡ closedLength r
-      → set ≡ closed r buffer → packet ≡ part set 0 size → meaning sent ≡ verdict (length packet) (judgement c r packet) → written ≡ isWritten sent → Closes sent written
+      → set ≡ closed r buffer → packet ≡ part set 0 size → sentOutcome sent ≡ verdict (length packet) (judgement c r packet) → written ≡ isWritten sent → Closes sent written
   unfolding closedPacket
   closes sent written {size} {set} {packet} none s e p judged is =
       let same : packet ≡ closedPacket r buffer = p ∙ ap (λ (l : List ℕ). part l 0 size) e ∙ ap (part (closed r buffer) 0) s in
       let long : length packet ≡ closedLength r =
       ap length same ∙ packet-length r buffer (ready-closable c r buffer (fault-ready c r buffer none)) in
-      let answer : meaning sent ≡ closeOutcome c r buffer =
+      let answer : sentOutcome sent ≡ closeOutcome c r buffer =
       judged ∙ ap (λ (n : ℕ). verdict n (judgement c r packet)) long
       ∙ ap (λ (l : List ℕ). verdict (closedLength r) (judgement c r l)) same
       ∙ found-judged (closingFault c r buffer) refl none in
-      let after : whereDone (meaning sent) (closed r buffer) buffer ≡ closeBuffer c r buffer = outcome-buffer (meaning sent) answer in
+      let after : whereDone (sentOutcome sent) (closed r buffer) buffer ≡ closeBuffer c r buffer = outcome-buffer (sentOutcome sent) answer in
       record {
         answer = answer;
         stands = λ w. by-answer sent true (sym is ∙ not-false written w) ∙ after;
@@ -265,7 +265,7 @@ module _ (c : Connection) (r : Building) (buffer : List ℕ) where
       }
     where
       by-answer : (sent : Sent) (written : Bool) → isWritten sent ≡ written
-          → pick written (closed r buffer) buffer ≡ whereDone (meaning sent) (closed r buffer) buffer
+          → pick written (closed r buffer) buffer ≡ whereDone (sentOutcome sent) (closed r buffer) buffer
       by-answer (Sent.Refused n) true q = absurd (false≢true q)
       by-answer (Sent.Refused n) false q = refl
       by-answer (Sent.Written size connection) true q = refl

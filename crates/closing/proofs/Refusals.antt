@@ -13,11 +13,11 @@ use Rattle.wire.proofs.Refusals.{fault-refusal}
 use Rattle.connection.specs.Cycle.{inState}
 use Rattle.connection.specs.declared.Connection.{Connection}
 use Rattle.places.specs.Entries.{maxPlaces}
-use Rattle.fields.specs.Fault.{unless, fitFault}
-use Rattle.fields.specs.Call.{refused}
-use Rattle.fields.proofs.Refusals.{unless-fault, fit-fault, first-fault}
+use Rattle.building.specs.Fault.{unless, fitFault}
+use Rattle.building.specs.Call.{refused}
+use Rattle.building.proofs.Refusals.{unless-fault, fit-fault, first-fault}
 use Rattle.building_record.specs.declared.Building.{Building}
-use Rattle.building_record.specs.Record.{kindIn, directionIn, isPossible}
+use Rattle.building_record.specs.Record.{builtKind, directionIn, isPossible}
 use Rattle.reader.specs.Meaning as read
 use Rattle.reading_laws.proofs.Refusals.{reading-refusal}
 use Rattle.closing.specs.Closing.{closedLength, closingFault, closedPacket, judgement, verdict, closeOutcome}
@@ -29,11 +29,11 @@ unfolding closingFault
 found-fault c r buffer =
     first-fault
     (unless (isPossible r buffer) recordWrong
-    ∷ unless (inState c (kindIn (r .kind))) notNow
+    ∷ unless (inState c (builtKind (r .kind))) notNow
     ∷ fitFault (closedLength r) (length buffer)
     ∷ []) (
       unless-fault (isPossible r buffer) recordWrong refl,
-      (unless-fault (inState c (kindIn (r .kind))) notNow refl, (fit-fault (closedLength r) (length buffer), tt)),
+      (unless-fault (inState c (builtKind (r .kind))) notNow refl, (fit-fault (closedLength r) (length buffer), tt)),
     )
 
 -- what the judge answers

@@ -13,11 +13,11 @@ use Rattle.attributes.specs.Attributes.{lastMark}
 use Rattle.connection.specs.Cycle.{inState}
 use Rattle.connection.specs.declared.Connection.{Connection}
 use Rattle.payload.specs.Code.{payloadPlace}
-use Rattle.fields.specs.Fault.{unless, firstFault, fitFault}
-use Rattle.fields.specs.Call.{Outcome, refused, done}
+use Rattle.building.specs.Fault.{unless, firstFault, fitFault}
+use Rattle.building.specs.Call.{Outcome, refused, done}
 use Rattle.building_record.specs.declared.BuildingKind.{BuildingKind}
 use Rattle.building_record.specs.declared.Building.{Building}
-use Rattle.building_record.specs.Record.{kindIn, directionIn, isPossible}
+use Rattle.building_record.specs.Record.{builtKind, directionIn, isPossible}
 use Rattle.writer.specs.Meaning.{Written}
 use Rattle.reader.specs.Frame.{lengthPlace}
 use Rattle.reader.specs.Meaning as read
@@ -37,7 +37,7 @@ unfoldable pub closingFault : Connection → Building → List ℕ → ℕ
 closingFault c r buffer =
     firstFault
     (unless (isPossible r buffer) recordWrong
-    ∷ unless (inState c (kindIn (r .kind))) notNow
+    ∷ unless (inState c (builtKind (r .kind))) notNow
     ∷ fitFault (closedLength r) (length buffer)
     ∷ [])
 

@@ -12,7 +12,7 @@ use Rattle.connection.specs.Cycle.{inState}
 use Rattle.connection.specs.declared.Connection.{Connection}
 use Rattle.places.specs.Entries.{maxPlaces}
 use Rattle.building_record.specs.declared.Building.{Building}
-use Rattle.building_record.specs.Record.{kindIn, directionIn, isPossible}
+use Rattle.building_record.specs.Record.{builtKind, directionIn, isPossible}
 use Rattle.writer.specs.Meaning.{Written}
 use Rattle.reader.specs.Meaning as read
 use Rattle.reader.specs.Reading.{reading}
@@ -23,7 +23,7 @@ pub record Ready (c : Connection) (r : Building) (buffer : List ℕ) : Type 0 wh
   -- the record can be
   pub possible : isPossible r buffer ≡ true
   -- the state allows the packet
-  pub allowed : inState c (kindIn (r .kind)) ≡ true
+  pub allowed : inState c (builtKind (r .kind)) ≡ true
   -- all of it fits a packet
   pub within : closedLength r ≤ maxPacket
   -- and the buffer
@@ -44,7 +44,7 @@ pub record CloseDone (c : Connection) (r : Building) (buffer : List ℕ) (w : Wr
   -- what the end to which it goes is told of it
   pub told : read.Told
   -- it is the packet that the record says
-  pub kind-is : told .kind ≡ kindIn (r .kind)
+  pub kind-is : told .kind ≡ builtKind (r .kind)
   -- this end accepts it, all of it, and has the connection that is answered after it
   pub judged-is : judgement c r (closedPacket r buffer) ≡ read.accepted told (closedLength r) (w .connection)
   -- and so it reads it with every table that is long enough for all packets

@@ -6,16 +6,16 @@ ghost use mathlib.Core.Path.{_≡_};
 ghost use lib.ListN.{length, getD};
 ghost use Rattle.wire.specs.Bytes.{over};
 ghost use Rattle.reader.specs.Meaning as read;
-ghost use Rattle.writer.specs.Meaning.{meaning};
+ghost use Rattle.writer.specs.Meaning.{sentOutcome};
 ghost use Rattle.closing.specs.Closing.{closedLength, closingFault, closed, verdict, judgement, closeOutcome, closeBuffer};
 ghost use Rattle.closing.specs.Private.{lastWith, Closable, putBack};
 use attributes::LAST_MARK;
+use building::fault;
+use building::put;
+use building::size::BYTE;
 use building_record::Building;
 use building_record::BuildingKind;
 use connection::Connection;
-use fields::fault;
-use fields::put;
-use fields::size::BYTE;
 use packet::Place;
 use payload::PAYLOAD_PLACE;
 use places::MAX_PLACES;
@@ -118,7 +118,7 @@ fn put_back(buffer: &mut [u8], building: Building, old: Old)
 
 // What the end to which a packet goes answers to it, the table aside: it is lent one that is long enough for every packet.
 fn read_there(connection: Connection, building: Building, packet: &[u8]) -> Received
-    ensures { λ r. ⌜ read.meaning r ≡ judgement connection building (now (packet .entry)) ⌝ }
+    ensures { λ r. ⌜ read.receivedMeaning r ≡ judgement connection building (now (packet .entry)) ⌝ }
 {
     let direction = building.kind().kind().direction();
     let mut places = [0u16; MAX_PLACES];
@@ -127,7 +127,7 @@ fn read_there(connection: Connection, building: Building, packet: &[u8]) -> Rece
 
 // Judges a packet by that answer.
 fn judge(connection: Connection, building: Building, packet: &[u8]) -> Sent
-    ensures { λ r. ⌜ meaning r ≡ verdict (length (now (packet .entry))) (judgement connection building (now (packet .entry))) ⌝ }
+    ensures { λ r. ⌜ sentOutcome r ≡ verdict (length (now (packet .entry))) (judgement connection building (now (packet .entry))) ⌝ }
 {
     let size = packet.len();
     match read_there(connection, building, packet) {
@@ -143,7 +143,7 @@ fn judge(connection: Connection, building: Building, packet: &[u8]) -> Sent
 
 // Closes the packet that the record says.
 pub fn close(connection: Connection, building: Building, buffer: &mut [u8]) -> Sent
-    ensures { λ r. ⌜ meaning r ≡ closeOutcome connection building (now (buffer .entry)) ⌝ }
+    ensures { λ r. ⌜ sentOutcome r ≡ closeOutcome connection building (now (buffer .entry)) ⌝ }
     ensures { λ _. ⌜ now (buffer .exit) ≡ closeBuffer connection building (now (buffer .entry)) ⌝ }
 {
     let found = closing_fault(connection, building, buffer);

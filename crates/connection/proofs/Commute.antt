@@ -9,7 +9,7 @@ use native.Mathlib.Omega.{arith}
 use borrow.Author.Tests.{eqb-true, leb-true}
 use lib.Dec.{eqb, leb}
 use Rattle.wire.specs.Pick.{pick, both}
-use Rattle.wire.specs.Refusal.{none, notNow, sizeWrong}
+use Rattle.wire.specs.Refusal.{none, notNow, bodySizeWrong}
 use Rattle.packet.specs.declared.Direction.{Direction}
 use Rattle.wire.proofs.Tests.{both-first, both-second}
 use Rattle.connection.specs.declared.State.{State}
@@ -17,8 +17,8 @@ use Rattle.connection.specs.declared.Connection.{Connection}
 use Rattle.connection.specs.declared.Kind.{Kind}
 use Rattle.connection.specs.declared.Move.{Move}
 use Rattle.connection.specs.declared.Step.{Step}
-use Rattle.connection.specs.Connection.{maxBody, isIdle, isPinged, isBusy, fields, bare, busy, counted, bodyDue}
-use Rattle.connection.specs.Cycle.{kindOf, directionOf, inState, largestBody, sizeAllowed, inSize, allowed, after, stepOf, numberIn, connectionIn}
+use Rattle.connection.specs.Connection.{maxBody, isIdle, isPinged, isBusy, connectionFields, rest, busy, counted, bodyDue}
+use Rattle.connection.specs.Cycle.{moveKind, directionOf, inState, largestBody, sizeAllowed, inSize, allowed, after, stepOf, numberIn, connectionAfterStep}
 use Rattle.connection.specs.Facts.{Commuting, BodyWithin, Ignored}
 use Rattle.connection.proofs.Laws.{largest-by, step-by}
 
@@ -30,7 +30,7 @@ wrong-way : {A : Type 0} → Direction.ToServer ≡ Direction.ToContainer → A
 wrong-way e = absurd (let z : _≡_ {A = ℕ} 0 1 = cc in omega arith)
 
 -- where a connection is Idle no move of the container's is allowed
-pub idle-mute : (c : Connection) (n : Move) → directionOf (kindOf n) ≡ Direction.ToServer → c .state ≡ State.Idle
+pub idle-mute : (c : Connection) (n : Move) → directionOf (moveKind n) ≡ Direction.ToServer → c .state ≡ State.Idle
     → allowed c n ≡ false
 idle-mute c Move.CPing q e = wrong-way (sym q)
 idle-mute c Move.CPong q e = rw e
@@ -42,7 +42,7 @@ idle-mute c (Move.BodyChunk k) q e = rw e
 idle-mute c (Move.End reuse) q e = rw e
 
 -- no move of the server's leads to Idle
-pub server-not-idle : (c : Connection) (m : Move) → directionOf (kindOf m) ≡ Direction.ToContainer → after c m .state ≡ State.Idle → ⊥
+pub server-not-idle : (c : Connection) (m : Move) → directionOf (moveKind m) ≡ Direction.ToContainer → after c m .state ≡ State.Idle → ⊥
 server-not-idle c Move.CPing p e = never (ap isIdle e)
 server-not-idle c Move.CPong p e = wrong-way p
 server-not-idle c (Move.Forward n) p e = never (ap isIdle e)
@@ -59,14 +59,14 @@ is-idle State.Busy e = never e
 is-idle State.Closed e = never e
 
 -- the server's moves of Idle: there the container has none
-from-idle : (c : Connection) (m n : Move) → directionOf (kindOf n) ≡ Direction.ToServer → both (isIdle (c .state)) true ≡ true
+from-idle : (c : Connection) (m n : Move) → directionOf (moveKind n) ≡ Direction.ToServer → both (isIdle (c .state)) true ≡ true
     → allowed c n ≡ true → Commuting c m n
 from-idle c m n q f g =
     never (sym (idle-mute c n q (is-idle (c .state) (both-first (isIdle (c .state)) true f))) ∙ g)
 
--- the server's move of Busy, a body packet, by the fields of the connection, so that each row of the table computes
-from-busy : (s : State) (l : ℕ) (d : Bool) (a : ℕ) (h : Bool) (k : ℕ) (n : Move) → directionOf (kindOf n) ≡ Direction.ToServer
-    → allowed (fields s l d a h) (Move.Body k) ≡ true → allowed (fields s l d a h) n ≡ true → Commuting (fields s l d a h) (Move.Body k) n
+-- the server's move of Busy, a body packet, by the connectionFields of the connection, so that each row of the table computes
+from-busy : (s : State) (l : ℕ) (d : Bool) (a : ℕ) (h : Bool) (k : ℕ) (n : Move) → directionOf (moveKind n) ≡ Direction.ToServer
+    → allowed (connectionFields s l d a h) (Move.Body k) ≡ true → allowed (connectionFields s l d a h) n ≡ true → Commuting (connectionFields s l d a h) (Move.Body k) n
 unfolding largestBody
 from-busy State.Busy l true a false k Move.SendHeaders q f g = record { first-then = refl; second-then = f; meets = refl }
 from-busy State.Busy l true a true k (Move.BodyChunk j) q f g = record { first-then = refl; second-then = f; meets = refl }
@@ -85,7 +85,7 @@ from-busy State.Pinged l d a h k n q f g = never f
 from-busy State.Closed l d a h k n q f g = never f
 
 -- a server's move and a container's move that are both allowed may be made in either order
-pub commute : (c : Connection) (m n : Move) → directionOf (kindOf m) ≡ Direction.ToContainer → directionOf (kindOf n) ≡ Direction.ToServer
+pub commute : (c : Connection) (m n : Move) → directionOf (moveKind m) ≡ Direction.ToContainer → directionOf (moveKind n) ≡ Direction.ToServer
     → allowed c m ≡ true → allowed c n ≡ true → Commuting c m n
 commute c Move.CPing n p q f g = from-idle c Move.CPing n q f g
 commute c (Move.Forward k) n p q f g = from-idle c (Move.Forward k) n q f g
@@ -133,14 +133,14 @@ settled c (Move.End true) = refl
 settled c (Move.End false) = refl
 
 -- a record and what counts of it have the same state, and in Busy the same answer to any test of due and headers
-same-state : (s : State) (l : ℕ) (d : Bool) (a : ℕ) (h : Bool) → counted (fields s l d a h) .state ≡ s
+same-state : (s : State) (l : ℕ) (d : Bool) (a : ℕ) (h : Bool) → counted (connectionFields s l d a h) .state ≡ s
 same-state State.Idle l d a h = refl
 same-state State.Pinged l d a h = refl
 same-state State.Busy l d a h = refl
 same-state State.Closed l d a h = refl
 
 same-test : (test : Bool → Bool → Bool) (s : State) (l : ℕ) (d : Bool) (a : ℕ) (h : Bool)
-    → both (isBusy (counted (fields s l d a h) .state)) (test (counted (fields s l d a h) .due) (counted (fields s l d a h) .headers))
+    → both (isBusy (counted (connectionFields s l d a h) .state)) (test (counted (connectionFields s l d a h) .due) (counted (connectionFields s l d a h) .headers))
     ≡ both (isBusy s) (test d h)
 same-test test State.Idle l d a h = refl
 same-test test State.Pinged l d a h = refl
@@ -148,7 +148,7 @@ same-test test State.Busy l d a h = refl
 same-test test State.Closed l d a h = refl
 
 -- and the same most that may come
-same-largest : (s : State) (l : ℕ) (d : Bool) (a : ℕ) (h : Bool) → largestBody (counted (fields s l d a h)) ≡ largestBody (fields s l d a h)
+same-largest : (s : State) (l : ℕ) (d : Bool) (a : ℕ) (h : Bool) → largestBody (counted (connectionFields s l d a h)) ≡ largestBody (connectionFields s l d a h)
 unfolding largestBody
 same-largest State.Idle l d a h = refl
 same-largest State.Pinged l d a h = refl
@@ -196,7 +196,7 @@ module _ (c : Connection) where
       → after (counted c) m ≡ after c m
   in-busy m test size f e =
       let b : isBusy (c .state) ≡ true = both-first (isBusy (c .state)) test (both-first (both (isBusy (c .state)) test) size f) in
-      ap (λ (t : Bool). after (pick t tidy (bare (c .state))) m) b ∙ e
+      ap (λ (t : Bool). after (pick t tidy (rest (c .state))) m) b ∙ e
 
   ignored-after : (m : Move) → allowed c m ≡ true → after (counted c) m ≡ after c m
   ignored-after Move.CPing f = refl
@@ -210,62 +210,62 @@ module _ (c : Connection) where
 
 -- a step by what the state and the size say, whose connection matters only where both allow the move
 next-same : (a b : Bool) (x y : Connection) → (both a b ≡ true → x ≡ y)
-    → pick a (pick b (Step.Next x) (Step.Refused sizeWrong)) (Step.Refused notNow)
-    ≡ pick a (pick b (Step.Next y) (Step.Refused sizeWrong)) (Step.Refused notNow)
+    → pick a (pick b (Step.Next x) (Step.Refused bodySizeWrong)) (Step.Refused notNow)
+    ≡ pick a (pick b (Step.Next y) (Step.Refused bodySizeWrong)) (Step.Refused notNow)
 next-same true true x y e = ap Step.Next (e refl)
 next-same true false x y e = refl
 next-same false b x y e = refl
 
 pub ignored : (c : Connection) (m : Move) → Ignored c m
 ignored c m =
-    let state : inState (counted c) (kindOf m) ≡ inState c (kindOf m) = ignored-state c (kindOf m) in
+    let state : inState (counted c) (moveKind m) ≡ inState c (moveKind m) = ignored-state c (moveKind m) in
     let size : inSize (counted c) m ≡ inSize c m = ignored-size c m in
     record {
       allows = rw (state, size);
       goes = ignored-after c m;
-      steps = step-by (counted c) m (inState c (kindOf m)) (inSize c m) state size
-          ∙ next-same (inState c (kindOf m)) (inSize c m) (after (counted c) m) (after c m) (ignored-after c m)
-          ∙ sym (step-by c m (inState c (kindOf m)) (inSize c m) refl refl);
+      steps = step-by (counted c) m (inState c (moveKind m)) (inSize c m) state size
+          ∙ next-same (inState c (moveKind m)) (inSize c m) (after (counted c) m) (after c m) (ignored-after c m)
+          ∙ sym (step-by c m (inState c (moveKind m)) (inSize c m) refl refl);
     }
 
 -- a step goes on where the move is allowed, and to the connection after it
 pub step-next : (c : Connection) (m : Move) → allowed c m ≡ true → stepOf c m ≡ Step.Next (after c m)
 step-next c m f =
-    step-by c m true true (both-first (inState c (kindOf m)) (inSize c m) f) (both-second (inState c (kindOf m)) (inSize c m) f)
+    step-by c m true true (both-first (inState c (moveKind m)) (inSize c m) f) (both-second (inState c (moveKind m)) (inSize c m) f)
 
 -- and nowhere else
 only-next : (a b : Bool) (x d : Connection)
-    → pick a (pick b (Step.Next x) (Step.Refused sizeWrong)) (Step.Refused notNow) ≡ Step.Next d → (both a b ≡ true) × (x ≡ d)
+    → pick a (pick b (Step.Next x) (Step.Refused bodySizeWrong)) (Step.Refused notNow) ≡ Step.Next d → (both a b ≡ true) × (x ≡ d)
 only-next true true x d e = (refl, cc)
 only-next true false x d e = absurd (let z : _≡_ {A = ℕ} 0 1 = cc in omega arith)
 only-next false b x d e = absurd (let z : _≡_ {A = ℕ} 0 1 = cc in omega arith)
 
 pub step-next-only : (c : Connection) (m : Move) (d : Connection) → stepOf c m ≡ Step.Next d → (allowed c m ≡ true) × (after c m ≡ d)
 step-next-only c m d e =
-    only-next (inState c (kindOf m)) (inSize c m) (after c m) d (sym (step-by c m (inState c (kindOf m)) (inSize c m) refl refl) ∙ e)
+    only-next (inState c (moveKind m)) (inSize c m) (after c m) d (sym (step-by c m (inState c (moveKind m)) (inSize c m) refl refl) ∙ e)
 
 -- a step is refused with 13 where the state does not allow the kind, and with 14 where it does and the size is wrong
-pub step-refused-state : (c : Connection) (m : Move) → inState c (kindOf m) ≡ false → stepOf c m ≡ Step.Refused notNow
+pub step-refused-state : (c : Connection) (m : Move) → inState c (moveKind m) ≡ false → stepOf c m ≡ Step.Refused notNow
 step-refused-state c m e = step-by c m false (inSize c m) e refl
 
-pub step-refused-size : (c : Connection) (m : Move) → inState c (kindOf m) ≡ true → inSize c m ≡ false → stepOf c m ≡ Step.Refused sizeWrong
+pub step-refused-size : (c : Connection) (m : Move) → inState c (moveKind m) ≡ true → inSize c m ≡ false → stepOf c m ≡ Step.Refused bodySizeWrong
 step-refused-size c m e f = step-by c m true false e f
 
 -- a step's number and connection: refused, its number and the connection as it was; else 0 and the connection after the move
-pub step-number : (c : Connection) (m : Move) → numberIn (stepOf c m) ≡ pick (inState c (kindOf m)) (pick (inSize c m) none sizeWrong) notNow
+pub step-number : (c : Connection) (m : Move) → numberIn (stepOf c m) ≡ pick (inState c (moveKind m)) (pick (inSize c m) none bodySizeWrong) notNow
 unfolding stepOf
-step-number c m = go (inState c (kindOf m)) (inSize c m)
+step-number c m = go (inState c (moveKind m)) (inSize c m)
   where
-    go : (a b : Bool) → numberIn (pick a (pick b (Step.Next (after c m)) (Step.Refused sizeWrong)) (Step.Refused notNow)) ≡ pick a (pick b none sizeWrong) notNow
+    go : (a b : Bool) → numberIn (pick a (pick b (Step.Next (after c m)) (Step.Refused bodySizeWrong)) (Step.Refused notNow)) ≡ pick a (pick b none bodySizeWrong) notNow
     go true true = refl
     go true false = refl
     go false b = refl
 
-pub step-connection : (c : Connection) (m : Move) → connectionIn c (stepOf c m) ≡ pick (allowed c m) (after c m) c
+pub step-connection : (c : Connection) (m : Move) → connectionAfterStep c (stepOf c m) ≡ pick (allowed c m) (after c m) c
 unfolding stepOf
-step-connection c m = go (inState c (kindOf m)) (inSize c m)
+step-connection c m = go (inState c (moveKind m)) (inSize c m)
   where
-    go : (a b : Bool) → connectionIn c (pick a (pick b (Step.Next (after c m)) (Step.Refused sizeWrong)) (Step.Refused notNow)) ≡ pick (both a b) (after c m) c
+    go : (a b : Bool) → connectionAfterStep c (pick a (pick b (Step.Next (after c m)) (Step.Refused bodySizeWrong)) (Step.Refused notNow)) ≡ pick (both a b) (after c m) c
     go true true = refl
     go true false = refl
     go false b = refl

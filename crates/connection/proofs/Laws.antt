@@ -8,12 +8,12 @@ use native.Mathlib.Omega.{arith}
 use borrow.Author.Tests.{eqb-true, ne-eqb, le-leb, lt-leb}
 use lib.Dec.{eqb, leb}
 use Rattle.wire.specs.Pick.{pick, both}
-use Rattle.wire.specs.Refusal.{notNow, sizeWrong}
+use Rattle.wire.specs.Refusal.{notNow, bodySizeWrong}
 use Rattle.connection.specs.declared.Connection.{Connection}
 use Rattle.connection.specs.declared.Move.{Move}
 use Rattle.connection.specs.declared.Step.{Step}
 use Rattle.connection.specs.Connection.{maxBody, isBusy, bodyDue}
-use Rattle.connection.specs.Cycle.{kindOf, inState, largestBody, sizeAllowed, inSize, after, stepOf}
+use Rattle.connection.specs.Cycle.{moveKind, inState, largestBody, sizeAllowed, inSize, after, stepOf}
 
 -- whether a body packet is due, by whether the state is Busy
 pub due-by : (c : Connection) (t : Bool) → isBusy (c .state) ≡ t → bodyDue c ≡ both t (c .due)
@@ -42,13 +42,13 @@ size-some most k h = go (eqb most 0) refl
     go false e = rw (le-leb 1 k (omega (arith, h)))
 
 -- a step, by whether the state and the size allow it
-pub step-by : (c : Connection) (m : Move) (a b : Bool) → inState c (kindOf m) ≡ a → inSize c m ≡ b
-    → stepOf c m ≡ pick a (pick b (Step.Next (after c m)) (Step.Refused sizeWrong)) (Step.Refused notNow)
+pub step-by : (c : Connection) (m : Move) (a b : Bool) → inState c (moveKind m) ≡ a → inSize c m ≡ b
+    → stepOf c m ≡ pick a (pick b (Step.Next (after c m)) (Step.Refused bodySizeWrong)) (Step.Refused notNow)
 unfolding stepOf
 step-by c m a b d e = rw (d, e)
 
 -- the step of a packet that may have any size, by the connection after it
 pub any-size : (c : Connection) (m : Move) (d : Connection) → inSize c m ≡ true → d ≡ after c m
-    → pick (inState c (kindOf m)) (Step.Next d) (Step.Refused notNow) ≡ stepOf c m
+    → pick (inState c (moveKind m)) (Step.Next d) (Step.Refused notNow) ≡ stepOf c m
 unfolding stepOf
 any-size c m d s e = rw (s, e)

@@ -36,25 +36,25 @@ isBusy State.Pinged = false
 isBusy State.Busy = true
 isBusy State.Closed = false
 
--- a record's fields as they stand: state, bytes of body left, body packet due, bytes asked for, headers sent
-abbrev pub fields : State → ℕ → Bool → ℕ → Bool → Connection
-fields state left due asked headers = record { state = state; left = record { 0 = left }; due = due; asked = asked; headers = headers }
+-- a record's connectionFields as they stand: state, bytes of body left, body packet due, bytes asked for, headers sent
+abbrev pub connectionFields : State → ℕ → Bool → ℕ → Bool → Connection
+connectionFields state left due asked headers = record { state = state; left = record { 0 = left }; due = due; asked = asked; headers = headers }
 
 -- outside Busy nothing but the state counts: the rest is 0
-abbrev pub bare : State → Connection
-bare state = fields state 0 false 0 false
+abbrev pub rest : State → Connection
+rest state = connectionFields state 0 false 0 false
 
 -- in Busy the others count, and what was asked only where a body packet is due
 abbrev pub busy : ℕ → Bool → ℕ → Bool → Connection
-busy left due asked headers = fields State.Busy left due (pick due asked 0) headers
+busy left due asked headers = connectionFields State.Busy left due (pick due asked 0) headers
 
 -- what counts of a record
 abbrev pub counted : Connection → Connection
-counted c = pick (isBusy (c .state)) (busy (c .left .0) (c .due) (c .asked) (c .headers)) (bare (c .state))
+counted c = pick (isBusy (c .state)) (busy (c .left .0) (c .due) (c .asked) (c .headers)) (rest (c .state))
 
 -- a connection made new is Idle, whichever end holds it
 abbrev pub fresh : Connection
-fresh = bare State.Idle
+fresh = rest State.Idle
 
 -- a body packet is due
 abbrev pub bodyDue : Connection → Bool

@@ -6,25 +6,25 @@ use mathlib.Core.Bool.{Bool, true, false, not}
 use Prim.Native.Nat.{ℕ, _-_, min}
 use lib.Dec.{ltb, eqb}
 use Rattle.wire.specs.Pick.{pick, both, between}
-use Rattle.wire.specs.Refusal.{none, notNow, sizeWrong}
+use Rattle.wire.specs.Refusal.{none, notNow, bodySizeWrong}
 use Rattle.packet.specs.declared.Direction.{Direction}
 use Rattle.connection.specs.declared.State.{State}
 use Rattle.connection.specs.declared.Connection.{Connection}
 use Rattle.connection.specs.declared.Kind.{Kind}
 use Rattle.connection.specs.declared.Move.{Move}
 use Rattle.connection.specs.declared.Step.{Step}
-use Rattle.connection.specs.Connection.{maxBody, isIdle, isPinged, isBusy, bare, busy, bodyDue}
+use Rattle.connection.specs.Connection.{maxBody, isIdle, isPinged, isBusy, rest, busy, bodyDue}
 
 -- the kind of packet that makes a move
-abbrev pub kindOf : Move → Kind
-kindOf Move.CPing = Kind.CPing
-kindOf Move.CPong = Kind.CPong
-kindOf (Move.Forward n) = Kind.Forward
-kindOf (Move.Body k) = Kind.Body
-kindOf (Move.GetBody r) = Kind.GetBody
-kindOf Move.SendHeaders = Kind.SendHeaders
-kindOf (Move.BodyChunk k) = Kind.BodyChunk
-kindOf (Move.End reuse) = Kind.End
+abbrev pub moveKind : Move → Kind
+moveKind Move.CPing = Kind.CPing
+moveKind Move.CPong = Kind.CPong
+moveKind (Move.Forward n) = Kind.Forward
+moveKind (Move.Body k) = Kind.Body
+moveKind (Move.GetBody r) = Kind.GetBody
+moveKind Move.SendHeaders = Kind.SendHeaders
+moveKind (Move.BodyChunk k) = Kind.BodyChunk
+moveKind (Move.End reuse) = Kind.End
 
 -- which way a kind of packet goes
 abbrev pub directionOf : Kind → Direction
@@ -70,24 +70,24 @@ inSize c (Move.End reuse) = true
 
 -- whether a connection allows a move
 abbrev pub allowed : Connection → Move → Bool
-allowed c m = both (inState c (kindOf m)) (inSize c m)
+allowed c m = both (inState c (moveKind m)) (inSize c m)
 
 -- the connection after a move that is allowed
 abbrev pub after : Connection → Move → Connection
-after c Move.CPing = bare State.Pinged
-after c Move.CPong = bare State.Idle
+after c Move.CPing = rest State.Pinged
+after c Move.CPong = rest State.Idle
 after c (Move.Forward n) = busy (n .0) (ltb 0 (n .0)) maxBody false
 after c (Move.Body k) = busy (c .left .0 - k) false 0 (c .headers)
 after c (Move.GetBody r) = busy (c .left .0) true r (c .headers)
 after c Move.SendHeaders = busy (c .left .0) (c .due) (c .asked) true
 after c (Move.BodyChunk k) = busy (c .left .0) (c .due) (c .asked) (c .headers)
-after c (Move.End reuse) = bare (pick reuse State.Idle State.Closed)
+after c (Move.End reuse) = rest (pick reuse State.Idle State.Closed)
 
 -- a move: refused with its number, or the connection after it
 unfoldable pub stepOf : Connection → Move → Step
 stepOf c m =
-    pick (inState c (kindOf m))
-    (pick (inSize c m) (Step.Next (after c m)) (Step.Refused sizeWrong))
+    pick (inState c (moveKind m))
+    (pick (inSize c m) (Step.Next (after c m)) (Step.Refused bodySizeWrong))
     (Step.Refused notNow)
 
 -- what each case of an answer says in document 01's terms: its refusal number, 0 for none, and the connection that the caller then
@@ -96,6 +96,6 @@ abbrev pub numberIn : Step → ℕ
 numberIn (Step.Refused n) = n
 numberIn (Step.Next c) = none
 
-abbrev pub connectionIn : Connection → Step → Connection
-connectionIn given (Step.Refused n) = given
-connectionIn given (Step.Next c) = c
+abbrev pub connectionAfterStep : Connection → Step → Connection
+connectionAfterStep given (Step.Refused n) = given
+connectionAfterStep given (Step.Next c) = c

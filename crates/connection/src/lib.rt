@@ -1,8 +1,8 @@
 // One end's connection, and the cycle that every packet steps it through. It does not know which end holds it.
 // This crate alone makes a connection record or takes one apart. No call has a condition: any record gets an answer.
 ghost use mathlib.Core.Path.{_≡_};
-ghost use Rattle.connection.specs.Connection.{maxPacket, maxPayload, fresh, fields, bare, busy, isIdle, isPinged, isBusy, bodyDue};
-ghost use Rattle.connection.specs.Cycle.{kindOf, directionOf, inState, largestBody, sizeAllowed, stepOf};
+ghost use Rattle.connection.specs.Connection.{maxPacket, maxPayload, fresh, connectionFields, rest, busy, isIdle, isPinged, isBusy, bodyDue};
+ghost use Rattle.connection.specs.Cycle.{moveKind, directionOf, inState, largestBody, sizeAllowed, stepOf};
 ghost use Rattle.wire.specs.Refusal.{notNow};
 ghost use Prim.Native.Nat.{_-_};
 ghost use lib.Dec.{leb};
@@ -115,7 +115,7 @@ impl Kind {
 impl Move {
     // The kind of packet that makes a move.
     pub fn kind(self) -> Kind
-        ensures { λ r. ⌜ r ≡ kindOf self ⌝ }
+        ensures { λ r. ⌜ r ≡ moveKind self ⌝ }
     {
         match self {
             Move::CPing => Kind::CPing,
@@ -167,7 +167,7 @@ impl Connection {
         asked: u16,
         headers: bool,
     ) -> Connection
-        ensures { λ r. ⌜ r ≡ fields state (left .0) due asked headers ⌝ }
+        ensures { λ r. ⌜ r ≡ connectionFields state (left .0) due asked headers ⌝ }
     {
         Connection {
             state,
@@ -214,7 +214,7 @@ impl Connection {
 
     // A connection of which only the state counts.
     fn bare(state: State) -> Connection
-        ensures { λ r. ⌜ r ≡ bare state ⌝ }
+        ensures { λ r. ⌜ r ≡ rest state ⌝ }
     {
         Connection {
             state,
@@ -317,7 +317,7 @@ impl Connection {
             return Step::Refused(refusal::NOT_NOW);
         }
         if !is_size_allowed(self.largest_body(), k) {
-            return Step::Refused(refusal::SIZE_WRONG);
+            return Step::Refused(refusal::BODY_SIZE_WRONG);
         }
         Step::Next(Self::busy(left.less(k), false, 0, self.headers))
     }
@@ -343,7 +343,7 @@ impl Connection {
 
     // The connection after a request's end: Idle where it is used again, else Closed.
     fn ended(reuse: bool) -> Connection
-        ensures { λ r. ⌜ r ≡ bare (pick reuse State.Idle State.Closed) ⌝ }
+        ensures { λ r. ⌜ r ≡ rest (pick reuse State.Idle State.Closed) ⌝ }
     {
         if reuse {
             return Self::bare(State::Idle);

@@ -20,12 +20,12 @@ use Rattle.wire.specs.declared.read.StringRead.{StringRead}
 use Rattle.wire.specs.Facts.{NumberInside, StringInside}
 use Rattle.wire.proofs.Field.{integer-inside, string-inside}
 use Rattle.names.specs.Header.{beginsCode, codeFault, spelledFault}
-use Rattle.names.specs.Length.{declare}
+use Rattle.names.specs.Length.{lengthAfter}
 use Rattle.names.specs.declared.length.Declared.{Declared}
-use Rattle.names.specs.declared.length.Declaring.{Declaring}
+use Rattle.names.specs.declared.length.LengthRead.{LengthRead}
 use Rattle.places.specs.Entries.{Entries, ended, front}
 use Rattle.places.proofs.Filling.{Filling, filling-start, filling-turn, filling-stop, filling-end}
-use Rattle.headers.specs.Headers.{codeNameOf, spelledAt, spelledOf, nameAt, declaredBy, valued, valueOf, valueAt, headerOf, headerAt, andThen, headersAt}
+use Rattle.headers.specs.Headers.{codeNameOf, spelledAt, spelledOf, nameAt, declaredAfter, headerValued, headerValueOf, headerValueAt, headerOf, headerAt, headerThen, headersAt}
 use Rattle.headers.specs.Facts.{NameInside, HeaderInside, HeadersInside}
 use Rattle.headers.specs.declared.NameRead.{NameRead}
 use Rattle.headers.specs.declared.HeaderRead.{HeaderRead}
@@ -98,10 +98,10 @@ unfolding nameAt
 name-is d s at there code optional r p q o e = rw (p, q, ← o, e)
 
 -- what is declared after a value, by whether it declares
-pub declared-is : (declaring : Bool) (before : Declared) (null : Bool) (text : List ℕ) (t : Bool) → declaring ≡ t
-    → pick t (declare before null text) (Declaring.Now before) ≡ declaredBy declaring before null text
-unfolding declaredBy
-declared-is declaring before null text t p = rw p
+pub declared-is : (isLength : Bool) (before : Declared) (null : Bool) (text : List ℕ) (t : Bool) → isLength ≡ t
+    → pick t (lengthAfter before null text) (LengthRead.Now before) ≡ declaredAfter isLength before null text
+unfolding declaredAfter
+declared-is isLength before null text t p = rw p
 
 -- a part of no bytes
 pub part-none : (s : List ℕ) → part s 0 0 ≡ []
@@ -109,10 +109,10 @@ unfolding part
 part-none s = refl
 
 -- the value at a place, by what its string reads as
-pub value-is : (s : List ℕ) (at : ℕ) (declaring : Bool) (before : Declared) (optional : Bool) (r : StringRead)
-    → optional ≡ isOptional StringField.HeaderValue → stringAt s at optional ≡ r → valueOf s at declaring before r ≡ valueAt s at declaring before
-unfolding valueAt
-value-is s at declaring before optional r o e = rw (← o, e)
+pub value-is : (s : List ℕ) (at : ℕ) (isLength : Bool) (before : Declared) (optional : Bool) (r : StringRead)
+    → optional ≡ isOptional StringField.HeaderValue → stringAt s at optional ≡ r → headerValueOf s at isLength before r ≡ headerValueAt s at isLength before
+unfolding headerValueAt
+value-is s at isLength before optional r o e = rw (← o, e)
 
 -- the header at a place, by what its name reads as
 pub header-is : (d : Direction) (s : List ℕ) (at : ℕ) (before : Declared) (r : NameRead) → nameAt d s at ≡ r
@@ -153,25 +153,25 @@ name-inside d s at r e = subst (NameInside (length s) at) e (go (leb (at + 2) (l
     go false u = tt
 
 -- a header lies inside whatever its value declares, where the value's ends do
-valued-inside : (n at value next : ℕ) → at + 2 ≤ value → value + 2 ≤ next → next ≤ n → (r : Declaring) → HeaderInside n at (valued value next r)
-valued-inside n at value next h j k (Declaring.Refused m) = tt
-valued-inside n at value next h j k (Declaring.Now declared) = (h, (j, k))
+valued-inside : (n at value next : ℕ) → at + 2 ≤ value → value + 2 ≤ next → next ≤ n → (r : LengthRead) → HeaderInside n at (headerValued value next r)
+valued-inside n at value next h j k (LengthRead.Refused m) = tt
+valued-inside n at value next h j k (LengthRead.Now declared) = (h, (j, k))
 
 -- and where the value's string does
-value-of-inside : (n at value : ℕ) (s : List ℕ) (declaring : Bool) (before : Declared) → at + 2 ≤ value → (r : StringRead) → StringInside n value r
-    → HeaderInside n at (valueOf s value declaring before r)
-value-of-inside n at value s declaring before h (StringRead.Refused k) i = tt
-value-of-inside n at value s declaring before h (StringRead.Null next) i =
-    valued-inside n at value next h (omega (arith, i .0)) (i .1) (declaredBy declaring before true [])
-value-of-inside n at value s declaring before h (StringRead.Text start len next) i =
-    valued-inside n at value next h (omega (arith, i .0, i .1 .0)) (i .1 .1) (declaredBy declaring before false (part s start len))
+value-of-inside : (n at value : ℕ) (s : List ℕ) (isLength : Bool) (before : Declared) → at + 2 ≤ value → (r : StringRead) → StringInside n value r
+    → HeaderInside n at (headerValueOf s value isLength before r)
+value-of-inside n at value s isLength before h (StringRead.Refused k) i = tt
+value-of-inside n at value s isLength before h (StringRead.Null next) i =
+    valued-inside n at value next h (omega (arith, i .0)) (i .1) (declaredAfter isLength before true [])
+value-of-inside n at value s isLength before h (StringRead.Text start len next) i =
+    valued-inside n at value next h (omega (arith, i .0, i .1 .0)) (i .1 .1) (declaredAfter isLength before false (part s start len))
 
 -- a value behind a name lies inside
-value-inside : (s : List ℕ) (at value : ℕ) (declaring : Bool) (before : Declared) → at + 2 ≤ value
-    → HeaderInside (length s) at (valueAt s value declaring before)
-unfolding valueAt
-value-inside s at value declaring before h =
-    value-of-inside (length s) at value s declaring before h (stringAt s value true) (string-inside s value true (stringAt s value true) refl)
+value-inside : (s : List ℕ) (at value : ℕ) (isLength : Bool) (before : Declared) → at + 2 ≤ value
+    → HeaderInside (length s) at (headerValueAt s value isLength before)
+unfolding headerValueAt
+value-inside s at value isLength before h =
+    value-of-inside (length s) at value s isLength before h (stringAt s value true) (string-inside s value true (stringAt s value true) refl)
 
 -- a header lies inside where its name does
 header-of-inside : (d : Direction) (s : List ℕ) (at : ℕ) (before : Declared) (r : NameRead) → NameInside (length s) at r
@@ -202,7 +202,7 @@ later-inside n at value next count places (HeadersRead.Headers declared end) h j
 
 -- what holds of later headers holds with one in front of them
 read-more : (n at count : ℕ) (r : HeaderRead) (later : Declared → ℕ → Entries HeadersRead) → HeaderInside n at r
-    → ((after : Declared) (next : ℕ) → Read n next count (later after next)) → Read n at (suc count) (andThen at r later)
+    → ((after : Declared) (next : ℕ) → Read n next count (later after next)) → Read n at (suc count) (headerThen at r later)
 unfolding all
 read-more n at count (HeaderRead.Refused k) later i f = record {
   few = omega arith;

@@ -16,12 +16,12 @@ use Rattle.wire.specs.declared.read.StringRead.{StringRead}
 use Rattle.wire.proofs.Refusals.{fault-refusal, NumberRefusal, integer-refusal, StringRefusal, string-refusal}
 use Rattle.packet.specs.declared.Direction.{Direction}
 use Rattle.names.specs.Header.{beginsCode, codeFault, spelledFault}
-use Rattle.names.specs.Length.{declare}
+use Rattle.names.specs.Length.{lengthAfter}
 use Rattle.names.specs.declared.length.Declared.{Declared}
-use Rattle.names.specs.declared.length.Declaring.{Declaring}
+use Rattle.names.specs.declared.length.LengthRead.{LengthRead}
 use Rattle.names.proofs.Refusals.{code-fault, spelled-fault, DeclaringRefusal, declare-refusal}
 use Rattle.places.specs.Entries.{Entries}
-use Rattle.headers.specs.Headers.{unless, codeNameOf, spelledAt, spelledOf, nameAt, declares, declaredBy, valued, valueOf, valueAt, headerOf, headerAt, andThen, headersAt}
+use Rattle.headers.specs.Headers.{nameUnless, codeNameOf, spelledAt, spelledOf, nameAt, declares, declaredAfter, headerValued, headerValueOf, headerValueAt, headerOf, headerAt, headerThen, headersAt}
 use Rattle.headers.specs.declared.NameRead.{NameRead}
 use Rattle.headers.specs.declared.HeaderRead.{HeaderRead}
 use Rattle.headers.specs.declared.HeadersRead.{HeadersRead}
@@ -33,7 +33,7 @@ NameRefusal (NameRead.Code code next) = Unit
 NameRefusal (NameRead.Spelled start len next) = Unit
 
 -- a name that is refused only with its fault
-unless-refusal : (fault : ℕ) (name : NameRead) → isFault fault ≡ true → NameRefusal name → NameRefusal (unless fault name)
+unless-refusal : (fault : ℕ) (name : NameRead) → isFault fault ≡ true → NameRefusal name → NameRefusal (nameUnless fault name)
 unless-refusal fault name h k = go (eqb fault none) refl
   where
     go : (t : Bool) → eqb fault none ≡ t → NameRefusal (pick t name (NameRead.Refused fault))
@@ -74,28 +74,28 @@ abbrev pub HeaderRefusal : HeaderRead → Type 0
 HeaderRefusal (HeaderRead.Refused n) = isRefusal n ≡ true
 HeaderRefusal (HeaderRead.Header value declared next) = Unit
 
-valued-refusal : (at next : ℕ) (r : Declaring) → DeclaringRefusal r → HeaderRefusal (valued at next r)
-valued-refusal at next (Declaring.Refused n) h = h
-valued-refusal at next (Declaring.Now declared) h = tt
+valued-refusal : (at next : ℕ) (r : LengthRead) → DeclaringRefusal r → HeaderRefusal (headerValued at next r)
+valued-refusal at next (LengthRead.Refused n) h = h
+valued-refusal at next (LengthRead.Now declared) h = tt
 
-declared-refusal : (declaring : Bool) (before : Declared) (null : Bool) (text : List ℕ) → DeclaringRefusal (declaredBy declaring before null text)
-unfolding declaredBy
+declared-refusal : (isLength : Bool) (before : Declared) (null : Bool) (text : List ℕ) → DeclaringRefusal (declaredAfter isLength before null text)
+unfolding declaredAfter
 declared-refusal true before null text = declare-refusal before null text
 declared-refusal false before null text = tt
 
-value-of-refusal : (s : List ℕ) (at : ℕ) (declaring : Bool) (before : Declared) (r : StringRead) → StringRefusal r
-    → HeaderRefusal (valueOf s at declaring before r)
-value-of-refusal s at declaring before (StringRead.Refused n) h = h
-value-of-refusal s at declaring before (StringRead.Null next) h =
-    valued-refusal at next (declaredBy declaring before true []) (declared-refusal declaring before true [])
-value-of-refusal s at declaring before (StringRead.Text start len next) h =
-    valued-refusal at next (declaredBy declaring before false (part s start len)) (declared-refusal declaring before false (part s start len))
+value-of-refusal : (s : List ℕ) (at : ℕ) (isLength : Bool) (before : Declared) (r : StringRead) → StringRefusal r
+    → HeaderRefusal (headerValueOf s at isLength before r)
+value-of-refusal s at isLength before (StringRead.Refused n) h = h
+value-of-refusal s at isLength before (StringRead.Null next) h =
+    valued-refusal at next (declaredAfter isLength before true []) (declared-refusal isLength before true [])
+value-of-refusal s at isLength before (StringRead.Text start len next) h =
+    valued-refusal at next (declaredAfter isLength before false (part s start len)) (declared-refusal isLength before false (part s start len))
 
-value-refusal : (s : List ℕ) (at : ℕ) (declaring : Bool) (before : Declared) → HeaderRefusal (valueAt s at declaring before)
-unfolding valueAt
-value-refusal s at declaring before =
+value-refusal : (s : List ℕ) (at : ℕ) (isLength : Bool) (before : Declared) → HeaderRefusal (headerValueAt s at isLength before)
+unfolding headerValueAt
+value-refusal s at isLength before =
     let r = stringAt s at (isOptional StringField.HeaderValue) in
-    value-of-refusal s at declaring before r (string-refusal s at (isOptional StringField.HeaderValue) r refl)
+    value-of-refusal s at isLength before r (string-refusal s at (isOptional StringField.HeaderValue) r refl)
 
 header-of-refusal : (d : Direction) (s : List ℕ) (before : Declared) (r : NameRead) → NameRefusal r → HeaderRefusal (headerOf d s before r)
 header-of-refusal d s before (NameRead.Refused n) h = h
@@ -114,7 +114,7 @@ HeadersRefusal (HeadersRead.Refused n) = isRefusal n ≡ true
 HeadersRefusal (HeadersRead.Headers declared next) = Unit
 
 then-refusal : (at : ℕ) (r : HeaderRead) (later : Declared → ℕ → Entries HeadersRead) → HeaderRefusal r
-    → ((declared : Declared) (next : ℕ) → HeadersRefusal (later declared next .end)) → HeadersRefusal (andThen at r later .end)
+    → ((declared : Declared) (next : ℕ) → HeadersRefusal (later declared next .end)) → HeadersRefusal (headerThen at r later .end)
 then-refusal at (HeaderRead.Refused n) later h f = h
 then-refusal at (HeaderRead.Header value declared next) later h f = f declared next
 

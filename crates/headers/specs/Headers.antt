@@ -15,26 +15,26 @@ use Rattle.wire.specs.declared.StringField.{StringField}
 use Rattle.wire.specs.declared.read.NumberRead.{NumberRead}
 use Rattle.wire.specs.declared.read.StringRead.{StringRead}
 use Rattle.names.specs.Header.{beginsCode, codeFault, spelledFault, isRequest}
-use Rattle.names.specs.Length.{isContentLength, declare}
+use Rattle.names.specs.Length.{isContentLength, lengthAfter}
 use Rattle.names.specs.declared.length.Declared.{Declared}
-use Rattle.names.specs.declared.length.Declaring.{Declaring}
+use Rattle.names.specs.declared.length.LengthRead.{LengthRead}
 use Rattle.places.specs.Entries.{Entries, ended, front}
 use Rattle.headers.specs.declared.NameRead.{NameRead}
 use Rattle.headers.specs.declared.HeaderRead.{HeaderRead}
 use Rattle.headers.specs.declared.HeadersRead.{HeadersRead}
 
--- a name, unless it has a fault
-abbrev pub unless : ℕ → NameRead → NameRead
-unless fault name = pick (eqb fault none) name (NameRead.Refused fault)
+-- a name, nameUnless it has a fault
+abbrev pub nameUnless : ℕ → NameRead → NameRead
+nameUnless fault name = pick (eqb fault none) name (NameRead.Refused fault)
 
 -- a name by its code, as read
 unfoldable pub codeNameOf : Direction → NumberRead → NameRead
 codeNameOf direction (NumberRead.Refused n) = NameRead.Refused n
-codeNameOf direction (NumberRead.Number code next) = unless (codeFault direction code) (NameRead.Code code next)
+codeNameOf direction (NumberRead.Number code next) = nameUnless (codeFault direction code) (NameRead.Code code next)
 
 -- a name that is spelled out
 unfoldable pub spelledAt : Direction → List ℕ → ℕ → ℕ → ℕ → NameRead
-spelledAt direction s start len next = unless (spelledFault direction (part s start len)) (NameRead.Spelled start len next)
+spelledAt direction s start len next = nameUnless (spelledFault direction (part s start len)) (NameRead.Spelled start len next)
 
 -- the string of a spelled name, as read
 abbrev pub spelledOf : Direction → List ℕ → StringRead → NameRead
@@ -54,41 +54,41 @@ abbrev pub declares : Direction → ℕ → Bool
 declares direction code = both (isRequest direction) (isContentLength code)
 
 -- what is declared after a header's value; a value that declares nothing leaves it
-unfoldable pub declaredBy : Bool → Declared → Bool → List ℕ → Declaring
-declaredBy declaring before null text = pick declaring (declare before null text) (Declaring.Now before)
+unfoldable pub declaredAfter : Bool → Declared → Bool → List ℕ → LengthRead
+declaredAfter isLength before null text = pick isLength (lengthAfter before null text) (LengthRead.Now before)
 
 -- a header whose value was read, by what is declared then
-abbrev pub valued : ℕ → ℕ → Declaring → HeaderRead
-valued at next (Declaring.Refused n) = HeaderRead.Refused n
-valued at next (Declaring.Now declared) = HeaderRead.Header at declared next
+abbrev pub headerValued : ℕ → ℕ → LengthRead → HeaderRead
+headerValued at next (LengthRead.Refused n) = HeaderRead.Refused n
+headerValued at next (LengthRead.Now declared) = HeaderRead.Header at declared next
 
 -- the value's string, as read: its own faults come before those of the length that it declares
-abbrev pub valueOf : List ℕ → ℕ → Bool → Declared → StringRead → HeaderRead
-valueOf s at declaring before (StringRead.Refused n) = HeaderRead.Refused n
-valueOf s at declaring before (StringRead.Null next) = valued at next (declaredBy declaring before true [])
-valueOf s at declaring before (StringRead.Text start len next) = valued at next (declaredBy declaring before false (part s start len))
+abbrev pub headerValueOf : List ℕ → ℕ → Bool → Declared → StringRead → HeaderRead
+headerValueOf s at isLength before (StringRead.Refused n) = HeaderRead.Refused n
+headerValueOf s at isLength before (StringRead.Null next) = headerValued at next (declaredAfter isLength before true [])
+headerValueOf s at isLength before (StringRead.Text start len next) = headerValued at next (declaredAfter isLength before false (part s start len))
 
 -- the value at a place
-unfoldable pub valueAt : List ℕ → ℕ → Bool → Declared → HeaderRead
-valueAt s at declaring before = valueOf s at declaring before (stringAt s at (isOptional StringField.HeaderValue))
+unfoldable pub headerValueAt : List ℕ → ℕ → Bool → Declared → HeaderRead
+headerValueAt s at isLength before = headerValueOf s at isLength before (stringAt s at (isOptional StringField.HeaderValue))
 
 -- a header: a name, as read, and the value behind it
 abbrev pub headerOf : Direction → List ℕ → Declared → NameRead → HeaderRead
 headerOf direction s before (NameRead.Refused n) = HeaderRead.Refused n
-headerOf direction s before (NameRead.Code code next) = valueAt s next (declares direction code) before
-headerOf direction s before (NameRead.Spelled start len next) = valueAt s next false before
+headerOf direction s before (NameRead.Code code next) = headerValueAt s next (declares direction code) before
+headerOf direction s before (NameRead.Spelled start len next) = headerValueAt s next false before
 
--- the header at a place, where those before it declare this
+-- the header at a place, where those before it lengthAfter this
 unfoldable pub headerAt : Direction → List ℕ → ℕ → Declared → HeaderRead
 headerAt direction s at before = headerOf direction s before (nameAt direction s at)
 
 -- a header, as read at a place, and the later ones
-abbrev pub andThen : ℕ → HeaderRead → (Declared → ℕ → Entries HeadersRead) → Entries HeadersRead
-andThen at (HeaderRead.Refused n) later = ended (HeadersRead.Refused n)
-andThen at (HeaderRead.Header value declared next) later = front at value (later declared next)
+abbrev pub headerThen : ℕ → HeaderRead → (Declared → ℕ → Entries HeadersRead) → Entries HeadersRead
+headerThen at (HeaderRead.Refused n) later = ended (HeadersRead.Refused n)
+headerThen at (HeaderRead.Header value declared next) later = front at value (later declared next)
 
--- so many headers from a place on, where those before them declare this
+-- so many headers from a place on, where those before them lengthAfter this
 unfoldable pub headersAt : Direction → List ℕ → ℕ → ℕ → Declared → Entries HeadersRead
 headersAt direction s at zero declared = ended (HeadersRead.Headers declared at)
 headersAt direction s at (suc count) declared =
-    andThen at (headerAt direction s at declared) (λ after next. headersAt direction s next count after)
+    headerThen at (headerAt direction s at declared) (λ after next. headersAt direction s next count after)

@@ -10,11 +10,11 @@ ghost use Rattle.wire.specs.Field.{isOptional, holdsBarred, afterLength, string
 ghost use Rattle.names.specs.Private.{TokenFlags};
 ghost use Rattle.names.specs.Header.{spelledFault};
 ghost use Rattle.places.specs.Private.{maxPlace};
-ghost use Rattle.headers.specs.Headers.{nameAt, codeNameOf, spelledOf, declares, declaredBy, valueAt, valued, headerAt, headersAt};
+ghost use Rattle.headers.specs.Headers.{nameAt, codeNameOf, spelledOf, declares, declaredAfter, headerValueAt, headerValued, headerAt, headersAt};
 use names::header;
 use names::length;
 use names::length::Declared;
-use names::length::Declaring;
+use names::length::LengthRead;
 use names::token;
 use names::token::BYTES;
 use packet::Direction;
@@ -165,22 +165,22 @@ pub fn declares_length(direction: Direction, code: u16) -> bool
 }
 
 // What is declared after a header's value.
-pub fn declared_by(declares: bool, before: Declared, text: &[u8], null: bool) -> Declaring
-    ensures { λ r. ⌜ r ≡ declaredBy declares before null (now (text .entry)) ⌝ }
+pub fn declared_after(declares: bool, before: Declared, text: &[u8], null: bool) -> LengthRead
+    ensures { λ r. ⌜ r ≡ declaredAfter declares before null (now (text .entry)) ⌝ }
 {
     if declares {
-        return length::declare_length(before, text, null);
+        return length::length_after(before, text, null);
     }
-    Declaring::Now(before)
+    LengthRead::Now(before)
 }
 
 // A header whose value was read, by what is declared then.
-fn valued(at: usize, next: usize, declaring: Declaring) -> HeaderRead
-    ensures { λ r. ⌜ r ≡ valued at next declaring ⌝ }
+fn valued(at: usize, next: usize, isLength: LengthRead) -> HeaderRead
+    ensures { λ r. ⌜ r ≡ headerValued at next isLength ⌝ }
 {
-    match declaring {
-        Declaring::Refused(n) => HeaderRead::Refused(n),
-        Declaring::Now(declared) => HeaderRead::Header {
+    match isLength {
+        LengthRead::Refused(n) => HeaderRead::Refused(n),
+        LengthRead::Now(declared) => HeaderRead::Header {
             value: at,
             declared,
             next,
@@ -190,7 +190,7 @@ fn valued(at: usize, next: usize, declaring: Declaring) -> HeaderRead
 
 // The value at a place, of a header whose name stands before it; `declares` says that it declares a length.
 fn value_at(packet: &[u8], at: usize, declares: bool, before: Declared) -> HeaderRead
-    ensures { λ r. ⌜ r ≡ valueAt (now (packet .entry)) at declares before ⌝ }
+    ensures { λ r. ⌜ r ≡ headerValueAt (now (packet .entry)) at declares before ⌝ }
 {
     match read::string(packet, at, is_optional(StringField::HeaderValue)) {
         StringRead::Refused(n) => HeaderRead::Refused(n),
@@ -198,14 +198,14 @@ fn value_at(packet: &[u8], at: usize, declares: bool, before: Declared) -> Heade
             valued(
                 at,
                 next,
-                declared_by(declares, before, part_of(packet, 0, 0), true),
+                declared_after(declares, before, part_of(packet, 0, 0), true),
             )
         }
         StringRead::Text { start, len, next } => {
             valued(
                 at,
                 next,
-                declared_by(declares, before, part_of(packet, start, len), false),
+                declared_after(declares, before, part_of(packet, start, len), false),
             )
         }
     }

@@ -1,5 +1,5 @@
 -- What is told as declared is what the packet shows: the value of its one content-length. Headers are read one after the other, and what they
--- declare so far changes only at a header whose name is content-length: a code is that name's exactly where reading takes it for it, and a
+-- lengthAfter so far changes only at a header whose name is content-length: a code is that name's exactly where reading takes it for it, and a
 -- name that is spelled out and let by is no listed one.
 -- Assumes nothing.
 use native.Mathlib.Omega.{arith}
@@ -22,14 +22,14 @@ use Rattle.wire.specs.declared.read.StringRead.{StringRead}
 use Rattle.names.specs.Names.{ascii, requestNames, namesIn, firstCode, isListed, nameFor, letter, sameName, codeFrom, codeIn}
 use Rattle.names.specs.Header.{beginsCode, codeFault, isFound, headerNames, unlistedFault, spelledFault}
 use Rattle.names.specs.Token.{isToken}
-use Rattle.names.specs.Length.{within, digits, decimalOf, asDeclared, isContentLength, declare, declaredLength}
+use Rattle.names.specs.Length.{within, digits, decimalOf, decimalDeclared, isContentLength, lengthAfter, declaredLength}
 use Rattle.names.specs.declared.NameList.{NameList}
 use Rattle.names.specs.declared.CodeFound.{CodeFound}
 use Rattle.names.specs.declared.length.Decimal.{Decimal}
 use Rattle.names.specs.declared.length.Declared.{Declared}
-use Rattle.names.specs.declared.length.Declaring.{Declaring}
+use Rattle.names.specs.declared.length.LengthRead.{LengthRead}
 use Rattle.names.proofs.Rule.{agree}
-use Rattle.headers.specs.Headers.{codeNameOf, spelledAt, spelledOf, nameAt, declares, declaredBy, valued, valueOf as headerValueOf, valueAt as headerValueAt, headerOf, headerAt, andThen, headersAt}
+use Rattle.headers.specs.Headers.{codeNameOf, spelledAt, spelledOf, nameAt, declares, declaredAfter, headerValued, headerValueOf, headerValueAt, headerOf, headerAt, headerThen, headersAt}
 use Rattle.headers.specs.declared.NameRead.{NameRead}
 use Rattle.headers.specs.declared.HeaderRead.{HeaderRead}
 use Rattle.headers.specs.declared.HeadersRead.{HeadersRead}
@@ -40,10 +40,10 @@ use Rattle.connection.specs.declared.Connection.{Connection}
 use Rattle.packet.specs.declared.BodyLeft.{BodyLeft}
 use Rattle.packet.specs.declared.Forward.{Forward}
 use Rattle.packet.specs.declared.Packet.{Packet}
-use Rattle.payload.specs.Sequence.{afterCode, stringAfter, booleanAfter, byteAfter, anyIntegerAfter, integerAfter, valueOf}
+use Rattle.payload.specs.Sequence.{afterCode, stringAfter, booleanAfter, byteAfter, anyIntegerAfter, integerAfter, fieldNumber}
 use Rattle.payload.specs.Lists.{headersAfter, listsOf, attributesBehind, behindHeaders, listsAt}
 use Rattle.payload.specs.Forward.{firstMethod, lastMethod, forwardOf, forwardAt}
-use Rattle.payload.specs.Kinds.{packetAt, kindIn}
+use Rattle.payload.specs.Kinds.{packetAt, packetKind}
 use Rattle.payload.specs.declared.field.FieldRead.{FieldRead}
 use Rattle.payload.specs.declared.lists.ListsRead.{ListsRead}
 use Rattle.payload.specs.declared.found.PacketRead.{PacketRead}
@@ -51,7 +51,7 @@ use Rattle.payload.proofs.Listing.{headers-places}
 use Rattle.reader.specs.Meaning.{Told, accepted, told}
 use Rattle.reader.specs.Reading.{reading, tableAfter}
 use Rattle.reading_laws.proofs.Shown.{text-shown, code-shown, spelled-shown}
-use Rattle.messages.specs.Message.{Text, null, text, Name, coded, spelled, Header, isNull, bytesIn}
+use Rattle.messages.specs.Message.{Text, null, text, MessageName, coded, spelled, Header, isNull, contentOf}
 use Rattle.messages.specs.Shown.{textShown, nameShown, headersShown, headerPlaces, messageShown}
 use Rattle.messages.specs.Declared.{namesLength, lengthValues, zeroDigit, nineDigit, valueFrom, decimalValue, mostDeclared, LengthDeclared, MessageDeclares}
 use Rattle.messages.proofs.Texts.{null-told, text-told}
@@ -160,18 +160,18 @@ Makes Declared.Absent after (text bytes) true = (n : ℕ) × (decimalOf bytes �
 Makes (Declared.Known n) after value true = ⊥
 
 -- by what its value declares
-abbrev MakesBy : Declared → Text → Bool → Declaring → Type 0
-MakesBy before value t (Declaring.Refused n) = Unit
-MakesBy before value t (Declaring.Now after) = Makes before after value t
+abbrev MakesBy : Declared → Text → Bool → LengthRead → Type 0
+MakesBy before value t (LengthRead.Refused n) = Unit
+MakesBy before value t (LengthRead.Now after) = Makes before after value t
 
--- reading lets it declare just that
-declared-makes : (before : Declared) (value : Text) (t : Bool) → MakesBy before value t (declaredBy t before (isNull value) (bytesIn value))
-unfolding declaredBy
+-- reading lets it lengthAfter just that
+declared-makes : (before : Declared) (value : Text) (t : Bool) → MakesBy before value t (declaredAfter t before (isNull value) (contentOf value))
+unfolding declaredAfter
 declared-makes before value false = refl
 declared-makes Declared.Absent null true = tt
 declared-makes Declared.Absent (text bytes) true = go (decimalOf bytes) refl
   where
-    go : (r : Decimal) → decimalOf bytes ≡ r → MakesBy Declared.Absent (text bytes) true (asDeclared r)
+    go : (r : Decimal) → decimalOf bytes ≡ r → MakesBy Declared.Absent (text bytes) true (decimalDeclared r)
     go Decimal.Bad e = tt
     go (Decimal.Value n) e = (n, e, refl)
 declared-makes (Declared.Known n) value true = tt
@@ -183,9 +183,9 @@ HeaderMakes s at before (HeaderRead.Header value after next) = Makes before afte
 
 -- where this is its value, and this is whether its name is content-length
 value-shows : (s : List ℕ) (at value next : ℕ) (before : Declared) (shown : Text) (t : Bool) → textShown s value ≡ shown
-    → namesLength (nameShown s at) ≡ t → (r : Declaring) → MakesBy before shown t r → HeaderMakes s at before (valued value next r)
-value-shows s at value next before shown t p q (Declaring.Refused n) h = tt
-value-shows s at value next before shown t p q (Declaring.Now after) h =
+    → namesLength (nameShown s at) ≡ t → (r : LengthRead) → MakesBy before shown t r → HeaderMakes s at before (headerValued value next r)
+value-shows s at value next before shown t p q (LengthRead.Refused n) h = tt
+value-shows s at value next before shown t p q (LengthRead.Now after) h =
     subst (λ (v : Text). Makes before after v (namesLength (nameShown s at))) (sym p) (subst (Makes before after shown) (sym q) h)
 
 -- a header whose value is read at a place
@@ -197,13 +197,13 @@ value-makes s at value before t q = go (stringAt s value (isOptional StringField
     go : (r : StringRead) → stringAt s value (isOptional StringField.HeaderValue) ≡ r → HeaderMakes s at before (headerValueOf s value t before r)
     go (StringRead.Refused n) e = tt
     go (StringRead.Null next) e =
-        value-shows s at value next before null t (null-told s value (isOptional StringField.HeaderValue) next e) q (declaredBy t before true [])
+        value-shows s at value next before null t (null-told s value (isOptional StringField.HeaderValue) next e) q (declaredAfter t before true [])
         (declared-makes before null t)
     go (StringRead.Text start len next) e =
         let o : Bool = isOptional StringField.HeaderValue in
         let shown : textShown s value ≡ text (part s start len) =
         text-told s value o start len next e ∙ ap text (text-shown s value o start len next e .1) in
-        value-shows s at value next before (text (part s start len)) t shown q (declaredBy t before false (part s start len))
+        value-shows s at value next before (text (part s start len)) t shown q (declaredAfter t before false (part s start len))
         (declared-makes before (text (part s start len)) t)
 
 -- a name that is read has no fault
@@ -302,14 +302,14 @@ headers-make s at (suc count) before =
     go : (r : HeaderRead) → HeaderMakes s at before r
         → ((middle : Declared) (next : ℕ)
         → HeadersMake s middle (headersAt Direction.ToContainer s next count middle .places) (headersAt Direction.ToContainer s next count middle .end))
-        → HeadersMake s before (andThen at r (λ middle next. headersAt Direction.ToContainer s next count middle) .places)
-        (andThen at r (λ middle next. headersAt Direction.ToContainer s next count middle) .end)
+        → HeadersMake s before (headerThen at r (λ middle next. headersAt Direction.ToContainer s next count middle) .places)
+        (headerThen at r (λ middle next. headersAt Direction.ToContainer s next count middle) .end)
     go (HeaderRead.Refused n) h later = tt
     go (HeaderRead.Header value middle next) h later =
         header-front s at value next before middle (headersAt Direction.ToContainer s next count middle .places)
         (headersAt Direction.ToContainer s next count middle .end) h (later middle next)
 
--- from none on they declare the decimal value of the one
+-- from none on they lengthAfter the decimal value of the one
 all-declared : (after : Declared) (values : List Text) → MakeAll Declared.Absent after values → LengthDeclared (declaredLength after) values
 all-declared after [] h = rw h
 all-declared after (null ∷ later) h = absurd h
@@ -353,12 +353,12 @@ lists-declare s count = go (headersAfter Direction.ToContainer s count .end)
 -- a Forward by its fields: what it declares, and how many headers it has
 forward-by : (method protocol uri addr host name port ssl count : FieldRead) (headers : HeadersRead) (r : ListsRead) (f : Forward)
     → ListsDeclare headers r → forwardOf method protocol uri addr host name port ssl count r ≡ PacketRead.Packet (Packet.Forward f)
-    → (after : Declared) × (end : ℕ) × (headers ≡ HeadersRead.Headers after end) × (f .declared .0 ≡ declaredLength after) × (f .headers ≡ valueOf count)
+    → (after : Declared) × (end : ℕ) × (headers ≡ HeadersRead.Headers after end) × (f .declared .0 ≡ declaredLength after) × (f .headers ≡ fieldNumber count)
 forward-by method protocol uri addr host name port ssl count headers (ListsRead.Refused n) f h e =
     let z : _≡_ {A = ℕ} 0 1 = cc in absurd (omega arith)
 forward-by method protocol uri addr host name port ssl count headers (ListsRead.Lists declared attributes) f h e =
     let same : f .declared ≡ declared = cc in
-    let many : f .headers ≡ valueOf count = cc in
+    let many : f .headers ≡ fieldNumber count = cc in
     (h .0, h .1, h .2, ap (λ (left : BodyLeft). left .0) same ∙ h .3, many)
 
 -- a Forward declares what the headers at its places in the table do
@@ -386,7 +386,7 @@ forward-declares s table f e =
     (subst (λ (n : ℕ). LengthDeclared n (lengthValues (headersShown s (headers .places)))) (sym (by .3)) (all-declared (by .0) (lengthValues (headersShown s (headers .places))) make))
 
 -- a packet declares what the message that it shows does
-packet-declares : (p : Packet) (s table : List ℕ) → packetAt (kindIn p) s .end ≡ PacketRead.Packet p
+packet-declares : (p : Packet) (s table : List ℕ) → packetAt (packetKind p) s .end ≡ PacketRead.Packet p
     → MessageDeclares (told p .declared) (messageShown (told p) s (tableOf p s table))
 unfolding messageShown
 packet-declares Packet.CPing s table e = refl

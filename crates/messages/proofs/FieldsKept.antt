@@ -26,21 +26,21 @@ use Rattle.names.specs.Header.{beginsCode, codeFault, spelledFault}
 use Rattle.names.specs.Attribute.{attributeKind}
 use Rattle.packet.specs.declared.AttributeKind.{AttributeKind}
 use Rattle.names.specs.declared.length.Declared.{Declared}
-use Rattle.names.specs.declared.length.Declaring.{Declaring}
-use Rattle.headers.specs.Headers.{codeNameOf, spelledAt, spelledOf, nameAt, declares, declaredBy, valued, valueOf, valueAt, headerOf, headerAt, andThen as headerThen, headersAt}
+use Rattle.names.specs.declared.length.LengthRead.{LengthRead}
+use Rattle.headers.specs.Headers.{codeNameOf, spelledAt, spelledOf, nameAt, declares, declaredAfter, headerValued, headerValueOf, headerValueAt, headerOf, headerAt, headerThen, headersAt}
 use Rattle.headers.specs.declared.NameRead.{NameRead}
 use Rattle.headers.specs.declared.HeaderRead.{HeaderRead}
 use Rattle.headers.specs.declared.HeadersRead.{HeadersRead}
 use Rattle.attributes.specs.Attributes.{lastMark}
 use Rattle.payload.specs.Handed.{StringEnds, NumberEnds, StringThere, ValueThere, AttributesHanded}
-use Rattle.fields.specs.Fault.{orElse, stringFault, faultAfter}
-use Rattle.fields.specs.Field.{Field, plain, stringField, faultsOf, bytesOf}
-use Rattle.pieces.specs.Header.{codedName, spelledName, declaringFault, valueFault, headerValue}
+use Rattle.building.specs.Fault.{orElse, stringFault, faultAfter}
+use Rattle.building.specs.Field.{Field, plain, stringField, faultsOf, fieldsBytes}
+use Rattle.pieces.specs.Header.{codedName, spelledName, lengthFault, valueFault, headerValue}
 use Rattle.pieces.specs.Attribute.{isText, isInteger, isPair, codeField}
 use Rattle.views.specs.View.{integerView, textView}
 use Rattle.reading_laws.proofs.Shown.{integer-shown, text-shown, code-shown, spelled-shown}
-use Rattle.messages.specs.Message.{Text, null, text, Name, coded, spelled, isNull, bytesIn, NameFits, HeadersFit, ValueFits, AttributesFit}
-use Rattle.messages.specs.Bytes.{fieldsBy, headersBytes, fieldsOf, attributesBytes}
+use Rattle.messages.specs.Message.{Text, null, text, MessageName, coded, spelled, isNull, contentOf, NameFits, HeadersFit, ValueFits, AttributesFit}
+use Rattle.messages.specs.Bytes.{fieldsBy, headersBytes, valueFields, attributesBytes}
 use Rattle.messages.specs.Shown.{textShown, nameBy, nameShown, headersShown, valueBy, attributesShown}
 use Rattle.messages.proofs.Fine.{FieldsFine, HeadersFine, AttributesFine}
 use Rattle.messages.proofs.Texts.{textField, null-told, text-told}
@@ -83,7 +83,7 @@ pub record FieldKept (s : List ℕ) (at end : ℕ) (field : Field) : Type 0 wher
 
 -- so have fields, one behind the other
 pub record FieldsKept (s : List ℕ) (at end : ℕ) (own : List Field) : Type 0 where
-  pub held : Held s at end (bytesOf own)
+  pub held : Held s at end (fieldsBytes own)
   pub fine : FieldsFine own
 
 -- no field
@@ -220,61 +220,61 @@ name-kept d s at bytes = go (leb (at + 2) (length s)) (beginsCode (getD s at 0))
     go false u = tt
 
 -- a value that may come behind others may come first: it declares nothing, or nothing was declared before it
-declares-first : (declaring : Bool) (before : Declared) (t : Text) (declared : Declared)
-    → declaredBy declaring before (isNull t) (bytesIn t) ≡ Declaring.Now declared
-    → declaringFault (declaredBy declaring Declared.Absent (isNull t) (bytesIn t)) ≡ 0
-unfolding declaredBy
+declares-first : (isLength : Bool) (before : Declared) (t : Text) (declared : Declared)
+    → declaredAfter isLength before (isNull t) (contentOf t) ≡ LengthRead.Now declared
+    → lengthFault (declaredAfter isLength Declared.Absent (isNull t) (contentOf t)) ≡ 0
+unfolding declaredAfter
 declares-first false before t declared e = refl
-declares-first true Declared.Absent t declared e = ap declaringFault e
+declares-first true Declared.Absent t declared e = ap lengthFault e
 declares-first true (Declared.Known n) t declared e = absurd (let z : _≡_ {A = ℕ} 0 1 = cc in omega arith)
 
 -- a field that holds a header's value as it is shown
 abbrev valueField : Bool → Text → Field
-valueField declaring t = headerValue declaring (isNull t) (bytesIn t)
+valueField isLength t = headerValue isLength (isNull t) (contentOf t)
 
 -- it has no fault where its string has none and it may come first
-value-fine : (s : List ℕ) (at end : ℕ) (declaring : Bool) (t : Text) → FieldKept s at end (textField StringField.HeaderValue t)
-    → declaringFault (declaredBy declaring Declared.Absent (isNull t) (bytesIn t)) ≡ 0 → FieldKept s at end (valueField declaring t)
+value-fine : (s : List ℕ) (at end : ℕ) (isLength : Bool) (t : Text) → FieldKept s at end (textField StringField.HeaderValue t)
+    → lengthFault (declaredAfter isLength Declared.Absent (isNull t) (contentOf t)) ≡ 0 → FieldKept s at end (valueField isLength t)
 unfolding valueFault
-value-fine s at end declaring t k first = record {
+value-fine s at end isLength t k first = record {
   held = k .held;
-  fine = ap (λ (f : ℕ). orElse f (declaringFault (declaredBy declaring Declared.Absent (isNull t) (bytesIn t)))) (k .fine) ∙ first;
+  fine = ap (λ (f : ℕ). orElse f (lengthFault (declaredAfter isLength Declared.Absent (isNull t) (contentOf t)))) (k .fine) ∙ first;
 }
 
 -- a value that was read, by where it ends
 abbrev ValueKept : List ℕ → ℕ → Bool → HeaderRead → Type 0
-ValueKept s at declaring (HeaderRead.Refused n) = Unit
-ValueKept s at declaring (HeaderRead.Header value declared next) = (value ≡ at) × FieldKept s at next (valueField declaring (textShown s at))
+ValueKept s at isLength (HeaderRead.Refused n) = Unit
+ValueKept s at isLength (HeaderRead.Header value declared next) = (value ≡ at) × FieldKept s at next (valueField isLength (textShown s at))
 
 -- that is so of each that is read
-value-kept : (s : List ℕ) (at : ℕ) (declaring : Bool) (before : Declared) → Bytes s → ValueKept s at declaring (valueAt s at declaring before)
-unfolding valueAt
-value-kept s at declaring before bytes = go (stringAt s at (isOptional StringField.HeaderValue)) refl
+value-kept : (s : List ℕ) (at : ℕ) (isLength : Bool) (before : Declared) → Bytes s → ValueKept s at isLength (headerValueAt s at isLength before)
+unfolding headerValueAt
+value-kept s at isLength before bytes = go (stringAt s at (isOptional StringField.HeaderValue)) refl
   where
     by : (next : ℕ) (t : Text) → textShown s at ≡ t → StringThere s StringField.HeaderValue at next
-        → (r : Declaring) → declaredBy declaring before (isNull t) (bytesIn t) ≡ r → ValueKept s at declaring (valued at next r)
-    by next t shown h (Declaring.Refused n) e = tt
-    by next t shown h (Declaring.Now declared) e = (
+        → (r : LengthRead) → declaredAfter isLength before (isNull t) (contentOf t) ≡ r → ValueKept s at isLength (headerValued at next r)
+    by next t shown h (LengthRead.Refused n) e = tt
+    by next t shown h (LengthRead.Now declared) e = (
       refl,
-      value-fine s at next declaring (textShown s at) (string-kept s at StringField.HeaderValue next bytes h)
-          (subst (λ (u : Text). declaringFault (declaredBy declaring Declared.Absent (isNull u) (bytesIn u)) ≡ 0) (sym shown)
-          (declares-first declaring before t declared e)),
+      value-fine s at next isLength (textShown s at) (string-kept s at StringField.HeaderValue next bytes h)
+          (subst (λ (u : Text). lengthFault (declaredAfter isLength Declared.Absent (isNull u) (contentOf u)) ≡ 0) (sym shown)
+          (declares-first isLength before t declared e)),
     )
 
-    go : (r : StringRead) → stringAt s at (isOptional StringField.HeaderValue) ≡ r → ValueKept s at declaring (valueOf s at declaring before r)
+    go : (r : StringRead) → stringAt s at (isOptional StringField.HeaderValue) ≡ r → ValueKept s at isLength (headerValueOf s at isLength before r)
     go (StringRead.Refused n) e = tt
     go (StringRead.Null next) e =
         by next null (null-told s at (isOptional StringField.HeaderValue) next e) (subst (StringEnds next) (sym e) refl)
-        (declaredBy declaring before true []) refl
+        (declaredAfter isLength before true []) refl
     go (StringRead.Text start len next) e =
         by next (text (part s start len))
         (text-told s at (isOptional StringField.HeaderValue) start len next e
         ∙ ap text (text-shown s at (isOptional StringField.HeaderValue) start len next e .1))
         (subst (StringEnds next) (sym e) refl)
-        (declaredBy declaring before false (part s start len)) refl
+        (declaredAfter isLength before false (part s start len)) refl
 
 -- a header with this name, and its value at a place
-abbrev NamedKept : Direction → List ℕ → ℕ → ℕ → ℕ → Name → Type 0
+abbrev NamedKept : Direction → List ℕ → ℕ → ℕ → ℕ → MessageName → Type 0
 NamedKept d s at value end name = FieldsKept s at end (fieldsBy d (textShown s value) name) × NameFits name
 
 -- a header that was read, by where its value is and where it ends
@@ -283,11 +283,11 @@ HeaderKept d s at (HeaderRead.Refused n) = Unit
 HeaderKept d s at (HeaderRead.Header value declared next) = NamedKept d s at value next (nameShown s at)
 
 -- a name and the value behind it
-named-kept : (d : Direction) (s : List ℕ) (at middle : ℕ) (name : Name) (declaring : Bool) → nameShown s at ≡ name
-    → ((end : ℕ) → FieldKept s middle end (valueField declaring (textShown s middle)) → NamedKept d s at middle end name)
-    → (r : HeaderRead) → ValueKept s middle declaring r → HeaderKept d s at r
-named-kept d s at middle name declaring shown so (HeaderRead.Refused n) k = tt
-named-kept d s at middle name declaring shown so (HeaderRead.Header value declared next) k =
+named-kept : (d : Direction) (s : List ℕ) (at middle : ℕ) (name : MessageName) (isLength : Bool) → nameShown s at ≡ name
+    → ((end : ℕ) → FieldKept s middle end (valueField isLength (textShown s middle)) → NamedKept d s at middle end name)
+    → (r : HeaderRead) → ValueKept s middle isLength r → HeaderKept d s at r
+named-kept d s at middle name isLength shown so (HeaderRead.Refused n) k = tt
+named-kept d s at middle name isLength shown so (HeaderRead.Header value declared next) k =
     subst (NamedKept d s at value next) (sym shown)
     (subst (λ (i : ℕ). NamedKept d s at i next name) (sym (k .0)) (so next (k .1)))
 
@@ -301,11 +301,11 @@ header-kept d s at before bytes = go (nameAt d s at) refl (name-kept d s at byte
     go (NameRead.Code code next) e k =
         named-kept d s at next (coded code) (declares d code) (ap (nameBy s at) (code-shown d s at code next e))
         (λ end v. (fields-front (k .0) (fields-last v), k .1))
-        (valueAt s next (declares d code) before) (value-kept s next (declares d code) before bytes)
+        (headerValueAt s next (declares d code) before) (value-kept s next (declares d code) before bytes)
     go (NameRead.Spelled start len next) e k =
         named-kept d s at next (spelled (textView s at)) false (ap (nameBy s at) (spelled-shown d s at start len next e .0))
         (λ end v. (fields-front k (fields-last v), tt))
-        (valueAt s next false before) (value-kept s next false before bytes)
+        (headerValueAt s next false before) (value-kept s next false before bytes)
 
 -- headers stand as they would be written: from a place to another, with these places for their names and values, two for each of so many
 pub record HeadersKept (d : Direction) (s : List ℕ) (at count : ℕ) (places : List ℕ) (end : ℕ) : Type 0 where
@@ -363,7 +363,7 @@ headers-kept d s at count declared after end bytes h e =
 abbrev CodedKept : List ℕ → ℕ → ℕ → ℕ → AttributeKind → Type 0
 CodedKept s at value end kind =
     attributeKind (getD s at 0) ≡ kind
-    → FieldsKept s at end (fieldsOf (getD s at 0) (valueBy s at value kind)) × ValueFits (valueBy s at value kind)
+    → FieldsKept s at end (valueFields (getD s at 0) (valueBy s at value kind)) × ValueFits (valueBy s at value kind)
 
 -- a code takes the kind of value that it has
 code-field : (s : List ℕ) (at : ℕ) (takes : Bool) → takes ≡ true → at + 1 ≤ length s → FieldKept s at (at + 1) (codeField takes (getD s at 0))

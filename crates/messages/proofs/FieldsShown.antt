@@ -26,15 +26,15 @@ use Rattle.headers.specs.Headers.{declares, nameAt}
 use Rattle.headers.specs.declared.NameRead.{NameRead}
 use Rattle.attributes.specs.Attributes.{lastMark}
 use Rattle.payload.specs.Handed.{StringThere, NameEnds, HeadersHanded, ValueThere, AttributesHanded}
-use Rattle.fields.specs.Fault.{unless, stringFault}
-use Rattle.fields.specs.Field.{faultsOf, bytesOf}
-use Rattle.fields.proofs.Faults.{faultless}
+use Rattle.building.specs.Fault.{unless, stringFault}
+use Rattle.building.specs.Field.{faultsOf, fieldsBytes}
+use Rattle.building.proofs.Faults.{faultless}
 use Rattle.pieces.specs.Header.{spelledName}
 use Rattle.pieces.specs.Attribute.{isText, isInteger, isPair}
 use Rattle.views.specs.View.{nullView, textView}
 use Rattle.reading_laws.proofs.Shown.{integer-shown, text-shown, code-shown, spelled-shown}
-use Rattle.messages.specs.Message.{Text, null, text, Name, coded, spelled, Header, Value, string, integer, pair, Attribute, isNull, bytesIn, ValueFits, AttributesFit}
-use Rattle.messages.specs.Bytes.{fieldsBy, headerFields, headersBytes, fieldsOf, attributesBytes}
+use Rattle.messages.specs.Message.{Text, null, text, MessageName, coded, spelled, Header, Value, string, integer, pair, Attribute, isNull, contentOf, ValueFits, AttributesFit}
+use Rattle.messages.specs.Bytes.{fieldsBy, headerFields, headersBytes, valueFields, attributesBytes}
 use Rattle.messages.specs.Shown.{textShown, nameShown, headersShown, valueBy, attributesShown}
 use Rattle.messages.proofs.Fine.{FieldsFine, HeadersFine, AttributesFine}
 use Rattle.messages.proofs.Judged.{text-part, string-stood, coded-name, spelled-name, code-begins, header-faultless, text-kind, integer-kind, pair-kind}
@@ -71,20 +71,20 @@ kindFor (integer n) = AttributeKind.Integer
 kindFor (pair name value) = AttributeKind.Pair
 
 -- where an attribute has no fault, its code takes that kind
-code-takes : (code : ℕ) (value : Value) → FieldsFine (fieldsOf code value) → attributeKind code ≡ kindFor value
+code-takes : (code : ℕ) (value : Value) → FieldsFine (valueFields code value) → attributeKind code ≡ kindFor value
 code-takes code value fine = go value fine
   where
     takes : (t : Bool) → unless t attributeWrong ≡ 0 → t ≡ true
     takes true h = refl
     takes false h = absurd (omega arith)
 
-    go : (value : Value) → FieldsFine (fieldsOf code value) → attributeKind code ≡ kindFor value
+    go : (value : Value) → FieldsFine (valueFields code value) → attributeKind code ≡ kindFor value
     go (string value) fine =
-        text-kind (attributeKind code) (takes (isText (attributeKind code)) (faultless (faultsOf (fieldsOf code (string value))) fine .0))
+        text-kind (attributeKind code) (takes (isText (attributeKind code)) (faultless (faultsOf (valueFields code (string value))) fine .0))
     go (integer n) fine =
-        integer-kind (attributeKind code) (takes (isInteger (attributeKind code)) (faultless (faultsOf (fieldsOf code (integer n))) fine .0))
+        integer-kind (attributeKind code) (takes (isInteger (attributeKind code)) (faultless (faultsOf (valueFields code (integer n))) fine .0))
     go (pair name value) fine =
-        pair-kind (attributeKind code) (takes (isPair (attributeKind code)) (faultless (faultsOf (fieldsOf code (pair name value))) fine .0))
+        pair-kind (attributeKind code) (takes (isPair (attributeKind code)) (faultless (faultsOf (valueFields code (pair name value))) fine .0))
 
 -- which FF does not
 not-mark : (value : Value) → attributeKind lastMark ≡ kindFor value → ⊥
@@ -101,7 +101,7 @@ mark-ends s from q next h = h
 -- a packet's bytes
 module _ {s : List ℕ} (short : length s ≤ maxPacket) where
   -- a string that stands in it is no longer than it
-  pub string-fits : {at : ℕ} (rest : List ℕ) (t : Text) → Ahead s at (textBytes t ++ rest) → length (bytesIn t) ≤ maxPacket
+  pub string-fits : {at : ℕ} (rest : List ℕ) (t : Text) → Ahead s at (textBytes t ++ rest) → length (contentOf t) ≤ maxPacket
   string-fits rest null r = omega arith
   string-fits rest (text bytes) r = omega (arith, ahead-short (stringBytes false bytes) rest maxPacket r short, size-text false bytes refl)
 
@@ -125,7 +125,7 @@ module _ {s : List ℕ} (short : length s ≤ maxPacket) where
 
   -- it is shown as it was written, and where it ends stand the bytes that were written behind it
   pub string-shows : {at : ℕ} (rest : List ℕ) (field : StringField) (t : Text) → Ahead s at (textBytes t ++ rest)
-      → stringFault field (isNull t) (bytesIn t) ≡ 0 → (next : ℕ) → StringThere s field at next → (textShown s at ≡ t) × Ahead s next rest
+      → stringFault field (isNull t) (contentOf t) ≡ 0 → (next : ℕ) → StringThere s field at next → (textShown s at ≡ t) × Ahead s next rest
   string-shows {at} rest field null r fine next there =
       let e = string-read rest field true [] r fine (omega arith) in
       let ends : at + length (stringBytes true []) ≡ next = rw e at there in (
@@ -159,12 +159,12 @@ module _ {s : List ℕ} (short : length s ≤ maxPacket) where
       (λ a. rw fine at (spelled-name a rest d false name h)) r
 
   -- a header's name and value, by its name: they are shown as they were written, and where the value ends stand the bytes behind it
-  header-by : {at : ℕ} (rest : List ℕ) (d : Direction) (value : Text) (name : Name) → FieldsFine (fieldsBy d value name)
-      → Ahead s at (bytesOf (fieldsBy d value name) ++ rest) → (q next : ℕ) → NameEnds q (nameAt d s at)
+  header-by : {at : ℕ} (rest : List ℕ) (d : Direction) (value : Text) (name : MessageName) → FieldsFine (fieldsBy d value name)
+      → Ahead s at (fieldsBytes (fieldsBy d value name) ++ rest) → (q next : ℕ) → NameEnds q (nameAt d s at)
       → StringThere s StringField.HeaderValue q next → (nameShown s at ≡ name) × (textShown s q ≡ value) × Ahead s next rest
   header-by {at} rest d value (coded code) fine r q next named there =
       let y : List ℕ = textBytes value in
-      let none = header-faultless (codeFault d code) (declares d code) (isNull value) (bytesIn value) fine in
+      let none = header-faultless (codeFault d code) (declares d code) (isNull value) (contentOf value) fine in
       let whole : Ahead s at (integerBytes code ++ (y ++ rest)) = rw (append-nil y) at r in
       let e = code-read (y ++ rest) d code whole (none .0) in
       let ends : at + 2 ≡ q = rw e at named in
@@ -174,7 +174,7 @@ module _ {s : List ℕ} (short : length s ≤ maxPacket) where
   header-by {at} rest d value (spelled name) fine r q next named there =
       let x : List ℕ = stringBytes false name in
       let y : List ℕ = textBytes value in
-      let none = header-faultless (spelledName d false name .fault) false (isNull value) (bytesIn value) fine in
+      let none = header-faultless (spelledName d false name .fault) false (isNull value) (contentOf value) fine in
       let whole : Ahead s at (x ++ (y ++ rest)) = simp (append-nil, append-assoc) at r in
       let e = spelling-read (y ++ rest) d name whole (none .0) (string-fits (y ++ rest) (text name) whole) in
       let ends : at + length x ≡ q = rw e at named in
@@ -192,19 +192,19 @@ module _ {s : List ℕ} (short : length s ≤ maxPacket) where
   headers-show rest d (header ∷ later) fine r [] many next handed = absurd (omega arith)
   headers-show rest d (header ∷ later) fine r (p ∷ []) many next handed = absurd handed
   headers-show {at} rest d (header ∷ later) fine r (p ∷ q ∷ places) many next handed =
-      let here : Ahead s p (bytesOf (headerFields d header) ++ (headersBytes d later ++ rest)) =
+      let here : Ahead s p (fieldsBytes (headerFields d header) ++ (headersBytes d later ++ rest)) =
       rw (handed .1) (simp append-assoc at r) in
       let first = header-by (headersBytes d later ++ rest) d (header .value) (header .name) (fine .0) here q (handed .0) (handed .2) (handed .3) in
       let others = headers-show rest d later (fine .1) (first .2) places (omega arith) next (handed .4) in
       (rw (first .0, first .1, others .0), others .1)
 
   -- an attribute's value behind its code: it is shown as it was written, and where it ends stand the bytes behind it
-  value-shows : {at : ℕ} (rest : List ℕ) (code : ℕ) (value : Value) → FieldsFine (fieldsOf code value) → ValueFits value
-      → Ahead s at (bytesOf (fieldsOf code value) ++ rest) → (q next : ℕ) → ValueThere s (kindFor value) (at + 1) q next
+  value-shows : {at : ℕ} (rest : List ℕ) (code : ℕ) (value : Value) → FieldsFine (valueFields code value) → ValueFits value
+      → Ahead s at (fieldsBytes (valueFields code value) ++ rest) → (q next : ℕ) → ValueThere s (kindFor value) (at + 1) q next
       → (valueBy s at q (kindFor value) ≡ value) × Ahead s next rest
   value-shows {at} rest code (string value) fine fits r q next there =
       let y : List ℕ = textBytes value in
-      let none = faultless (faultsOf (fieldsOf code (string value))) fine in
+      let none = faultless (faultsOf (valueFields code (string value))) fine in
       let whole : Ahead s at ((code ∷ []) ++ (y ++ rest)) = rw (append-nil y) at r in
       let behind : Ahead s q (y ++ rest) = rw (there .0) (ahead-next (code ∷ []) (y ++ rest) whole) in
       let shown = string-shows rest StringField.AttributeValue value behind (none .1 .0) next (there .1) in
@@ -218,7 +218,7 @@ module _ {s : List ℕ} (short : length s ≤ maxPacket) where
   value-shows {at} rest code (pair name value) fine fits r q next there =
       let x : List ℕ = stringBytes false name in
       let y : List ℕ = textBytes value in
-      let none = faultless (faultsOf (fieldsOf code (pair name value))) fine in
+      let none = faultless (faultsOf (valueFields code (pair name value))) fine in
       let whole : Ahead s at ((code ∷ []) ++ (x ++ (y ++ rest))) = simp (append-nil, append-assoc) at r in
       let first = string-shows (y ++ rest) StringField.AttributeName (text name) (ahead-next (code ∷ []) (x ++ (y ++ rest)) whole) (none .1 .0) q (there .0) in
       let second = string-shows rest StringField.AttributeValue value (first .1) (none .1 .1 .0) next (there .1) in
@@ -230,7 +230,7 @@ module _ {s : List ℕ} (short : length s ≤ maxPacket) where
   byte-there rest n r = ahead-holds (λ (l : List ℕ) (i : ℕ). getD l i 0 ≡ n) (λ a. getD-append-seam a n rest 0) r
 
   -- an attribute's first byte is its code
-  code-there : {at : ℕ} (rest : List ℕ) (code : ℕ) (value : Value) → Ahead s at (bytesOf (fieldsOf code value) ++ rest) → getD s at 0 ≡ code
+  code-there : {at : ℕ} (rest : List ℕ) (code : ℕ) (value : Value) → Ahead s at (fieldsBytes (valueFields code value) ++ rest) → getD s at 0 ≡ code
   code-there rest code (string value) r = byte-there ((textBytes value ++ []) ++ rest) code r
   code-there rest code (integer n) r = byte-there (integerBytes n ++ rest) code r
   code-there rest code (pair name value) r =
@@ -253,7 +253,7 @@ module _ {s : List ℕ} (short : length s ≤ maxPacket) where
   attributes-show (attribute ∷ later) fine fit r (p ∷ []) next handed = absurd handed
   attributes-show {at} (attribute ∷ later) fine fit r (p ∷ q ∷ places) next handed =
       let rest : List ℕ = attributesBytes later ++ (lastMark ∷ []) in
-      let here : Ahead s p (bytesOf (fieldsOf (attribute .code) (attribute .value)) ++ rest) = rw (handed .1) (simp append-assoc at r) in
+      let here : Ahead s p (fieldsBytes (valueFields (attribute .code) (attribute .value)) ++ rest) = rw (handed .1) (simp append-assoc at r) in
       let code : getD s p 0 ≡ attribute .code = code-there rest (attribute .code) (attribute .value) here in
       let kind : attributeKind (getD s p 0) ≡ kindFor (attribute .value) =
       ap attributeKind code ∙ code-takes (attribute .code) (attribute .value) (fine .0) in

@@ -3,8 +3,8 @@
 use mathlib.Core.Path.{_≡_}
 use mathlib.Core.List.{List, [], _∷_}
 use Rattle.packet.specs.declared.Direction.{Direction}
-use Rattle.fields.specs.Fault.{firstFault}
-use Rattle.fields.specs.Field.{Field, faultsOf}
+use Rattle.building.specs.Fault.{firstFault}
+use Rattle.building.specs.Field.{Field, faultsOf}
 use Rattle.messages.specs.Message.{Header, Attribute}
 use Rattle.messages.specs.Bytes.{headerFields, attributeFields}
 

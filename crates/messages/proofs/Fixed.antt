@@ -20,18 +20,18 @@ use Rattle.wire.proofs.RoundTrip.{integer-written, byte-written, boolean-writte
 use Rattle.wire.specs.Refusal.{outOfRange, tooMany}
 use Rattle.connection.specs.Connection.{maxPacket}
 use Rattle.places.specs.Entries.{ended, ending, maxHeaders}
-use Rattle.payload.specs.Sequence.{afterCode, behind, stringField, stringFieldAt, stringAfter, booleanNumber, booleanField, booleanFieldAt, booleanAfter, numberField, byteAfter, anyIntegerAfter, integerAfter, bounded}
+use Rattle.payload.specs.Sequence.{afterCode, behind, stringAsField, stringFieldAt, stringAfter, booleanNumber, booleanAsField, booleanFieldAt, booleanAfter, numberAsField, byteAfter, anyIntegerAfter, integerAfter, bounded}
 use Rattle.payload.specs.Lists.{headersAfter, listsAt}
 use Rattle.payload.specs.Forward.{forwardOf, forwardAt, firstMethod, lastMethod}
 use Rattle.payload.specs.SendHeaders.{sendHeadersOf, sendHeadersAt, greatestStatus, leastStatus}
 use Rattle.payload.specs.declared.field.FieldRead.{FieldRead}
 use Rattle.payload.specs.declared.found.PacketRead.{PacketRead}
 use Rattle.payload.specs.Code.{afterCodePlace, codePlace}
-use Rattle.fields.specs.Fault.{unless, orElse, firstFault, stringFault, rangeFault}
-use Rattle.fields.specs.Field.{opening, faultsOf}
-use Rattle.fields.proofs.Sizes.{boolean-one}
-use Rattle.fields.proofs.Faults.{faultless}
-use Rattle.building_record.specs.Record.{kindIn}
+use Rattle.building.specs.Fault.{unless, orElse, firstFault, stringFault, rangeFault}
+use Rattle.building.specs.Field.{opening, faultsOf}
+use Rattle.building.proofs.Sizes.{boolean-one}
+use Rattle.building.proofs.Faults.{faultless}
+use Rattle.building_record.specs.Record.{builtKind}
 use Rattle.pieces.specs.Fixed.{fixed, sendHeadersFields, forwardFields}
 use Rattle.building_record.specs.declared.BuildingKind.{BuildingKind}
 use Rattle.pieces.specs.declared.forward.Numbers.{Numbers}
@@ -93,11 +93,11 @@ bounded-unless at low high n next = go (between low high n)
     go false = refl
 
 -- a string, as a field
-string-unless : (n f next : ℕ) (null : Bool) (text : List ℕ) → stringField n (stood f n next null text) ≡ fieldUnless f n 0 next
+string-unless : (n f next : ℕ) (null : Bool) (text : List ℕ) → stringAsField n (stood f n next null text) ≡ fieldUnless f n 0 next
 string-unless n f next null text = go (eqb f 0) null
   where
     go : (t u : Bool)
-        → stringField n (pick t (pick u (StringRead.Null next) (StringRead.Text (n + 2) (length text) next)) (StringRead.Refused f))
+        → stringAsField n (pick t (pick u (StringRead.Null next) (StringRead.Text (n + 2) (length text) next)) (StringRead.Refused f))
         ≡ pick t (FieldRead.Field n 0 next) (FieldRead.Refused f)
     go false u = refl
     go true true = refl
@@ -139,9 +139,9 @@ module _ {s : List ℕ} {got : FieldRead} {f p v at : ℕ} (rest : List ℕ) whe
       → Reads s (anyIntegerAfter s got) (orElse f 0) at n (at + 2) rest
   unfolding anyIntegerAfter
   any-integer-reads n r h =
-      reads-next (integerBytes n) rest (λ i. numberField i (integerAt s i)) 0 n 2 r refl
-      (ahead-holds (λ (l : List ℕ) (i : ℕ). numberField i (integerAt l i) ≡ FieldRead.Field i n (i + 2))
-      (λ a. ap (numberField (length a)) (integer-written a rest n h))
+      reads-next (integerBytes n) rest (λ i. numberAsField i (integerAt s i)) 0 n 2 r refl
+      (ahead-holds (λ (l : List ℕ) (i : ℕ). numberAsField i (integerAt l i) ≡ FieldRead.Field i n (i + 2))
+      (λ a. ap (numberAsField (length a)) (integer-written a rest n h))
       (r .ahead))
 
   -- a boolean
@@ -150,8 +150,8 @@ module _ {s : List ℕ} {got : FieldRead} {f p v at : ℕ} (rest : List ℕ) whe
   unfolding booleanAfter booleanFieldAt
   boolean-reads value r =
       reads-next (booleanBytes value) rest (booleanFieldAt s) 0 (booleanNumber value) 1 r (boolean-one value)
-      (ahead-holds (λ (l : List ℕ) (i : ℕ). booleanField i (booleanAt l i) ≡ FieldRead.Field i (booleanNumber value) (i + 1))
-      (λ a. ap (booleanField (length a)) (boolean-written a rest value))
+      (ahead-holds (λ (l : List ℕ) (i : ℕ). booleanAsField i (booleanAt l i) ≡ FieldRead.Field i (booleanNumber value) (i + 1))
+      (λ a. ap (booleanAsField (length a)) (boolean-written a rest value))
       (r .ahead))
 
   -- a string
@@ -162,8 +162,8 @@ module _ {s : List ℕ} {got : FieldRead} {f p v at : ℕ} (rest : List ℕ) whe
       let g : ℕ = stringFault field null text in
       let n : ℕ = length (stringBytes null text) in
       reads-next (stringBytes null text) rest (stringFieldAt s field) g 0 n r refl
-      (ahead-holds (λ (l : List ℕ) (i : ℕ). stringField i (stringAt l i (isOptional field)) ≡ fieldUnless g i 0 (i + n))
-      (λ a. ap (stringField (length a)) (string-stood a rest field null text h) ∙ string-unless (length a) g (length a + n) null text)
+      (ahead-holds (λ (l : List ℕ) (i : ℕ). stringAsField i (stringAt l i (isOptional field)) ≡ fieldUnless g i 0 (i + n))
+      (λ a. ap (stringAsField (length a)) (string-stood a rest field null text h) ∙ string-unless (length a) g (length a + n) null text)
       (r .ahead))
 
 -- a boolean, from the number that it is read as
@@ -180,7 +180,7 @@ reads-start : (s a rest : List ℕ) → length a ≡ afterCodePlace → s ≡ a 
 reads-start s a rest opened e = record { is = refl; ahead = record { front = a; is = e; place = opened } }
 
 -- which has five bytes
-pub opening-five : (kind : BuildingKind) (n : ℕ) → length (opening (kindIn kind) n) ≡ afterCodePlace
+pub opening-five : (kind : BuildingKind) (n : ℕ) → length (opening (builtKind kind) n) ≡ afterCodePlace
 opening-five BuildingKind.Forward n = refl
 opening-five BuildingKind.SendHeaders n = refl
 

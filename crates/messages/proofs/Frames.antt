@@ -1,5 +1,5 @@
 -- The frame of a whole packet: its direction's leading bytes, its length, and so many bytes behind that. What is written as a packet has such a
--- frame, and a whole packet is its head and its payload: reading looks at nothing else of it to find it whole.
+-- frame, and a whole packet is its packetHead and its payload: reading looks at nothing else of it to find it whole.
 -- Assumes nothing.
 use native.Mathlib.Omega.{arith}
 use borrow.Author.Tests.{le-leb, le-ltb, eq-eqb, eqb-true}
@@ -13,7 +13,7 @@ use lib.Seq.{getD-take}
 use Rattle.wire.specs.Pick.{pick, either}
 use Rattle.wire.specs.Bytes.{part, integerIn}
 use Rattle.wire.specs.Field.{integerAt}
-use Rattle.wire.specs.Packet.{leading, head, packet}
+use Rattle.wire.specs.Packet.{leading, packetHead, packet}
 use Rattle.packet.specs.declared.Direction.{Direction}
 use Rattle.wire.specs.declared.read.NumberRead.{NumberRead}
 use Rattle.wire.proofs.Field.{number-read}
@@ -143,7 +143,7 @@ leading-two : (d : Direction) → getD (leading d) 0 0 ∷ getD (leading d) 1 0 
 leading-two Direction.ToContainer = refl
 leading-two Direction.ToServer = refl
 
--- a whole packet is its head and its payload
+-- a whole packet is its packetHead and its payload
 pub head-kept : (d : Direction) (s : List ℕ) (n : ℕ) → Bytes s → frameAt d s ≡ FrameRead.Whole n → n ≡ length s → s ≡ packet d (drop headSize s)
 unfolding part
 head-kept d s n bytes e all =
@@ -152,6 +152,6 @@ head-kept d s n bytes e all =
     let lead : part s 0 2 ≡ leading d =
     part-add s 0 1 1
     ∙ rw (part-one s 0 (omega arith), part-one s 1 (omega arith), f .first, f .second) (leading-two d) in
-    let four : part s 0 headSize ≡ head d (length (drop headSize s)) =
+    let four : part s 0 headSize ≡ packetHead d (length (drop headSize s)) =
     part-add s 0 2 2 ∙ rw (lead, integer-kept s 2 bytes (omega arith), size) in
     sym (take-append-drop headSize s) ∙ ap (λ (l : List ℕ). l ++ drop headSize s) four

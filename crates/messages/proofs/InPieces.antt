@@ -18,21 +18,21 @@ use Rattle.connection.specs.declared.Kind.{Kind}
 use Rattle.connection.specs.declared.Connection.{Connection}
 use Rattle.places.specs.Entries.{maxPlaces}
 use Rattle.payload.specs.Code.{codeOf, kindAt}
-use Rattle.payload.specs.Kinds.{kindIn, moveIn}
+use Rattle.payload.specs.Kinds.{packetKind, packetMove}
 use Rattle.payload.specs.declared.KindRead.{KindRead}
 use Rattle.payload.proofs.Handed.{forward-handed}
 use Rattle.packet.specs.declared.Part.{Part}
 use Rattle.packet.specs.declared.Forward.{Forward}
 use Rattle.packet.specs.declared.SendHeaders.{SendHeaders}
 use Rattle.packet.specs.declared.Packet.{Packet}
-use Rattle.fields.specs.Field.{Field}
+use Rattle.building.specs.Field.{Field}
 use Rattle.building_record.specs.Record as building
 use Rattle.building_record.specs.declared.BuildingKind.{BuildingKind}
 use Rattle.writer.specs.Meaning.{Written}
 use Rattle.reader.specs.Meaning.{accepted, told}
 use Rattle.reader.specs.Reading.{parse, readAsBody, judging, reading}
 use Rattle.reading_laws.proofs.Aside.{aside}
-use Rattle.messages.specs.Message.{Request, Response, Message, forward, sendHeaders, Header, Attribute, wayOf}
+use Rattle.messages.specs.Message.{Request, Response, Message, forward, sendHeaders, Header, Attribute, messageDirection}
 use Rattle.messages.specs.Bytes.{payloadOf, messageBytes}
 use Rattle.messages.specs.Writing.{writing}
 use Rattle.messages.specs.RoundTrips.{WrittenBack}
@@ -56,7 +56,7 @@ OfKind P Kind.BodyChunk = (p : Part) → P (Packet.BodyChunk p)
 OfKind P Kind.End = (reuse : Bool) → P (Packet.End reuse)
 
 -- then it holds of each packet of that kind
-of-kind : (P : Packet → Type 0) (p : Packet) → OfKind P (kindIn p) → P p
+of-kind : (P : Packet → Type 0) (p : Packet) → OfKind P (packetKind p) → P p
 of-kind P Packet.CPing h = h
 of-kind P Packet.CPong h = h
 of-kind P (Packet.Forward f) h = h f
@@ -67,36 +67,36 @@ of-kind P (Packet.BodyChunk p) h = h p
 of-kind P (Packet.End reuse) h = h reuse
 
 -- a packet in pieces is no body packet
-not-body : (kind : BuildingKind) → isBody (building.kindIn kind) ≡ false
+not-body : (kind : BuildingKind) → isBody (building.builtKind kind) ≡ false
 not-body BuildingKind.Forward = refl
 not-body BuildingKind.SendHeaders = refl
 
 -- a packet with the code of a packet in pieces is of that kind, where its state allows that kind: no body packet is due then
-kind-found : (c : Connection) (kind : BuildingKind) (rest : List ℕ) (p : Packet) → (let k = building.kindIn kind in
-    Parses (directionOf k) (packet (directionOf k) (codeOf k ∷ rest)) p → allowed c (moveIn p) ≡ true → inState c k ≡ true → kindIn p ≡ k)
+kind-found : (c : Connection) (kind : BuildingKind) (rest : List ℕ) (p : Packet) → (let k = building.builtKind kind in
+    Parses (directionOf k) (packet (directionOf k) (codeOf k ∷ rest)) p → allowed c (packetMove p) ≡ true → inState c k ≡ true → packetKind p ≡ k)
 kind-found c kind rest p r a in-state =
-    let k : Kind = building.kindIn kind in
-    let same : isBody (kindIn p) ≡ isBody k = sym (packet-as-body c (directionOf k) p (r .way) a) ∙ none-due c kind in-state ∙ sym (not-body kind) in
-    let found : KindRead.Kind (kindIn p) ≡ KindRead.Kind k =
+    let k : Kind = building.builtKind kind in
+    let same : isBody (packetKind p) ≡ isBody k = sym (packet-as-body c (directionOf k) p (r .way) a) ∙ none-due c kind in-state ∙ sym (not-body kind) in
+    let found : KindRead.Kind (packetKind p) ≡ KindRead.Kind k =
     sym (r .kind-is) ∙ ap (λ (t : Bool). kindAt (directionOf k) t (packet (directionOf k) (codeOf k ∷ rest))) same
     ∙ kind-written k rest (not-body kind) in
     cc
 
 -- a packet that was written in pieces stands there: it was judged good, so it parses, and as a packet of its kind it shows the message
 pieces-stand : {c : Connection} {own : List Field} {headers : List Header} {attributes : List Attribute} {buffer left : List ℕ} {w : Written}
-    (kind : BuildingKind) (m : Message) (rest : List ℕ) → (let d = directionOf (building.kindIn kind) in
-    messageBytes m ≡ packet d (codeOf (building.kindIn kind) ∷ rest) → d ≡ wayOf m
+    (kind : BuildingKind) (m : Message) (rest : List ℕ) → (let d = directionOf (building.builtKind kind) in
+    messageBytes m ≡ packet d (codeOf (building.builtKind kind) ∷ rest) → d ≡ messageDirection m
     → PiecesWritten c kind own headers attributes (messageBytes m) buffer w left
-    → OfKind (λ p. Parses d (messageBytes m) p → Shows p (messageBytes m) m) (building.kindIn kind)
+    → OfKind (λ p. Parses d (messageBytes m) p → Shows p (messageBytes m) m) (building.builtKind kind)
     → Stands m c w left)
 pieces-stand {c} {buffer = buffer} {left = left} {w = w} kind m rest bytes way k each =
-    let d : Direction = directionOf (building.kindIn kind) in
+    let d : Direction = directionOf (building.builtKind kind) in
     let whole : List ℕ = messageBytes m in
     let reads : reading d c whole maxPlaces ≡ accepted (k .tells) (length whole) (w .connection) = aside d c whole maxPlaces (omega arith) ∙ k .judged in
     let a = accepted-parses d c whole maxPlaces (k .tells) (length whole) (w .connection) reads in
     let p : Packet = a .packet in
     let r : Parses d whole p = all-parses d c whole maxPlaces (k .tells) (w .connection) reads in
-    let is : kindIn p ≡ building.kindIn kind = kind-found c kind rest p (subst (λ (s : List ℕ). Parses d s p) bytes r) (a .allows) (k .state) in
+    let is : packetKind p ≡ building.builtKind kind = kind-found c kind rest p (subst (λ (s : List ℕ). Parses d s p) bytes r) (a .allows) (k .state) in
     let Showing : Packet → Type 0 = λ q. Parses d whole q → Shows q whole m in
     let shows : Shows p whole m = of-kind Showing p (subst (OfKind Showing) (sym is) each) r in
     let there : whole ≡ part left 0 (w .size) = sym (stands-there whole buffer left (w .size) (k .size) (k .is) (k .fits)) in
@@ -129,23 +129,23 @@ send-headers-forth response c buffer w left fit e =
     (λ h r. send-headers-shown response (k .own-fine) (k .headers-fine) (k .few) (k .within) h (r .fields-are)))
 
 -- a packet that parses is judged good by a connection that allows its move
-parses-judged : {d : Direction} {s : List ℕ} {p : Packet} → Parses d s p → (c : Connection) → allowed c (moveIn p) ≡ true
-    → judging c (parse d (readAsBody d c) s) ≡ accepted (told p) (length s) (after c (moveIn p))
+parses-judged : {d : Direction} {s : List ℕ} {p : Packet} → Parses d s p → (c : Connection) → allowed c (packetMove p) ≡ true
+    → judging c (parse d (readAsBody d c) s) ≡ accepted (told p) (length s) (after c (packetMove p))
 parses-judged {d} {s} r c a = sym (aside d c s maxPlaces (omega arith)) ∙ parses-alone r c a maxPlaces (parses-places r)
 
 -- a packet in pieces whose fields are kept is written back as its bytes
 kept-back : {c : Connection} {s buffer : List ℕ} {p : Packet} {m : Message} {own : List Field} {headers : List Header}
-    {attributes : List Attribute} (kind : BuildingKind) → (let d = directionOf (building.kindIn kind) in
-    Parses d s p → allowed c (moveIn p) ≡ true → inState c (building.kindIn kind) ≡ true → length s ≤ length buffer
+    {attributes : List Attribute} (kind : BuildingKind) → (let d = directionOf (building.builtKind kind) in
+    Parses d s p → allowed c (packetMove p) ≡ true → inState c (building.builtKind kind) ≡ true → length s ≤ length buffer
     → PiecesKept d s m own headers attributes → Writes c kind own headers attributes (messageBytes m) buffer (writing c m buffer)
-    → WrittenBack d c s buffer m (length s) (after c (moveIn p)))
+    → WrittenBack d c s buffer m (length s) (after c (packetMove p)))
 kept-back {c} {s} {buffer} {p} {m} kind r a in-state fits kept writes =
-    let d : Direction = directionOf (building.kindIn kind) in
+    let d : Direction = directionOf (building.builtKind kind) in
     let size : length (messageBytes m) ≡ length s = ap length (kept .bytes-are) in
-    let judged : judging c (parse d (readAsBody d c) (messageBytes m)) ≡ accepted (told p) (length s) (after c (moveIn p)) =
+    let judged : judging c (parse d (readAsBody d c) (messageBytes m)) ≡ accepted (told p) (length s) (after c (packetMove p)) =
     ap (λ (l : List ℕ). judging c (parse d (readAsBody d c) l)) (kept .bytes-are) ∙ parses-judged r c a in
     let written =
-    writes (told p) (length s) (after c (moveIn p)) (kept .own-fine) (kept .headers-fine) (kept .attributes-fine) (kept .few)
+    writes (told p) (length s) (after c (packetMove p)) (kept .own-fine) (kept .headers-fine) (kept .attributes-fine) (kept .few)
     (omega (arith, parses-most r, size)) (omega (arith, size)) in-state judged in
     record {
       written = rw (kept .bytes-are) at written;

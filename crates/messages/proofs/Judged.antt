@@ -24,15 +24,15 @@ use Rattle.wire.proofs.Field.{size-null, size-text}
 use Rattle.wire.proofs.RoundTrip.{integer-written}
 use Rattle.names.specs.Names.{requestNames, responseNames, isListed, firstCode, namesIn}
 use Rattle.names.specs.Header.{beginsCode, codeFault, spelledFault}
-use Rattle.names.specs.Length.{decimalOf, asDeclared}
+use Rattle.names.specs.Length.{decimalOf, decimalDeclared}
 use Rattle.names.specs.Attribute.{attributeKind, mayRepeat, isServed, attributeFault}
 use Rattle.packet.specs.declared.AttributeKind.{AttributeKind}
 use Rattle.names.specs.declared.length.Decimal.{Decimal}
 use Rattle.names.specs.declared.length.Declared.{Declared}
-use Rattle.names.specs.declared.length.Declaring.{Declaring}
+use Rattle.names.specs.declared.length.LengthRead.{LengthRead}
 use Rattle.names.specs.declared.NameList.{NameList}
 use Rattle.connection.specs.Connection.{maxPacket}
-use Rattle.headers.specs.Headers.{declares, declaredBy, valued, valueOf, valueAt, spelledOf, nameAt, headerOf, headerAt}
+use Rattle.headers.specs.Headers.{declares, declaredAfter, headerValued, headerValueOf, headerValueAt, spelledOf, nameAt, headerOf, headerAt, nameUnless}
 use Rattle.headers.specs.declared.NameRead.{NameRead}
 use Rattle.headers.specs.declared.HeaderRead.{HeaderRead}
 use Rattle.headers.proofs.Laws.{code-is, spelled-is, name-is, value-is, header-is}
@@ -41,12 +41,12 @@ use Rattle.attributes.specs.Attributes as attributes
 use Rattle.attributes.specs.declared.ValueRead.{ValueRead}
 use Rattle.attributes.specs.declared.AttributeRead.{AttributeRead}
 use Rattle.attributes.proofs.Laws.{text-value, integer-value, pair-value, coded-by, attribute-by}
-use Rattle.fields.specs.Fault.{unless, orElse, firstFault, stringFault}
-use Rattle.fields.specs.Field.{Field, faultsOf, bytesOf}
-use Rattle.fields.proofs.Sizes.{or-first, or-second}
-use Rattle.fields.specs.Judged.{judged}
-use Rattle.fields.proofs.Judged.{string-judged}
-use Rattle.pieces.specs.Header.{spelledName, declaringFault, valueFault, codedFields, spelledFields}
+use Rattle.building.specs.Fault.{unless, orElse, firstFault, stringFault}
+use Rattle.building.specs.Field.{Field, faultsOf, fieldsBytes}
+use Rattle.building.proofs.Sizes.{or-first, or-second}
+use Rattle.building.specs.Judged.{judged}
+use Rattle.building.proofs.Judged.{string-judged}
+use Rattle.pieces.specs.Header.{spelledName, lengthFault, valueFault, codedFields, spelledFields}
 use Rattle.pieces.specs.Attribute.{isText, isInteger, isPair, textFields, integerFields, pairFields}
 
 -- the number that a header is refused with, 0 for none
@@ -85,39 +85,35 @@ string-stood a b field null text h = string-judged a b field null text (omega ar
         rw end
 
 -- what null declares does not go by a text
-null-declares : (declaring : Bool) (before : Declared) (text : List ℕ) → declaredBy declaring before true [] ≡ declaredBy declaring before true text
-unfolding declaredBy
+null-declares : (isLength : Bool) (before : Declared) (text : List ℕ) → declaredAfter isLength before true [] ≡ declaredAfter isLength before true text
+unfolding declaredAfter
 null-declares false before text = refl
 null-declares true Declared.Absent text = refl
 null-declares true (Declared.Known n) text = refl
 
 -- a header's value, unless its string has a fault
-abbrev pub valuedUnless : ℕ → ℕ → ℕ → Declaring → HeaderRead
-valuedUnless fault place next declaring = pick (eqb fault 0) (valued place next declaring) (HeaderRead.Refused fault)
+abbrev pub valuedUnless : ℕ → ℕ → ℕ → LengthRead → HeaderRead
+valuedUnless fault place next isLength = pick (eqb fault 0) (headerValued place next isLength) (HeaderRead.Refused fault)
 
 -- what reading answers where a header's value was written
-value-judged : (a b : List ℕ) (declaring : Bool) (before : Declared) (null : Bool) (text : List ℕ) → length text ≤ maxPacket
-    → valueAt (a ++ (stringBytes null text ++ b)) (length a) declaring before
+value-judged : (a b : List ℕ) (isLength : Bool) (before : Declared) (null : Bool) (text : List ℕ) → length text ≤ maxPacket
+    → headerValueAt (a ++ (stringBytes null text ++ b)) (length a) isLength before
     ≡ valuedUnless (stringFault StringField.HeaderValue null text) (length a) (length a + length (stringBytes null text))
-    (declaredBy declaring before null text)
-value-judged a b declaring before null text h =
+    (declaredAfter isLength before null text)
+value-judged a b isLength before null text h =
     let f : ℕ = stringFault StringField.HeaderValue null text in
     let next : ℕ = length a + length (stringBytes null text) in
-    sym (value-is (a ++ (stringBytes null text ++ b)) (length a) declaring before true (stood f (length a) next null text) refl
+    sym (value-is (a ++ (stringBytes null text ++ b)) (length a) isLength before true (stood f (length a) next null text) refl
     (string-stood a b StringField.HeaderValue null text h))
     ∙ go f next (eqb f 0) null
   where
     go : (f next : ℕ) (t u : Bool)
-        → valueOf (a ++ (stringBytes u text ++ b)) (length a) declaring before
+        → headerValueOf (a ++ (stringBytes u text ++ b)) (length a) isLength before
         (pick t (pick u (StringRead.Null next) (StringRead.Text (length a + 2) (length text) next)) (StringRead.Refused f))
-        ≡ pick t (valued (length a) next (declaredBy declaring before u text)) (HeaderRead.Refused f)
+        ≡ pick t (headerValued (length a) next (declaredAfter isLength before u text)) (HeaderRead.Refused f)
     go f next false u = refl
-    go f next true true = rw (null-declares declaring before text)
+    go f next true true = rw (null-declares isLength before text)
     go f next true false = rw (text-part a b text)
-
--- a name, unless it has a fault
-abbrev pub nameUnless : ℕ → NameRead → NameRead
-nameUnless fault name = pick (eqb fault 0) name (NameRead.Refused fault)
 
 -- a name by its code, which begins with A0, by its fault
 pub coded-name : (a b : List ℕ) (d : Direction) (code : ℕ) → 40960 ≤ code → code < 41216
@@ -185,16 +181,16 @@ second-holds a x y b P h =
     rw (row, ← place, ← end) (h (a ++ x))
 
 -- the value behind a name, by its string's fault
-value-behind : (a x b : List ℕ) (declaring : Bool) (before : Declared) (null : Bool) (text : List ℕ) → length text ≤ maxPacket
-    → valueAt (a ++ ((x ++ (stringBytes null text ++ [])) ++ b)) (length a + length x) declaring before
+value-behind : (a x b : List ℕ) (isLength : Bool) (before : Declared) (null : Bool) (text : List ℕ) → length text ≤ maxPacket
+    → headerValueAt (a ++ ((x ++ (stringBytes null text ++ [])) ++ b)) (length a + length x) isLength before
     ≡ valuedUnless (stringFault StringField.HeaderValue null text) (length a + length x) (length a + length (x ++ (stringBytes null text ++ [])))
-    (declaredBy declaring before null text)
-value-behind a x b declaring before null text h =
+    (declaredAfter isLength before null text)
+value-behind a x b isLength before null text h =
     second-holds a x (stringBytes null text) b
     (λ (s : List ℕ) (at next : ℕ).
-    valueAt s at declaring before
-    ≡ valuedUnless (stringFault StringField.HeaderValue null text) at next (declaredBy declaring before null text))
-    (λ front. value-judged front b declaring before null text h)
+    headerValueAt s at isLength before
+    ≡ valuedUnless (stringFault StringField.HeaderValue null text) at next (declaredAfter isLength before null text))
+    (λ front. value-judged front b isLength before null text h)
 
 -- a header, by what its name reads as where it has no fault
 header-by : (d : Direction) (s : List ℕ) (at : ℕ) (before : Declared) (f : ℕ) (name : NameRead) {r : HeaderRead}
@@ -208,33 +204,33 @@ header-by d s at before f name {r} e q =
     go false = refl
 
 -- a header, by the fault of its name, that of its value's string, its value's place, its end and what it declares
-abbrev pub headed : ℕ → ℕ → ℕ → ℕ → Declaring → HeaderRead
-headed name value place next declaring =
-    pick (eqb name 0) (valuedUnless value place next declaring) (HeaderRead.Refused name)
+abbrev pub headed : ℕ → ℕ → ℕ → ℕ → LengthRead → HeaderRead
+headed name value place next isLength =
+    pick (eqb name 0) (valuedUnless value place next isLength) (HeaderRead.Refused name)
 
 module _ (f v place next : ℕ) where
   -- its refusal is the first of its faults
-  headed-judged : (declaring : Declaring) → refusalIn (headed f v place next declaring) ≡ firstFault (f ∷ orElse v (declaringFault declaring) ∷ [])
-  headed-judged declaring = go (eqb f 0) (eqb v 0) declaring
+  headed-judged : (isLength : LengthRead) → refusalIn (headed f v place next isLength) ≡ firstFault (f ∷ orElse v (lengthFault isLength) ∷ [])
+  headed-judged isLength = go (eqb f 0) (eqb v 0) isLength
     where
-      go : (t u : Bool) (r : Declaring)
-          → refusalIn (pick t (pick u (valued place next r) (HeaderRead.Refused v)) (HeaderRead.Refused f)) ≡ pick t (pick u (declaringFault r) v) f
+      go : (t u : Bool) (r : LengthRead)
+          → refusalIn (pick t (pick u (headerValued place next r) (HeaderRead.Refused v)) (HeaderRead.Refused f)) ≡ pick t (pick u (lengthFault r) v) f
       go false u r = refl
       go true false r = refl
-      go true true (Declaring.Refused n) = refl
-      go true true (Declaring.Now declared) = refl
+      go true true (LengthRead.Refused n) = refl
+      go true true (LengthRead.Now declared) = refl
 
   -- where neither has a fault, it is read
-  headed-read : (declaring : Declaring) → f ≡ 0 → v ≡ 0 → headed f v place next declaring ≡ valued place next declaring
-  headed-read declaring e g = rw (eq-eqb f 0 e, eq-eqb v 0 g)
+  headed-read : (isLength : LengthRead) → f ≡ 0 → v ≡ 0 → headed f v place next isLength ≡ headerValued place next isLength
+  headed-read isLength e g = rw (eq-eqb f 0 e, eq-eqb v 0 g)
 
 -- fields that were written, with other bytes around them
 abbrev pub among : List ℕ → List Field → List ℕ → List ℕ
-among a own b = a ++ (bytesOf own ++ b)
+among a own b = a ++ (fieldsBytes own ++ b)
 
 -- the place behind them
 abbrev pub endOf : List ℕ → List Field → ℕ
-endOf a own = length a + length (bytesOf own)
+endOf a own = length a + length (fieldsBytes own)
 
 -- a code without fault begins with A0
 pub code-begins : (d : Direction) (code : ℕ) → codeFault d code ≡ 0 → (40960 ≤ code) × (code < 41216)
@@ -259,33 +255,33 @@ code-begins d code h = go d h
         (omega arith, omega arith)
 
 -- what is declared by a value without fault
-abbrev pub declaredIn : Declaring → Declared
-declaredIn (Declaring.Refused n) = Declared.Absent
-declaredIn (Declaring.Now declared) = declared
+abbrev pub declaredIn : LengthRead → Declared
+declaredIn (LengthRead.Refused n) = Declared.Absent
+declaredIn (LengthRead.Now declared) = declared
 
 -- a value is refused with 10, if at all
-declares-ten : (declaring : Bool) (before : Declared) (null : Bool) (text : List ℕ) → declaringFault (declaredBy declaring before null text) ≡ 0
-    → declaredBy declaring before null text ≡ Declaring.Now (declaredIn (declaredBy declaring before null text))
-unfolding declaredBy
+declares-ten : (isLength : Bool) (before : Declared) (null : Bool) (text : List ℕ) → lengthFault (declaredAfter isLength before null text) ≡ 0
+    → declaredAfter isLength before null text ≡ LengthRead.Now (declaredIn (declaredAfter isLength before null text))
+unfolding declaredAfter
 declares-ten false before null text h = refl
 declares-ten true (Declared.Known n) null text h = absurd (omega (arith, h))
 declares-ten true Declared.Absent true text h = absurd (omega (arith, h))
 declares-ten true Declared.Absent false text h = go (decimalOf text) h
   where
-    go : (r : Decimal) → declaringFault (asDeclared r) ≡ 0 → asDeclared r ≡ Declaring.Now (declaredIn (asDeclared r))
+    go : (r : Decimal) → lengthFault (decimalDeclared r) ≡ 0 → decimalDeclared r ≡ LengthRead.Now (declaredIn (decimalDeclared r))
     go (Decimal.Value n) h = refl
     go Decimal.Bad h = absurd (omega (arith, h))
 
 -- what it says that a header has no fault: its name has none, its value's string has none, and its value declares something
-pub header-faultless : (f : ℕ) (declaring null : Bool) (value : List ℕ) → firstFault (f ∷ valueFault declaring null value ∷ []) ≡ 0
+pub header-faultless : (f : ℕ) (isLength null : Bool) (value : List ℕ) → firstFault (f ∷ valueFault isLength null value ∷ []) ≡ 0
     → (f ≡ 0) × ((stringFault StringField.HeaderValue null value ≡ 0)
-    × (declaredBy declaring Declared.Absent null value ≡ Declaring.Now (declaredIn (declaredBy declaring Declared.Absent null value))))
+    × (declaredAfter isLength Declared.Absent null value ≡ LengthRead.Now (declaredIn (declaredAfter isLength Declared.Absent null value))))
 unfolding valueFault
-header-faultless f declaring null value h =
+header-faultless f isLength null value h =
     let v : ℕ = stringFault StringField.HeaderValue null value in
-    let w : ℕ = declaringFault (declaredBy declaring Declared.Absent null value) in
+    let w : ℕ = lengthFault (declaredAfter isLength Declared.Absent null value) in
     let later : orElse v w ≡ 0 = or-second f (orElse v w) h in
-    (or-first f (orElse v w) h, (or-first v w later, declares-ten declaring Declared.Absent null value (or-second v w later)))
+    (or-first f (orElse v w) h, (or-first v w later, declares-ten isLength Declared.Absent null value (or-second v w later)))
 
 -- a header with a code for its name, which begins with A0
 module _ (a b : List ℕ) (d : Direction) (code : ℕ) (null : Bool) (value : List ℕ) (low : 40960 ≤ code) (high : code < 41216) (short : length value ≤ maxPacket) where
@@ -293,7 +289,7 @@ module _ (a b : List ℕ) (d : Direction) (code : ℕ) (null : Bool) (value : Li
   pub coded-header : (before : Declared)
       → headerAt d (among a (codedFields d code null value) b) (length a) before
       ≡ headed (codeFault d code) (stringFault StringField.HeaderValue null value) (length a + 2) (endOf a (codedFields d code null value))
-      (declaredBy (declares d code) before null value)
+      (declaredAfter (declares d code) before null value)
   coded-header before =
       header-by d (among a (codedFields d code null value) b) (length a) before (codeFault d code) (NameRead.Code code (length a + 2))
       (coded-name a ((stringBytes null value ++ []) ++ b) d code low high)
@@ -306,25 +302,25 @@ module _ (a b : List ℕ) (d : Direction) (code : ℕ) (null : Bool) (value : Li
   coded-judged =
       ap refusalIn (coded-header Declared.Absent)
       ∙ headed-judged (codeFault d code) (stringFault StringField.HeaderValue null value) (length a + 2) (endOf a (codedFields d code null value))
-      (declaredBy (declares d code) Declared.Absent null value)
+      (declaredAfter (declares d code) Declared.Absent null value)
 
   -- where its name and its value's string have none, it is read
   pub coded-read : (before : Declared) → codeFault d code ≡ 0 → stringFault StringField.HeaderValue null value ≡ 0
       → headerAt d (among a (codedFields d code null value) b) (length a) before
-      ≡ valued (length a + 2) (endOf a (codedFields d code null value)) (declaredBy (declares d code) before null value)
+      ≡ headerValued (length a + 2) (endOf a (codedFields d code null value)) (declaredAfter (declares d code) before null value)
   coded-read before e g =
       coded-header before
       ∙ headed-read (codeFault d code) (stringFault StringField.HeaderValue null value) (length a + 2) (endOf a (codedFields d code null value))
-      (declaredBy (declares d code) before null value) e g
+      (declaredAfter (declares d code) before null value) e g
 
   -- and with no fault at all, where nothing was declared before, it gives what its value declares
   pub coded-first : firstFault (faultsOf (codedFields d code null value)) ≡ 0
       → headerAt d (among a (codedFields d code null value) b) (length a) Declared.Absent
-      ≡ HeaderRead.Header (length a + 2) (declaredIn (declaredBy (declares d code) Declared.Absent null value)) (endOf a (codedFields d code null value))
+      ≡ HeaderRead.Header (length a + 2) (declaredIn (declaredAfter (declares d code) Declared.Absent null value)) (endOf a (codedFields d code null value))
   coded-first h =
       let fine = header-faultless (codeFault d code) (declares d code) null value h in
       coded-read Declared.Absent (fine .0) (fine .1 .0)
-      ∙ ap (valued (length a + 2) (endOf a (codedFields d code null value))) (fine .1 .1)
+      ∙ ap (headerValued (length a + 2) (endOf a (codedFields d code null value))) (fine .1 .1)
 
 -- a header with a spelled name
 module _ (a b : List ℕ) (d : Direction) (nameNull : Bool) (name : List ℕ) (null : Bool) (value : List ℕ)
@@ -334,8 +330,8 @@ module _ (a b : List ℕ) (d : Direction) (nameNull : Bool) (name : List ℕ) (n
       → headerAt d (among a (spelledFields d nameNull name null value) b) (length a) before
       ≡ headed (spelledName d nameNull name .fault) (stringFault StringField.HeaderValue null value) (length a + length (stringBytes nameNull name))
       (endOf a (spelledFields d nameNull name null value))
-      (Declaring.Now before)
-  unfolding declaredBy
+      (LengthRead.Now before)
+  unfolding declaredAfter
   spelled-header before =
       let x : List ℕ = stringBytes nameNull name in
       header-by d (among a (spelledFields d nameNull name null value) b) (length a) before (spelledName d nameNull name .fault)
@@ -346,11 +342,11 @@ module _ (a b : List ℕ) (d : Direction) (nameNull : Bool) (name : List ℕ) (n
   -- it is refused with the first of its faults
   pub spelled-judged : (before : Declared) → refusalIn (headerAt d (among a (spelledFields d nameNull name null value) b) (length a) before)
       ≡ firstFault (faultsOf (spelledFields d nameNull name null value))
-  unfolding valueFault declaredBy
+  unfolding valueFault declaredAfter
   spelled-judged before =
       ap refusalIn (spelled-header before)
       ∙ headed-judged (spelledName d nameNull name .fault) (stringFault StringField.HeaderValue null value) (length a + length (stringBytes nameNull name))
-      (endOf a (spelledFields d nameNull name null value)) (Declaring.Now before)
+      (endOf a (spelledFields d nameNull name null value)) (LengthRead.Now before)
 
   -- and where it has none it is read, with what was declared before
   pub spelled-read : (before : Declared) → firstFault (faultsOf (spelledFields d nameNull name null value)) ≡ 0
@@ -360,7 +356,7 @@ module _ (a b : List ℕ) (d : Direction) (nameNull : Bool) (name : List ℕ) (n
       let fine = header-faultless (spelledName d nameNull name .fault) false null value e in
       spelled-header before
       ∙ headed-read (spelledName d nameNull name .fault) (stringFault StringField.HeaderValue null value) (length a + length (stringBytes nameNull name))
-      (endOf a (spelledFields d nameNull name null value)) (Declaring.Now before) (fine .0) (fine .1 .0)
+      (endOf a (spelledFields d nameNull name null value)) (LengthRead.Now before) (fine .0) (fine .1 .0)
 
 -- the number that an attribute is refused with, 0 for none
 abbrev pub attributeRefusalIn : AttributeRead → ℕ
@@ -447,7 +443,7 @@ module _ (a b : List ℕ) (code : ℕ) (seen : ℕ → Bool) (kind : AttributeKi
   not-last = ne-eqb code lastMark (λ e. false≢true (ap (λ (k : ℕ). isServed (attributeKind k)) (sym e) ∙ ap isServed is ∙ served))
 
   -- so what its value is read as is what it is read as
-  attribute-value : (r : ValueRead) → attributes.valueAt (a ++ (code ∷ b)) (length a + 1) kind ≡ r
+  attribute-value : (r : ValueRead) → attributes.attributeValueAt (a ++ (code ∷ b)) (length a + 1) kind ≡ r
       → attributeAt (a ++ (code ∷ b)) (length a) false seen ≡ withValue code r
   attribute-value r e =
       let s : List ℕ = a ++ (code ∷ b) in

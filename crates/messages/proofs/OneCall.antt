@@ -14,7 +14,7 @@ use lib.Seq.{take-length, getD-append-seam, getD-append-add}
 use Rattle.wire.specs.Pick.{pick}
 use Rattle.wire.specs.Bytes.{part, over, integerIn, integerBytes}
 use Rattle.wire.specs.Field.{byteAt, integerAt, booleanAt, booleanBytes}
-use Rattle.wire.specs.Packet.{head, packet}
+use Rattle.wire.specs.Packet.{packetHead, packet}
 use Rattle.packet.specs.declared.Direction.{Direction}
 use Rattle.wire.specs.declared.read.NumberRead.{NumberRead}
 use Rattle.wire.specs.declared.read.BooleanRead.{BooleanRead}
@@ -24,13 +24,13 @@ use Rattle.wire.proofs.Field.{boolean-inside}
 use Rattle.wire.proofs.RoundTrip.{integer-written, integer-kept, boolean-kept}
 use Rattle.wire.specs.Facts.{Bytes}
 use Rattle.wire.proofs.Parts.{part-zero, rest-part, stands-there}
-use Rattle.wire.specs.Refusal.{cutShort, leftOver, sizeWrong, stringWrong, notNow}
-use Rattle.connection.specs.Cycle.{kindOf, directionOf, inState, inSize, allowed, after}
+use Rattle.wire.specs.Refusal.{cutShort, leftOver, bodySizeWrong, stringWrong, notNow}
+use Rattle.connection.specs.Cycle.{moveKind, directionOf, inState, inSize, allowed, after}
 use Rattle.connection.specs.declared.Connection.{Connection}
 use Rattle.connection.specs.declared.Kind.{Kind}
 use Rattle.connection.specs.declared.Move.{Move}
 use Rattle.connection.specs.Connection.{maxBody, maxPacket}
-use Rattle.payload.specs.Kinds.{packetAt, kindIn, moveIn}
+use Rattle.payload.specs.Kinds.{packetAt, packetKind, packetMove}
 use Rattle.payload.specs.Packet.{partFrom}
 use Rattle.payload.specs.Code.{payloadPlace, codeOf, kindAt, afterCodePlace}
 use Rattle.payload.specs.Bare.{bareAt}
@@ -43,16 +43,16 @@ use Rattle.packet.specs.declared.Packet.{Packet}
 use Rattle.payload.specs.declared.found.PacketRead.{PacketRead}
 use Rattle.payload.proofs.Laws.{get-is, chunk-is, chunk-closed, body-is, sized-by}
 use Rattle.payload.proofs.Handed.{finished-is}
-use Rattle.fields.specs.Field.{opening}
-use Rattle.fields.specs.Call.{Call, refused, done, refusalOf, answered, outcome, bufferAfter}
-use Rattle.fields.proofs.Sizes.{unless-none}
-use Rattle.fields.proofs.Calls.{done-own, done-fits, after-written, fits-done}
-use Rattle.fields.proofs.Faults.{faultless}
+use Rattle.building.specs.Field.{opening}
+use Rattle.building.specs.Call.{Call, refused, done, refusalOf, outcomeBy, outcome, bufferAfter}
+use Rattle.building.proofs.Sizes.{unless-none}
+use Rattle.building.proofs.Calls.{done-own, done-fits, after-written, fits-done}
+use Rattle.building.proofs.Faults.{faultless}
 use Rattle.writer.specs.Meaning.{Written}
 use Rattle.writer.specs.Sending.{packetOf, sendingFaults, sending, bodyPayload, chunkPayload, bareCall, bodyCall, chunkCall, getCall, endCall}
 use Rattle.reader.specs.Meaning.{told}
 use Rattle.messages.specs.Message as messages
-use Rattle.messages.specs.Message.{Message, cping, cpong, forward, body, getBody, sendHeaders, bodyChunk, end, wayOf, Fit}
+use Rattle.messages.specs.Message.{Message, cping, cpong, forward, body, getBody, sendHeaders, bodyChunk, end, messageDirection, Fit}
 use Rattle.messages.specs.Bytes.{payloadOf, messageBytes}
 use Rattle.messages.specs.Writing.{wrote, wroteBy, oneCall, writing}
 use Rattle.messages.specs.Shown.{messageShown}
@@ -62,8 +62,8 @@ use Rattle.messages.proofs.Parses.{isBody, Parses, parses-most, coded-p
 use Rattle.messages.proofs.Tables.{tableOf}
 use Rattle.messages.proofs.RoundTrip.{Forth, Back, wrote-done, Shows, Stands, stands-back}
 
--- a call that is done: there was no fault, and its answer is what was answered
-answered-done : (fault : ℕ) (v w : Written) → answered fault v ≡ done w → (fault ≡ 0) × (v ≡ w)
+-- a call that is done: there was no fault, and its answer is what was outcomeBy
+answered-done : (fault : ℕ) (v w : Written) → outcomeBy fault v ≡ done w → (fault ≡ 0) × (v ≡ w)
 answered-done fault v w = go (eqb fault 0) refl
   where
     go : (t : Bool) → eqb fault 0 ≡ t → pick t (done v) (refused fault) ≡ done w → (fault ≡ 0) × (v ≡ w)
@@ -89,8 +89,8 @@ module _ (c : Connection) (m : Move) (payload buffer : List ℕ) where
       let call : Call Written = sending c m payload in
       let d = answered-done (refusalOf call (length buffer)) (call .answer) w e in
       let fine = faultless (sendingFaults c m) (done-own call buffer (refusalOf call (length buffer)) refl (d .0)) in
-      let state : inState c (kindOf m) ≡ true = unless-none (inState c (kindOf m)) notNow (omega arith) (fine .0) in
-      let size : inSize c m ≡ true = unless-none (inSize c m) sizeWrong (omega arith) (fine .1 .0) in
+      let state : inState c (moveKind m) ≡ true = unless-none (inState c (moveKind m)) notNow (omega arith) (fine .0) in
+      let size : inSize c m ≡ true = unless-none (inSize c m) bodySizeWrong (omega arith) (fine .1 .0) in
       let fits = done-fits call buffer (refusalOf call (length buffer)) refl (d .0) in
       let own : List ℕ = packetOf m payload in
       let length-is : w .size ≡ length own = ap (λ (v : Written). v .size) (sym (d .1)) in
@@ -118,8 +118,8 @@ module _ (c : Connection) (m : Move) (payload buffer : List ℕ) where
       ≡ wrote (record { size = length (packetOf m payload); connection = after c m }) (over buffer 0 (packetOf m payload))
   one-done a most room =
       let call : Call Written = sending c m payload in
-      let state : inState c (kindOf m) ≡ true = both-first (inState c (kindOf m)) (inSize c m) a in
-      let size : inSize c m ≡ true = both-second (inState c (kindOf m)) (inSize c m) a in
+      let state : inState c (moveKind m) ≡ true = both-first (inState c (moveKind m)) (inSize c m) a in
+      let size : inSize c m ≡ true = both-second (inState c (moveKind m)) (inSize c m) a in
       let e : outcome call (length buffer) ≡ done (call .answer) = fits-done call (length buffer) (rw (state, size)) (omega arith) (omega arith) in
       ap (wroteBy (bufferAfter call buffer)) e ∙ ap (wrote (call .answer)) (done-written (call .answer) e .buffer-is)
 
@@ -173,7 +173,7 @@ unfolding messageBytes
 chunk-stands bytes =
     part-middle (opening Kind.BodyChunk (length (payloadOf (bodyChunk bytes))) ++ integerBytes (length bytes)) bytes (0 ∷ [])
 
--- where the bytes of a body packet stand: behind the size, and behind the head where there are none
+-- where the bytes of a body packet stand: behind the size, and behind the packetHead where there are none
 abbrev pub bodyPart : List ℕ → Part
 bodyPart bytes = pick (eqb (length bytes) 0) (partFrom payloadPlace 0) (partFrom bodyStart (length bytes))
 
@@ -184,7 +184,7 @@ sized-fields bytes most some =
     let n : ℕ = length bytes in
     let s : List ℕ = packet Direction.ToContainer (integerBytes n ++ bytes) in
     body-is s false (NumberRead.Number n bodyStart) (ne-eqb (length s) payloadPlace (λ e. eqb-false n 0 some (omega arith)))
-    (integer-written (head Direction.ToContainer (length (integerBytes n ++ bytes))) bytes n (omega arith))
+    (integer-written (packetHead Direction.ToContainer (length (integerBytes n ++ bytes))) bytes n (omega arith))
     ∙ sym (sized-by (length s) n false false false (le-ltb (length s) (bodyStart + n) (omega arith)) (le-ltb (bodyStart + n) (length s) (omega arith)) some)
 
 -- a body packet parses
@@ -249,8 +249,8 @@ chunk-most bytes h = omega (arith, h, length-append bytes (0 ∷ []))
 
 -- a message is written by one call: the call that makes a packet's move with the message's payload
 pub record Calls (m : Message) (p : Packet) : Type 0 where
-  pub call-is : (c : Connection) (buffer : List ℕ) → writing c m buffer ≡ oneCall (sending c (moveIn p) (payloadOf m)) buffer
-  pub bytes-are : packetOf (moveIn p) (payloadOf m) ≡ messageBytes m
+  pub call-is : (c : Connection) (buffer : List ℕ) → writing c m buffer ≡ oneCall (sending c (packetMove p) (payloadOf m)) buffer
+  pub bytes-are : packetOf (packetMove p) (payloadOf m) ≡ messageBytes m
 
 -- CPing is
 cping-calls : Calls cping Packet.CPing
@@ -303,11 +303,11 @@ IsOne Kind.End = Unit
 pub record OnePacket (m : Message) : Type 0 where
   pub packet : Packet
   pub calls : Calls m packet
-  pub parses : length (messageBytes m) ≤ maxPacket → Parses (wayOf m) (messageBytes m) packet
+  pub parses : length (messageBytes m) ≤ maxPacket → Parses (messageDirection m) (messageBytes m) packet
   pub shows : Shows packet (messageBytes m) m
 
 -- each such message has such a packet
-pub one-packet : (m : Message) → IsOne (messages.kindOf m) → Fit m → OnePacket m
+pub one-packet : (m : Message) → IsOne (messages.messageKind m) → Fit m → OnePacket m
 unfolding messageShown
 one-packet cping one fit = record {
   packet = Packet.CPing;
@@ -350,7 +350,7 @@ one-packet (end reuse) one fit = record {
 
 -- what a call wrote stands at the start of the buffer
 one-stands : {m : Message} (k : OnePacket m) {c : Connection} {buffer left : List ℕ} {w : Written}
-    → OneWritten c (moveIn (k .packet)) (payloadOf m) buffer w left → Stands m c w left
+    → OneWritten c (packetMove (k .packet)) (payloadOf m) buffer w left → Stands m c w left
 one-stands {m} k {c} {buffer} {left} {w} o =
     let own : messageBytes m ≡ part left 0 (w .size) = sym (o .stands ∙ k .calls .bytes-are) in
     record {
@@ -363,10 +363,10 @@ one-stands {m} k {c} {buffer} {left} {w} o =
     }
 
 -- and reads back
-pub one-forth : (m : Message) → IsOne (messages.kindOf m) → Forth m
+pub one-forth : (m : Message) → IsOne (messages.messageKind m) → Forth m
 one-forth m one c buffer w left fit e =
     let k = one-packet m one fit in
-    stands-back (one-stands k (one-written c (moveIn (k .packet)) (payloadOf m) buffer w left (sym (k .calls .call-is c buffer) ∙ e)))
+    stands-back (one-stands k (one-written c (packetMove (k .packet)) (payloadOf m) buffer w left (sym (k .calls .call-is c buffer) ∙ e)))
 
 -- what a Get Body Chunk was read from
 get-read : (s : List ℕ) (asked : ℕ) → getAt s ≡ PacketRead.Packet (Packet.GetBody asked) → (length s ≡ afterCodePlace + 2) × (integerIn s afterCodePlace ≡ asked)
@@ -433,7 +433,7 @@ chunk-read s p = go (leb chunkStart (length s))
     go true e = by (leb (chunkStart + (n + 1)) (length s)) (eqb (getD s (chunkStart + n) 0) 0) (eqb (chunkStart + n + 1) (length s)) refl refl e
     go false e = absurd (let z : _≡_ {A = ℕ} 0 1 = cc in omega arith)
 
--- what a body packet was read from: nothing behind the head, or a size and so many bytes
+-- what a body packet was read from: nothing behind the packetHead, or a size and so many bytes
 pub data BodyRead (s : List ℕ) : Part → Type 0 where
   empty : length s ≡ payloadPlace → BodyRead s (partFrom payloadPlace 0)
   sized : (n : ℕ) → integerIn s payloadPlace ≡ n → eqb n 0 ≡ false → length s ≡ bodyStart + n → BodyRead s (partFrom bodyStart n)
@@ -448,7 +448,7 @@ body-read s p = go (eqb (length s) payloadPlace) (leb bodyStart (length s)) refl
 
     by : (t u v : Bool) → ltb (length s) (bodyStart + n) ≡ t → ltb (bodyStart + n) (length s) ≡ u → eqb n 0 ≡ v
         → pick t (PacketRead.Refused cutShort)
-        (pick u (PacketRead.Refused leftOver) (pick v (PacketRead.Refused sizeWrong) (PacketRead.Packet (Packet.Body (partFrom bodyStart n)))))
+        (pick u (PacketRead.Refused leftOver) (pick v (PacketRead.Refused bodySizeWrong) (PacketRead.Packet (Packet.Body (partFrom bodyStart n)))))
         ≡ PacketRead.Packet (Packet.Body p) → BodyRead s p
     by true u v q r k e = absurd (let z : _≡_ {A = ℕ} 0 1 = cc in omega arith)
     by false true v q r k e = absurd (let z : _≡_ {A = ℕ} 0 1 = cc in omega arith)
@@ -467,10 +467,10 @@ body-read s p = go (eqb (length s) payloadPlace) (leb bodyStart (length s)) refl
     go false false q e = absurd (let z : _≡_ {A = ℕ} 0 1 = cc in omega arith)
 
 -- a packet with a code, and so many bytes behind it
-behind-kept : {d : Direction} {s : List ℕ} {p : Packet} → Parses d s p → isBody (kindIn p) ≡ false → Bytes s → (n : ℕ) → length s ≡ afterCodePlace + n
-    → (behind : List ℕ) → part s afterCodePlace n ≡ behind → s ≡ packet (directionOf (kindIn p)) (codeOf (kindIn p) ∷ behind)
+behind-kept : {d : Direction} {s : List ℕ} {p : Packet} → Parses d s p → isBody (packetKind p) ≡ false → Bytes s → (n : ℕ) → length s ≡ afterCodePlace + n
+    → (behind : List ℕ) → part s afterCodePlace n ≡ behind → s ≡ packet (directionOf (packetKind p)) (codeOf (packetKind p) ∷ behind)
 behind-kept {d} {s} {p} r b bytes n size behind e =
-    coded-kept r b bytes ∙ ap (λ (l : List ℕ). packet (directionOf (kindIn p)) (codeOf (kindIn p) ∷ l)) (rest-part s afterCodePlace n size ∙ e)
+    coded-kept r b bytes ∙ ap (λ (l : List ℕ). packet (directionOf (packetKind p)) (codeOf (packetKind p) ∷ l)) (rest-part s afterCodePlace n size ∙ e)
 
 -- the payload of a body packet is that of its bytes
 body-payload : {s : List ℕ} {p : Part} → Bytes s → BodyRead s p
@@ -484,8 +484,8 @@ body-payload {s} bytes (sized n e some size) =
 
 module _ {d : Direction} {s : List ℕ} (bytes : Bytes s) where
   -- the bytes of a packet that is its code alone
-  bare-kept : (p : Packet) → isBody (kindIn p) ≡ false → packetAt (kindIn p) s .end ≡ bareAt s p → Parses d s p
-      → s ≡ packet (directionOf (kindIn p)) (codeOf (kindIn p) ∷ [])
+  bare-kept : (p : Packet) → isBody (packetKind p) ≡ false → packetAt (packetKind p) s .end ≡ bareAt s p → Parses d s p
+      → s ≡ packet (directionOf (packetKind p)) (codeOf (packetKind p) ∷ [])
   bare-kept p b e r =
       let f = finished-is (length s) afterCodePlace p p (sym e ∙ r .fields-are) in
       behind-kept r b bytes 0 (sym (f .0)) [] (part-zero s afterCodePlace)
@@ -546,10 +546,10 @@ record OneShown (d : Direction) (s : List ℕ) (p : Packet) (m : Message) : Type
   pub calls : Calls m p
   pub kept : s ≡ messageBytes m
   pub fit : Fit m
-  pub way : wayOf m ≡ d
+  pub way : messageDirection m ≡ d
 
 -- each such packet shows such a message
-one-shown : (d : Direction) (s table : List ℕ) (p : Packet) → IsOne (kindIn p) → Bytes s → Parses d s p
+one-shown : (d : Direction) (s table : List ℕ) (p : Packet) → IsOne (packetKind p) → Bytes s → Parses d s p
     → OneShown d s p (messageShown (told p) s table)
 unfolding messageShown
 one-shown d s table Packet.CPing one bytes r = record { calls = cping-calls; kept = cping-kept bytes r; fit = tt; way = r .way }
@@ -569,16 +569,16 @@ one-shown d s table (Packet.End reuse) one bytes r =
     rw (boolean-back reuse) (record { calls = end-calls reuse; kept = end-kept bytes reuse r; fit = tt; way = r .way })
 
 -- a packet that one call writes, once read, is written back
-pub one-back : (p : Packet) → IsOne (kindIn p) → Back p
+pub one-back : (p : Packet) → IsOne (packetKind p) → Back p
 one-back p one d c s table bytes r a places buffer room =
     let m : Message = messageShown (told p) s (tableOf p s table) in
     let k = one-shown d s (tableOf p s table) p one bytes r in
-    let same : packetOf (moveIn p) (payloadOf m) ≡ s = k .calls .bytes-are ∙ sym (k .kept) in
-    let most : length (packetOf (moveIn p) (payloadOf m)) ≤ maxPacket = rw same (parses-most r) in
-    let fits : length (packetOf (moveIn p) (payloadOf m)) ≤ length buffer = rw same room in
+    let same : packetOf (packetMove p) (payloadOf m) ≡ s = k .calls .bytes-are ∙ sym (k .kept) in
+    let most : length (packetOf (packetMove p) (payloadOf m)) ≤ maxPacket = rw same (parses-most r) in
+    let fits : length (packetOf (packetMove p) (payloadOf m)) ≤ length buffer = rw same room in
     record {
-      written = k .calls .call-is c buffer ∙ one-done c (moveIn p) (payloadOf m) buffer a most fits
-          ∙ ap (λ (l : List ℕ). wrote (record { size = length l; connection = after c (moveIn p) }) (over buffer 0 l)) same;
+      written = k .calls .call-is c buffer ∙ one-done c (packetMove p) (payloadOf m) buffer a most fits
+          ∙ ap (λ (l : List ℕ). wrote (record { size = length l; connection = after c (packetMove p) }) (over buffer 0 l)) same;
       fit = k .fit;
       way = k .way;
     }

@@ -16,7 +16,7 @@ use Rattle.wire.specs.Pick.{pick, both, either}
 use Rattle.wire.specs.Refusal.{leftOver, codeNotServed, codeWrong, cutShort}
 use Rattle.wire.specs.Bytes.{part}
 use Rattle.wire.specs.Field.{byteAt}
-use Rattle.wire.specs.Packet.{head, packet}
+use Rattle.wire.specs.Packet.{packetHead, packet}
 use Rattle.packet.specs.declared.Direction.{Direction}
 use Rattle.wire.specs.declared.read.NumberRead.{NumberRead}
 use Rattle.wire.proofs.Tests.{both-first}
@@ -25,14 +25,14 @@ use Rattle.wire.proofs.Bytes.{length-part}
 use Rattle.wire.proofs.RoundTrip.{byte-written}
 use Rattle.wire.specs.Facts.{Bytes}
 use Rattle.connection.specs.Connection.{isIdle, isBusy, bodyDue, maxPacket, maxPayload}
-use Rattle.connection.specs.Cycle.{kindOf, directionOf, inState, inSize, allowed, after}
+use Rattle.connection.specs.Cycle.{moveKind, directionOf, inState, inSize, allowed, after}
 use Rattle.connection.specs.declared.State.{State}
 use Rattle.connection.specs.declared.Kind.{Kind}
 use Rattle.connection.specs.declared.Move.{Move}
 use Rattle.connection.specs.declared.Connection.{Connection}
 use Rattle.places.specs.Entries.{maxPlaces}
 use Rattle.payload.specs.Code.{codeOf, codeKind, kindOfCode, kindAt, afterCodePlace, codePlace, pingCode, shutdownCode}
-use Rattle.payload.specs.Kinds.{packetAt, kindIn, moveIn}
+use Rattle.payload.specs.Kinds.{packetAt, packetKind, packetMove}
 use Rattle.payload.specs.Packet.{finished}
 use Rattle.payload.specs.declared.KindRead.{KindRead}
 use Rattle.packet.specs.declared.Packet.{Packet}
@@ -65,10 +65,10 @@ isBody Kind.End = false
 
 -- bytes are a whole packet of a direction that says this, read as a body packet where it is one and by its code otherwise
 pub record Parses (d : Direction) (s : List ℕ) (p : Packet) : Type 0 where
-  pub way : directionOf (kindIn p) ≡ d
+  pub way : directionOf (packetKind p) ≡ d
   pub whole-is : frameAt d s ≡ FrameRead.Whole (length s)
-  pub kind-is : kindAt d (isBody (kindIn p)) s ≡ KindRead.Kind (kindIn p)
-  pub fields-are : packetAt (kindIn p) s .end ≡ PacketRead.Packet p
+  pub kind-is : kindAt d (isBody (packetKind p)) s ≡ KindRead.Kind (packetKind p)
+  pub fields-are : packetAt (packetKind p) s .end ≡ PacketRead.Packet p
 
 -- no body packet is due where a connection is Idle
 idle-none : (state : State) (due : Bool) → both (isIdle state) true ≡ true → both (isBusy state) due ≡ false
@@ -78,7 +78,7 @@ idle-none State.Busy due e = absurd (false≢true e)
 idle-none State.Closed due e = refl
 
 -- of the moves that a connection allows, the body packet is exactly the one that is read as such at the end to which it goes
-as-body : (c : Connection) (m : Move) → allowed c m ≡ true → readAsBody (directionOf (kindOf m)) c ≡ isBody (kindOf m)
+as-body : (c : Connection) (m : Move) → allowed c m ≡ true → readAsBody (directionOf (moveKind m)) c ≡ isBody (moveKind m)
 as-body c Move.CPing e = idle-none (c .state) (c .due) e
 as-body c Move.CPong e = refl
 as-body c (Move.Forward n) e = idle-none (c .state) (c .due) e
@@ -89,29 +89,29 @@ as-body c (Move.BodyChunk k) e = refl
 as-body c (Move.End reuse) e = refl
 
 -- so is a packet whose move is allowed
-pub packet-as-body : (c : Connection) (d : Direction) (p : Packet) → directionOf (kindIn p) ≡ d → allowed c (moveIn p) ≡ true
-    → readAsBody d c ≡ isBody (kindIn p)
-packet-as-body c d p way a = rw (← way, ← move-kind p) (as-body c (moveIn p) a)
+pub packet-as-body : (c : Connection) (d : Direction) (p : Packet) → directionOf (packetKind p) ≡ d → allowed c (packetMove p) ≡ true
+    → readAsBody d c ≡ isBody (packetKind p)
+packet-as-body c d p way a = rw (← way, ← move-kind p) (as-body c (packetMove p) a)
 
 -- a state that allows a packet in pieces has no body packet due at the end to which it goes
-pub none-due : (c : Connection) (kind : BuildingKind) → inState c (building.kindIn kind) ≡ true
-    → readAsBody (directionOf (building.kindIn kind)) c ≡ false
+pub none-due : (c : Connection) (kind : BuildingKind) → inState c (building.builtKind kind) ≡ true
+    → readAsBody (directionOf (building.builtKind kind)) c ≡ false
 none-due c BuildingKind.Forward e = as-body c (Move.Forward (record { 0 = 0 })) (rw e)
 none-due c BuildingKind.SendHeaders e = refl
 
 -- a packet that parses is accepted by every connection that allows its move
-pub parses-alone : {d : Direction} {s : List ℕ} {p : Packet} → Parses d s p → (c : Connection) → allowed c (moveIn p) ≡ true
-    → (room : ℕ) → placesNeeded (told p) ≤ room → reading d c s room ≡ accepted (told p) (length s) (after c (moveIn p))
+pub parses-alone : {d : Direction} {s : List ℕ} {p : Packet} → Parses d s p → (c : Connection) → allowed c (packetMove p) ≡ true
+    → (room : ℕ) → placesNeeded (told p) ≤ room → reading d c s room ≡ accepted (told p) (length s) (after c (packetMove p))
 unfolding part
 parses-alone {d} {s} {p} r c a room h =
     let all : part s 0 (length s) ≡ s = take-length s in
-    let body : readAsBody d c ≡ isBody (kindIn p) = packet-as-body c d p (r .way) a in
-    accepted-by d c s room (kindIn p) p (length s) (r .whole-is) (rw (all, body) (r .kind-is)) (rw all (r .fields-are)) a h
+    let body : readAsBody d c ≡ isBody (packetKind p) = packet-as-body c d p (r .way) a in
+    accepted-by d c s room (packetKind p) p (length s) (r .whole-is) (rw (all, body) (r .kind-is)) (rw all (r .fields-are)) a h
 
 -- whatever stands behind it
-pub parses-accepted : {d : Direction} {s : List ℕ} {p : Packet} → Parses d s p → (c : Connection) → allowed c (moveIn p) ≡ true
+pub parses-accepted : {d : Direction} {s : List ℕ} {p : Packet} → Parses d s p → (c : Connection) → allowed c (packetMove p) ≡ true
     → (rest : List ℕ) (room : ℕ) → placesNeeded (told p) ≤ room
-    → reading d c (s ++ rest) room ≡ accepted (told p) (length s) (after c (moveIn p))
+    → reading d c (s ++ rest) room ≡ accepted (told p) (length s) (after c (packetMove p))
 parses-accepted {d} {s} {p} r c a rest room h =
     let alone = parses-alone r c a room h in
     later-answer s rest d c room (subst Answered (sym alone) tt) ∙ alone
@@ -122,15 +122,15 @@ parses-most {d} {s} r = frame-inside d s (FrameRead.Whole (length s)) (r .whole-
 
 -- it asks for at most 328 places
 pub parses-places : {d : Direction} {s : List ℕ} {p : Packet} → Parses d s p → placesNeeded (told p) ≤ maxPlaces
-parses-places {d} {s} {p} r = told-inside (kindIn p) s p (r .fields-are) .places-most
+parses-places {d} {s} {p} r = told-inside (packetKind p) s p (r .fields-are) .places-most
 
 -- what an accepted packet is
 pub record AcceptedAs (d : Direction) (c : Connection) (s : List ℕ) (t : Told) (n : ℕ) (next : Connection) : Type 0 where
   pub packet : Packet
   pub parses : Parses d (part s 0 n) packet
   pub tells : t ≡ told packet
-  pub allows : allowed c (moveIn packet) ≡ true
-  pub steps : next ≡ after c (moveIn packet)
+  pub allows : allowed c (packetMove packet) ≡ true
+  pub steps : next ≡ after c (packetMove packet)
   pub size : n ≡ length (part s 0 n)
 
 -- a packet that is read as a body packet is one, and goes to the container; every other one goes the way that it was read in
@@ -153,8 +153,8 @@ accepted-parses d c s room t n next e =
     let inside = frame-inside d s (FrameRead.Whole n) (a .whole-is) in
     let there : n ≤ length s = inside .1 .1 in
     let size : length (part s 0 n) ≡ n = length-part s 0 n (rw (zero-add n) there) in
-    let kind : kindIn (a .packet) ≡ a .kind = parsed-kind (a .kind) (part s 0 n) (a .packet) (a .fields-are) in
-    let way : directionOf (kindIn (a .packet)) ≡ d = ap directionOf kind ∙ read-way d c (part s 0 n) (a .kind) (a .kind-is) in
+    let kind : packetKind (a .packet) ≡ a .kind = parsed-kind (a .kind) (part s 0 n) (a .packet) (a .fields-are) in
+    let way : directionOf (packetKind (a .packet)) ≡ d = ap directionOf kind ∙ read-way d c (part s 0 n) (a .kind) (a .kind-is) in
     record {
       packet = a .packet;
       parses = record {
@@ -183,7 +183,7 @@ pub kind-written : (k : Kind) (rest : List ℕ) → isBody k ≡ false
 kind-written k rest e =
     let d : Direction = directionOf k in
     let code : ℕ = codeOf k in
-    let before : List ℕ = head d (length (code ∷ rest)) in
+    let before : List ℕ = packetHead d (length (code ∷ rest)) in
     let read : byteAt (packet d (code ∷ rest)) codePlace ≡ NumberRead.Number code afterCodePlace =
     subst (λ (at : ℕ). byteAt (before ++ (code ∷ rest)) at ≡ NumberRead.Number code (at + 1)) (head-four d (length (code ∷ rest)))
     (byte-written before rest code) in
@@ -217,7 +217,7 @@ code-of-kind Direction.ToServer code k =
     go false false false false true p q r s t f = let z : Kind.CPong ≡ k = cc in eqb-true code (codeOf Kind.CPong) t ∙ ap codeOf z
     go false false false false false p q r s t f = cc
 
--- a packet that is not a body packet has its code behind its head
+-- a packet that is not a body packet has its code behind its packetHead
 code-kept : (d : Direction) (s : List ℕ) (k : Kind) → isBody k ≡ false → kindAt d (isBody k) s ≡ KindRead.Kind k
     → (afterCodePlace ≤ length s) × (getD s codePlace 0 ≡ codeOf k)
 unfolding byteAt
@@ -229,21 +229,21 @@ code-kept d s k b e = go (leb afterCodePlace (length s)) refl (sym (kind-is d (i
     go true p q = (leb-true afterCodePlace (length s) p, code-of-kind d (getD s codePlace 0) k q)
     go false p q = absurd (let z : _≡_ {A = ℕ} 0 1 = cc in omega arith)
 
--- so it is its head, its code and what stands behind that
-pub coded-kept : {d : Direction} {s : List ℕ} {p : Packet} → Parses d s p → isBody (kindIn p) ≡ false → Bytes s
-    → s ≡ packet (directionOf (kindIn p)) (codeOf (kindIn p) ∷ drop afterCodePlace s)
+-- so it is its packetHead, its code and what stands behind that
+pub coded-kept : {d : Direction} {s : List ℕ} {p : Packet} → Parses d s p → isBody (packetKind p) ≡ false → Bytes s
+    → s ≡ packet (directionOf (packetKind p)) (codeOf (packetKind p) ∷ drop afterCodePlace s)
 coded-kept {d} {s} {p} r b bytes =
-    let code = code-kept d s (kindIn p) b (r .kind-is) in
-    let behind : drop codePlace s ≡ codeOf (kindIn p) ∷ drop afterCodePlace s = drop-cons s codePlace 0 (omega (arith, code .0)) ∙ ap (λ (n : ℕ). n ∷ drop afterCodePlace s) (code .1) in
+    let code = code-kept d s (packetKind p) b (r .kind-is) in
+    let behind : drop codePlace s ≡ codeOf (packetKind p) ∷ drop afterCodePlace s = drop-cons s codePlace 0 (omega (arith, code .0)) ∙ ap (λ (n : ℕ). n ∷ drop afterCodePlace s) (code .1) in
     head-kept d s (length s) bytes (r .whole-is) refl ∙ ap (packet d) behind
-    ∙ ap (λ (way : Direction). packet way (codeOf (kindIn p) ∷ drop afterCodePlace s)) (sym (r .way))
+    ∙ ap (λ (way : Direction). packet way (codeOf (packetKind p) ∷ drop afterCodePlace s)) (sym (r .way))
 
 -- a packet that was written with its code first in its payload parses where its fields are read
-pub coded-parses : (p : Packet) (rest : List ℕ) → isBody (kindIn p) ≡ false → length rest + 1 ≤ maxPayload
-    → packetAt (kindIn p) (packet (directionOf (kindIn p)) (codeOf (kindIn p) ∷ rest)) .end ≡ PacketRead.Packet p
-    → Parses (directionOf (kindIn p)) (packet (directionOf (kindIn p)) (codeOf (kindIn p) ∷ rest)) p
+pub coded-parses : (p : Packet) (rest : List ℕ) → isBody (packetKind p) ≡ false → length rest + 1 ≤ maxPayload
+    → packetAt (packetKind p) (packet (directionOf (packetKind p)) (codeOf (packetKind p) ∷ rest)) .end ≡ PacketRead.Packet p
+    → Parses (directionOf (packetKind p)) (packet (directionOf (packetKind p)) (codeOf (packetKind p) ∷ rest)) p
 coded-parses p rest b most fields =
-    let k : Kind = kindIn p in
+    let k : Kind = packetKind p in
     record {
       way = refl;
       whole-is = frame-written (directionOf k) (codeOf k ∷ rest) (omega arith);

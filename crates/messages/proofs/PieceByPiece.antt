@@ -16,27 +16,27 @@ use Rattle.wire.proofs.Bytes.{length-over, over-none, over-over}
 use Rattle.connection.specs.Cycle.{directionOf}
 use Rattle.connection.specs.Connection.{maxPacket}
 use Rattle.places.specs.Entries.{maxHeaders}
-use Rattle.fields.specs.Fault.{orElse, faultAfter, firstFault, fitFault}
-use Rattle.fields.specs.Field.{Field, faultsOf, bytesOf}
-use Rattle.fields.specs.Call.{Call, done, refusalOf, outcome, bufferAfter}
-use Rattle.fields.proofs.Sizes.{or-none, or-first, first-none, fit-by}
-use Rattle.fields.proofs.Calls.{refused-answer, done-answer, done-own, done-fits, after-written}
-use Rattle.fields.proofs.Faults.{faults-append, faults-more}
-use Rattle.building_record.specs.Record.{kindIn, isForward, fields, directionIn, isPossible, headerNow, attributeNow, countFault}
+use Rattle.building.specs.Fault.{orElse, faultAfter, firstFault, fitFault}
+use Rattle.building.specs.Field.{Field, faultsOf, fieldsBytes}
+use Rattle.building.specs.Call.{Call, done, refusalOf, outcome, bufferAfter}
+use Rattle.building.proofs.Sizes.{or-none, or-first, first-none, fit-by}
+use Rattle.building.proofs.Calls.{refused-answer, done-answer, done-own, done-fits, after-written}
+use Rattle.building.proofs.Faults.{faults-append, faults-more}
+use Rattle.building_record.specs.Record.{builtKind, isForward, buildingFields, directionIn, isPossible, headerNow, attributeNow, countFault}
 use Rattle.pieces.specs.Fixed.{unset, fixed, fixedCall}
 use Rattle.pieces.specs.Header.{headerCall, codedCall, spelledCall}
 use Rattle.pieces.specs.Attribute.{attributeCall, textCall, integerCall, pairCall}
 use Rattle.building_record.specs.declared.BuildingKind.{BuildingKind}
 use Rattle.building_record.specs.declared.Building.{Building}
 use Rattle.pieces.proofs.Possible.{header-possible, attribute-possible, begun-possible}
-use Rattle.messages.specs.Message.{Text, Name, coded, spelled, Header, Value, string, integer, pair, Attribute}
-use Rattle.messages.specs.Bytes.{fieldsBy, headerFields, headersBytes, fieldsOf, attributeFields, attributesBytes}
+use Rattle.messages.specs.Message.{Text, MessageName, coded, spelled, Header, Value, string, integer, pair, Attribute}
+use Rattle.messages.specs.Bytes.{fieldsBy, headerFields, headersBytes, valueFields, attributeFields, attributesBytes}
 use Rattle.messages.specs.Writing.{Built, stopped, built, builtBy, piece, headerCallBy, addHeader, addHeaders, attributeCallBy, addAttribute, addAttributes}
 use Rattle.messages.proofs.Fine.{FieldsFine, HeadersFine, AttributesFine}
 
--- fields, with a fault that is looked for before them and one that is looked for behind them
+-- buildingFields, with a fault that is looked for before them and one that is looked for behind them
 module _ (first last : ℕ) (own : List Field) where
-  -- where none is found, there is none of the fields or the last
+  -- where none is found, there is none of the buildingFields or the last
   around-rest : firstFault (first ∷ (faultsOf own ++ (last ∷ []))) ≡ 0 → orElse (firstFault (faultsOf own)) last ≡ 0
   around-rest h =
       sym (faults-append 0 (faultsOf own) (last ∷ []))
@@ -47,23 +47,23 @@ module _ (first last : ℕ) (own : List Field) where
   around-none : first ≡ 0 → FieldsFine own → last ≡ 0 → firstFault (first ∷ (faultsOf own ++ (last ∷ []))) ≡ 0
   around-none p q r = rw (p, faults-append 0 (faultsOf own) (last ∷ []), q, r)
 
--- the fixed fields have the first fault of the packet's own
+-- the fixed buildingFields have the first fault of the packet's own
 fixed-faults : (kind : BuildingKind) (own : List Field) → firstFault (faultsOf (fixed kind own)) ≡ firstFault (faultsOf own)
 fixed-faults kind own =
     ap firstFault (faults-more own (unset ∷ []))
     ∙ faults-append 0 (faultsOf own) (0 ∷ [])
     ∙ or-none (firstFault (faultsOf own))
 
--- a header's call is that of its fields
-header-call : (r : Building) (buffer : List ℕ) (value : Text) (name : Name)
+-- a header's call is that of its buildingFields
+header-call : (r : Building) (buffer : List ℕ) (value : Text) (name : MessageName)
     → headerCallBy r buffer value name ≡ headerCall r buffer (fieldsBy (directionIn r) value name)
 unfolding codedCall spelledCall
 header-call r buffer value (coded n) = refl
 header-call r buffer value (spelled name) = refl
 
--- an attribute's call is that of its fields
+-- an attribute's call is that of its buildingFields
 attribute-call : (r : Building) (buffer : List ℕ) (code : ℕ) (value : Value)
-    → attributeCallBy r buffer code value ≡ attributeCall r buffer (fieldsOf code value)
+    → attributeCallBy r buffer code value ≡ attributeCall r buffer (valueFields code value)
 unfolding textCall integerCall pairCall
 attribute-call r buffer code (string value) = refl
 attribute-call r buffer code (integer n) = refl
@@ -124,8 +124,8 @@ module _ (call : Call Building) (buffer raw : List ℕ) (at : call .at ≡ lengt
 -- what pieces have come to: the bytes of the packet so far stand in the buffer from its first place on and within it, and the record is the one
 -- behind them, which can be
 pub record Reached (x : Built) (kind : BuildingKind) (count headers : ℕ) (came : Bool) (buffer raw : List ℕ) : Type 0 where
-  pub is : x ≡ built (fields kind (length raw) count headers came) (over buffer 0 raw)
-  pub possible : isPossible (fields kind (length raw) count headers came) (over buffer 0 raw) ≡ true
+  pub is : x ≡ built (buildingFields kind (length raw) count headers came) (over buffer 0 raw)
+  pub possible : isPossible (buildingFields kind (length raw) count headers came) (over buffer 0 raw) ≡ true
   pub room : length raw ≤ length buffer
 
 -- the same, with the headers and the bytes said in another way
@@ -137,13 +137,13 @@ reached-same {x} {kind} {count} {headers} {others} {came} {buffer} {raw} {bytes}
 -- a piece that is done comes to that, by what it answers
 piece-reached : {x : Built} {kind : BuildingKind} {count headers : ℕ} {came : Bool} {call : Call Building} {buffer raw : List ℕ}
     → Pieced call buffer raw → x ≡ piece call (over buffer 0 raw)
-    → call .answer ≡ fields kind (length raw + length (call .bytes)) count headers came
+    → call .answer ≡ buildingFields kind (length raw + length (call .bytes)) count headers came
     → isPossible (call .answer) (bufferAfter call (over buffer 0 raw)) ≡ true
     → Reached x kind count headers came buffer (raw ++ call .bytes)
 piece-reached {x} {kind} {count} {headers} {came} {call} {buffer} {raw} p e answer possible =
     let after : List ℕ = over buffer 0 (raw ++ call .bytes) in
-    let behind : call .answer ≡ fields kind (length (raw ++ call .bytes)) count headers came =
-    answer ∙ ap (λ (n : ℕ). fields kind n count headers came) (sym (length-append raw (call .bytes))) in
+    let behind : call .answer ≡ buildingFields kind (length (raw ++ call .bytes)) count headers came =
+    answer ∙ ap (λ (n : ℕ). buildingFields kind n count headers came) (sym (length-append raw (call .bytes))) in
     record {
       is =
           e
@@ -154,21 +154,21 @@ piece-reached {x} {kind} {count} {headers} {came} {call} {buffer} {raw} p e answ
       room = p .fits;
     }
 
--- the fixed fields; their count is their last two bytes
+-- the fixed buildingFields; their count is their last two bytes
 module _ (kind : BuildingKind) (own : List Field) (buffer : List ℕ) where
   -- what they come to where they are written
   begun : Pieced (fixedCall kind own) buffer []
-      → Reached (piece (fixedCall kind own) buffer) kind (length (bytesOf (fixed kind own)) - 2) 0 false buffer (bytesOf (fixed kind own))
+      → Reached (piece (fixedCall kind own) buffer) kind (length (fieldsBytes (fixed kind own)) - 2) 0 false buffer (fieldsBytes (fixed kind own))
   begun p =
-      let size : ℕ = length (bytesOf (fixed kind own)) in
+      let size : ℕ = length (fieldsBytes (fixed kind own)) in
       piece-reached p (ap (piece (fixedCall kind own)) (sym (over-none buffer 0)))
-      (ap (λ (n : ℕ). fields kind n (size - 2) 0 false) (sym (zero-add size)))
+      (ap (λ (n : ℕ). buildingFields kind n (size - 2) 0 false) (sym (zero-add size)))
       (begun-possible kind (over buffer 0 []) own (p .none))
 
   -- where they are not refused, they have no fault
   pub fixed-unstopped : Unstopped (piece (fixedCall kind own) buffer)
       → FieldsFine own
-      × Reached (piece (fixedCall kind own) buffer) kind (length (bytesOf (fixed kind own)) - 2) 0 false buffer (bytesOf (fixed kind own))
+      × Reached (piece (fixedCall kind own) buffer) kind (length (fieldsBytes (fixed kind own)) - 2) 0 false buffer (fieldsBytes (fixed kind own))
   fixed-unstopped h =
       let call : Call Building = fixedCall kind own in
       let p : Pieced call buffer [] =
@@ -176,49 +176,49 @@ module _ (kind : BuildingKind) (own : List Field) (buffer : List ℕ) where
       (sym (fixed-faults kind own) ∙ p .own, begun p)
 
   -- where they have none and fit, they are written
-  pub fixed-fits : FieldsFine own → length (bytesOf (fixed kind own)) ≤ maxPacket → length (bytesOf (fixed kind own)) ≤ length buffer
-      → Reached (piece (fixedCall kind own) buffer) kind (length (bytesOf (fixed kind own)) - 2) 0 false buffer (bytesOf (fixed kind own))
+  pub fixed-fits : FieldsFine own → length (fieldsBytes (fixed kind own)) ≤ maxPacket → length (fieldsBytes (fixed kind own)) ≤ length buffer
+      → Reached (piece (fixedCall kind own) buffer) kind (length (fieldsBytes (fixed kind own)) - 2) 0 false buffer (fieldsBytes (fixed kind own))
   fixed-fits fine within fits =
       begun (pieced-fits (fixedCall kind own) buffer [] refl (omega arith) (fixed-faults kind own ∙ fine) within fits)
 
 -- a header behind what was built
 module _ {x : Built} {kind : BuildingKind} {count headers : ℕ} {buffer raw : List ℕ} (header : Header)
     (here : Reached x kind count headers false buffer raw) where
-  -- its fields
+  -- its buildingFields
   abbrev headerOwn : List Field
-  headerOwn = headerFields (directionOf (kindIn kind)) header
+  headerOwn = headerFields (directionOf (builtKind kind)) header
 
   -- the call for it
   abbrev headerHere : Call Building
-  headerHere = headerCall (fields kind (length raw) count headers false) (over buffer 0 raw) headerOwn
+  headerHere = headerCall (buildingFields kind (length raw) count headers false) (over buffer 0 raw) headerOwn
 
   -- adding it is that call
   header-is : addHeader x header ≡ piece headerHere (over buffer 0 raw)
   header-is =
       ap (λ (y : Built). addHeader y header) (here .is)
       ∙ ap (λ (call : Call Building). piece call (over buffer 0 raw))
-      (header-call (fields kind (length raw) count headers false) (over buffer 0 raw) (header .value) (header .name))
+      (header-call (buildingFields kind (length raw) count headers false) (over buffer 0 raw) (header .value) (header .name))
 
   -- what it comes to where it is written
-  headed : Pieced headerHere buffer raw → Reached (addHeader x header) kind count (headers + 1) false buffer (raw ++ bytesOf headerOwn)
-  headed p = piece-reached p header-is refl (header-possible (fields kind (length raw) count headers false) (over buffer 0 raw) headerOwn (p .none))
+  headed : Pieced headerHere buffer raw → Reached (addHeader x header) kind count (headers + 1) false buffer (raw ++ fieldsBytes headerOwn)
+  headed p = piece-reached p header-is refl (header-possible (buildingFields kind (length raw) count headers false) (over buffer 0 raw) headerOwn (p .none))
 
   -- where it is not refused, it has no fault
   header-unstopped : Unstopped (addHeader x header)
-      → FieldsFine headerOwn × Reached (addHeader x header) kind count (headers + 1) false buffer (raw ++ bytesOf headerOwn)
+      → FieldsFine headerOwn × Reached (addHeader x header) kind count (headers + 1) false buffer (raw ++ fieldsBytes headerOwn)
   header-unstopped h =
-      let r : Building = fields kind (length raw) count headers false in
+      let r : Building = buildingFields kind (length raw) count headers false in
       let p : Pieced headerHere buffer raw = pieced-unstopped headerHere buffer raw refl (here .room) (λ n e. h n (header-is ∙ e)) in
       let rest : orElse (firstFault (faultsOf headerOwn)) (countFault r) ≡ 0 =
       around-rest (headerNow r (over buffer 0 raw)) (countFault r) headerOwn (p .own) in
       (or-first (firstFault (faultsOf headerOwn)) (countFault r) rest, headed p)
 
   -- where it has none, one more may come and it fits, it is written
-  header-fits : FieldsFine headerOwn → headers < maxHeaders → length (raw ++ bytesOf headerOwn) ≤ maxPacket → length (raw ++ bytesOf headerOwn) ≤ length buffer
-      → Reached (addHeader x header) kind count (headers + 1) false buffer (raw ++ bytesOf headerOwn)
+  header-fits : FieldsFine headerOwn → headers < maxHeaders → length (raw ++ fieldsBytes headerOwn) ≤ maxPacket → length (raw ++ fieldsBytes headerOwn) ≤ length buffer
+      → Reached (addHeader x header) kind count (headers + 1) false buffer (raw ++ fieldsBytes headerOwn)
   unfolding headerNow countFault
   header-fits fine few within fits =
-      let r : Building = fields kind (length raw) count headers false in
+      let r : Building = buildingFields kind (length raw) count headers false in
       let can : isPossible r (over buffer 0 raw) ≡ true = here .possible in
       let allowed : headerNow r (over buffer 0 raw) ≡ 0 = rw can in
       let one : countFault r ≡ 0 = rw (lt-ltb headers maxHeaders few) in
@@ -245,28 +245,28 @@ headers-before headers h n e = h n (ap (λ (y : Built). addHeaders y headers) e 
 -- headers behind what was built: where they are not refused, none has a fault, and all are written
 pub headers-unstopped : {x : Built} {kind : BuildingKind} {count before : ℕ} {buffer raw : List ℕ} (headers : List Header)
     → Reached x kind count before false buffer raw → Unstopped (addHeaders x headers)
-    → HeadersFine (directionOf (kindIn kind)) headers
-    × Reached (addHeaders x headers) kind count (before + length headers) false buffer (raw ++ headersBytes (directionOf (kindIn kind)) headers)
+    → HeadersFine (directionOf (builtKind kind)) headers
+    × Reached (addHeaders x headers) kind count (before + length headers) false buffer (raw ++ headersBytes (directionOf (builtKind kind)) headers)
 headers-unstopped {x} {kind} {count} {before} {buffer} {raw} [] here h =
     (tt, reached-same (sym (add-zero before)) (sym (append-nil raw)) here)
 headers-unstopped {x} {kind} {count} {before} {buffer} {raw} (header ∷ later) here h =
     let first = header-unstopped header here (headers-before later h) in
     let rest = headers-unstopped later (first .1) h in
     let n : before + 1 + length later ≡ before + length (header ∷ later) = omega arith in
-    let d : Direction = directionOf (kindIn kind) in
-    ((first .0, rest .0), reached-same n (append-assoc raw (bytesOf (headerFields d header)) (headersBytes d later)) (rest .1))
+    let d : Direction = directionOf (builtKind kind) in
+    ((first .0, rest .0), reached-same n (append-assoc raw (fieldsBytes (headerFields d header)) (headersBytes d later)) (rest .1))
 
 -- where none has a fault, and all fit, they are written
 pub headers-fit : {x : Built} {kind : BuildingKind} {count before : ℕ} {buffer raw : List ℕ} (headers : List Header)
-    → Reached x kind count before false buffer raw → HeadersFine (directionOf (kindIn kind)) headers → before + length headers ≤ maxHeaders
-    → length (raw ++ headersBytes (directionOf (kindIn kind)) headers) ≤ maxPacket
-    → length (raw ++ headersBytes (directionOf (kindIn kind)) headers) ≤ length buffer
-    → Reached (addHeaders x headers) kind count (before + length headers) false buffer (raw ++ headersBytes (directionOf (kindIn kind)) headers)
+    → Reached x kind count before false buffer raw → HeadersFine (directionOf (builtKind kind)) headers → before + length headers ≤ maxHeaders
+    → length (raw ++ headersBytes (directionOf (builtKind kind)) headers) ≤ maxPacket
+    → length (raw ++ headersBytes (directionOf (builtKind kind)) headers) ≤ length buffer
+    → Reached (addHeaders x headers) kind count (before + length headers) false buffer (raw ++ headersBytes (directionOf (builtKind kind)) headers)
 headers-fit {x} {kind} {count} {before} {buffer} {raw} [] here fine few within fits =
     reached-same (sym (add-zero before)) (sym (append-nil raw)) here
 headers-fit {x} {kind} {count} {before} {buffer} {raw} (header ∷ later) here fine few within fits =
-    let d : Direction = directionOf (kindIn kind) in
-    let own : List ℕ = bytesOf (headerFields d header) in
+    let d : Direction = directionOf (builtKind kind) in
+    let own : List ℕ = fieldsBytes (headerFields d header) in
     let later-bytes : List ℕ = headersBytes d later in
     let n : before + 1 + length later ≡ before + length (header ∷ later) = omega arith in
     let first = header-fits header here (fine .0) (omega arith) (first-within raw own later-bytes within) (first-within raw own later-bytes fits) in
@@ -278,28 +278,28 @@ module _ {x : Built} {kind : BuildingKind} {count headers : ℕ} {came : Bool} {
     (here : Reached x kind count headers came buffer raw) where
   -- the call for it
   abbrev attributeHere : Call Building
-  attributeHere = attributeCall (fields kind (length raw) count headers came) (over buffer 0 raw) (attributeFields attribute)
+  attributeHere = attributeCall (buildingFields kind (length raw) count headers came) (over buffer 0 raw) (attributeFields attribute)
 
   -- adding it is that call
   attribute-is : addAttribute x attribute ≡ piece attributeHere (over buffer 0 raw)
   attribute-is =
       ap (λ (y : Built). addAttribute y attribute) (here .is)
       ∙ ap (λ (call : Call Building). piece call (over buffer 0 raw))
-      (attribute-call (fields kind (length raw) count headers came) (over buffer 0 raw) (attribute .code) (attribute .value))
+      (attribute-call (buildingFields kind (length raw) count headers came) (over buffer 0 raw) (attribute .code) (attribute .value))
 
   -- what it comes to where it is written
   attributed : Pieced attributeHere buffer raw
-      → Reached (addAttribute x attribute) kind count headers true buffer (raw ++ bytesOf (attributeFields attribute))
+      → Reached (addAttribute x attribute) kind count headers true buffer (raw ++ fieldsBytes (attributeFields attribute))
   attributed p =
       piece-reached p attribute-is refl
-      (attribute-possible (fields kind (length raw) count headers came) (over buffer 0 raw) (attributeFields attribute) (p .none))
+      (attribute-possible (buildingFields kind (length raw) count headers came) (over buffer 0 raw) (attributeFields attribute) (p .none))
 
   -- where it is not refused, it has no fault
   attribute-unstopped : Unstopped (addAttribute x attribute)
       → FieldsFine (attributeFields attribute)
-      × Reached (addAttribute x attribute) kind count headers true buffer (raw ++ bytesOf (attributeFields attribute))
+      × Reached (addAttribute x attribute) kind count headers true buffer (raw ++ fieldsBytes (attributeFields attribute))
   attribute-unstopped h =
-      let before : ℕ = attributeNow (fields kind (length raw) count headers came) (over buffer 0 raw) in
+      let before : ℕ = attributeNow (buildingFields kind (length raw) count headers came) (over buffer 0 raw) in
       let own : List ℕ = faultsOf (attributeFields attribute) in
       let p : Pieced attributeHere buffer raw = pieced-unstopped attributeHere buffer raw refl (here .room) (λ n e. h n (attribute-is ∙ e)) in
       let first : before ≡ 0 = first-none before own (p .own) in (
@@ -308,12 +308,12 @@ module _ {x : Built} {kind : BuildingKind} {count headers : ℕ} {came : Bool} {
       )
 
   -- where the packet is a Forward, and it has no fault and fits, it is written
-  attribute-fits : isForward kind ≡ true → FieldsFine (attributeFields attribute) → length (raw ++ bytesOf (attributeFields attribute)) ≤ maxPacket
-      → length (raw ++ bytesOf (attributeFields attribute)) ≤ length buffer
-      → Reached (addAttribute x attribute) kind count headers true buffer (raw ++ bytesOf (attributeFields attribute))
+  attribute-fits : isForward kind ≡ true → FieldsFine (attributeFields attribute) → length (raw ++ fieldsBytes (attributeFields attribute)) ≤ maxPacket
+      → length (raw ++ fieldsBytes (attributeFields attribute)) ≤ length buffer
+      → Reached (addAttribute x attribute) kind count headers true buffer (raw ++ fieldsBytes (attributeFields attribute))
   unfolding attributeNow
   attribute-fits forward fine within fits =
-      let can : isPossible (fields kind (length raw) count headers came) (over buffer 0 raw) ≡ true = here .possible in
+      let can : isPossible (buildingFields kind (length raw) count headers came) (over buffer 0 raw) ≡ true = here .possible in
       attributed (pieced-fits attributeHere buffer raw refl (here .room) (rw (can, forward) fine) within fits)
 
 -- what was refused stays refused with attributes behind it
@@ -344,7 +344,7 @@ attributes-unstopped {raw = raw} [] here h = (tt, reached-same refl (sym (append
 attributes-unstopped {raw = raw} (attribute ∷ later) here h =
     let first = attribute-unstopped attribute here (attributes-before later h) in
     let rest = attributes-unstopped later (first .1) h in
-    ((first .0, rest .0), reached-same refl (append-assoc raw (bytesOf (attributeFields attribute)) (attributesBytes later)) (rest .1))
+    ((first .0, rest .0), reached-same refl (append-assoc raw (fieldsBytes (attributeFields attribute)) (attributesBytes later)) (rest .1))
 
 -- where none has a fault, the packet takes them, and all fit, they are written
 pub attributes-fit : {x : Built} {kind : BuildingKind} {count headers : ℕ} {came : Bool} {buffer raw : List ℕ} (attributes : List Attribute)
@@ -355,7 +355,7 @@ attributes-fit {raw = raw} [] here takes fine within fits = reached-same refl (s
 attributes-fit {kind = BuildingKind.SendHeaders} (attribute ∷ later) here takes fine within fits =
     absurd (let z : _≡_ {A = ℕ} 0 1 = cc in omega arith)
 attributes-fit {kind = BuildingKind.Forward} {buffer = buffer} {raw = raw} (attribute ∷ later) here takes fine within fits =
-    let own : List ℕ = bytesOf (attributeFields attribute) in
+    let own : List ℕ = fieldsBytes (attributeFields attribute) in
     let later-bytes : List ℕ = attributesBytes later in
     let first = attribute-fits attribute here refl (fine .0) (first-within raw own later-bytes within) (first-within raw own later-bytes fits) in
     reached-same refl (append-assoc raw own later-bytes)

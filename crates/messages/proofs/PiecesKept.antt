@@ -33,7 +33,7 @@ use Rattle.headers.specs.declared.HeadersRead.{HeadersRead}
 use Rattle.attributes.specs.Attributes.{attributesAt}
 use Rattle.attributes.specs.declared.AttributesRead.{AttributesRead}
 use Rattle.payload.specs.Code.{codeOf, afterCodePlace}
-use Rattle.payload.specs.Sequence.{afterCode, stringField as stringRead, stringFieldAt, stringAfter, booleanNumber, booleanField, booleanFieldAt, booleanAfter, numberField, anyIntegerAfter, bounded, byteAfter, integerAfter, placeOf, valueOf}
+use Rattle.payload.specs.Sequence.{afterCode, stringAsField as stringRead, stringFieldAt, stringAfter, booleanNumber, booleanAsField, booleanFieldAt, booleanAfter, numberAsField, anyIntegerAfter, bounded, byteAfter, integerAfter, fieldPlace, fieldNumber}
 use Rattle.payload.specs.Lists.{headersAfter, listsOf, attributesBehind, behindHeaders, listsAt}
 use Rattle.payload.specs.Forward.{firstMethod, lastMethod, forwardOf, forwardAt}
 use Rattle.payload.specs.SendHeaders.{leastStatus, greatestStatus, sendHeadersOf, sendHeadersAt}
@@ -45,14 +45,14 @@ use Rattle.packet.specs.declared.Packet.{Packet}
 use Rattle.payload.specs.declared.found.PacketRead.{PacketRead}
 use Rattle.payload.specs.Handed.{StringEnds}
 use Rattle.payload.proofs.Handed.{FieldEnds, forward-same, head-same, attributes-handed, finished-is}
-use Rattle.fields.specs.Fault.{rangeFault}
-use Rattle.fields.specs.Field.{Field, plain, byteWithin, integerWithin, bytesOf}
-use Rattle.fields.proofs.Faults.{range-most}
-use Rattle.building_record.specs.Record.{kindIn}
+use Rattle.building.specs.Fault.{rangeFault}
+use Rattle.building.specs.Field.{Field, plain, byteWithin, integerWithin, fieldsBytes}
+use Rattle.building.proofs.Faults.{range-most}
+use Rattle.building_record.specs.Record.{builtKind}
 use Rattle.building_record.specs.declared.BuildingKind.{BuildingKind}
 use Rattle.reader.specs.Meaning.{told}
 use Rattle.closing.specs.Closing.{lastBytes}
-use Rattle.messages.specs.Message.{Header, Attribute, Request, Response, Message, forward, sendHeaders, wayOf, Fit}
+use Rattle.messages.specs.Message.{Header, Attribute, Request, Response, Message, forward, sendHeaders, messageDirection, Fit}
 use Rattle.messages.specs.Bytes.{attributesBytes, requestFields, responseFields, piecesPayload, payloadOf, messageBytes}
 use Rattle.messages.specs.Shown.{textShown, headersShown, attributesShown, shownBy}
 use Rattle.messages.proofs.Fine.{FieldsFine, HeadersFine, AttributesFine}
@@ -64,18 +64,18 @@ use Rattle.messages.proofs.FieldsKept.{Held, held-none, held-byte, held
 
 -- where a field is read behind another one, it is read where that one ends, and is kept
 abbrev KeptBehind : List ℕ → FieldRead → FieldRead → Field → Type 0
-KeptBehind s before got field = (end : ℕ) → FieldEnds end got → FieldEnds (placeOf got .0) before × FieldKept s (placeOf got .0) end field
+KeptBehind s before got field = (end : ℕ) → FieldEnds end got → FieldEnds (fieldPlace got .0) before × FieldKept s (fieldPlace got .0) end field
 
 -- a string
 string-behind : (s : List ℕ) (field : StringField) (before : FieldRead) → Bytes s
-    → KeptBehind s before (stringAfter s field before) (textField field (textShown s (placeOf (stringAfter s field before) .0)))
+    → KeptBehind s before (stringAfter s field before) (textField field (textShown s (fieldPlace (stringAfter s field before) .0)))
 unfolding stringAfter stringFieldAt
 string-behind s field (FieldRead.Refused n) bytes end h = absurd h
 string-behind s field (FieldRead.Field from value at) bytes end h = go (stringAt s at (isOptional field)) refl h
   where
     go : (r : StringRead) → stringAt s at (isOptional field) ≡ r → FieldEnds end (stringRead at r)
-        → (at ≡ placeOf (stringRead at r) .0)
-        × FieldKept s (placeOf (stringRead at r) .0) end (textField field (textShown s (placeOf (stringRead at r) .0)))
+        → (at ≡ fieldPlace (stringRead at r) .0)
+        × FieldKept s (fieldPlace (stringRead at r) .0) end (textField field (textShown s (fieldPlace (stringRead at r) .0)))
     go (StringRead.Refused n) e q = absurd q
     go (StringRead.Null next) e q = (refl, string-kept s at field end bytes (subst (StringEnds end) (sym e) q))
     go (StringRead.Text start len next) e q = (refl, string-kept s at field end bytes (subst (StringEnds end) (sym e) q))
@@ -103,26 +103,26 @@ integer-held s at (NumberRead.Number value next) k = k .0
 -- a number from `low` to `high`, as a field
 bounded-behind : (write : ℕ → List ℕ) (s : List ℕ) (at low high fault end : ℕ) (r : NumberRead) → HeldAs write s at r
     → FieldEnds end (bounded at low high fault r)
-    → (at ≡ placeOf (bounded at low high fault r) .0)
-    × FieldKept s (placeOf (bounded at low high fault r) .0) end
-    (record { fault = rangeFault low high (valueOf (bounded at low high fault r)); bytes = write (valueOf (bounded at low high fault r)) })
+    → (at ≡ fieldPlace (bounded at low high fault r) .0)
+    × FieldKept s (fieldPlace (bounded at low high fault r) .0) end
+    (record { fault = rangeFault low high (fieldNumber (bounded at low high fault r)); bytes = write (fieldNumber (bounded at low high fault r)) })
 unfolding rangeFault
 bounded-behind write s at low high fault end (NumberRead.Refused n) k h = absurd h
 bounded-behind write s at low high fault end (NumberRead.Number value next) k h = go (between low high value) refl h
   where
     go : (t : Bool) → between low high value ≡ t → FieldEnds end (pick t (FieldRead.Field at value next) (FieldRead.Refused fault))
-        → (at ≡ placeOf (pick t (FieldRead.Field at value next) (FieldRead.Refused fault)) .0)
-        × FieldKept s (placeOf (pick t (FieldRead.Field at value next) (FieldRead.Refused fault)) .0) end
+        → (at ≡ fieldPlace (pick t (FieldRead.Field at value next) (FieldRead.Refused fault)) .0)
+        × FieldKept s (fieldPlace (pick t (FieldRead.Field at value next) (FieldRead.Refused fault)) .0) end
         (record {
-          fault = rangeFault low high (valueOf (pick t (FieldRead.Field at value next) (FieldRead.Refused fault)));
-          bytes = write (valueOf (pick t (FieldRead.Field at value next) (FieldRead.Refused fault)));
+          fault = rangeFault low high (fieldNumber (pick t (FieldRead.Field at value next) (FieldRead.Refused fault)));
+          bytes = write (fieldNumber (pick t (FieldRead.Field at value next) (FieldRead.Refused fault)));
         })
     go true e q = (refl, record { held = subst (λ (i : ℕ). Held s at i (write value)) q k; fine = rw e })
     go false e q = absurd q
 
 -- a byte from `low` to `high`
 byte-behind : (s : List ℕ) (low high fault : ℕ) (before : FieldRead)
-    → KeptBehind s before (byteAfter s low high fault before) (byteWithin low high (valueOf (byteAfter s low high fault before)))
+    → KeptBehind s before (byteAfter s low high fault before) (byteWithin low high (fieldNumber (byteAfter s low high fault before)))
 unfolding byteAfter
 byte-behind s low high fault (FieldRead.Refused n) end h = absurd h
 byte-behind s low high fault (FieldRead.Field from value at) end h =
@@ -130,7 +130,7 @@ byte-behind s low high fault (FieldRead.Field from value at) end h =
 
 -- an integer from `low` to `high`
 integer-behind : (s : List ℕ) (low high fault : ℕ) (before : FieldRead) → Bytes s
-    → KeptBehind s before (integerAfter s low high fault before) (integerWithin low high (valueOf (integerAfter s low high fault before)))
+    → KeptBehind s before (integerAfter s low high fault before) (integerWithin low high (fieldNumber (integerAfter s low high fault before)))
 unfolding integerAfter
 integer-behind s low high fault (FieldRead.Refused n) bytes end h = absurd h
 integer-behind s low high fault (FieldRead.Field from value at) bytes end h =
@@ -139,37 +139,37 @@ integer-behind s low high fault (FieldRead.Field from value at) bytes end h =
 
 -- any integer
 any-integer-behind : (s : List ℕ) (before : FieldRead) → Bytes s
-    → KeptBehind s before (anyIntegerAfter s before) (plain (integerBytes (valueOf (anyIntegerAfter s before))))
+    → KeptBehind s before (anyIntegerAfter s before) (plain (integerBytes (fieldNumber (anyIntegerAfter s before))))
 unfolding anyIntegerAfter
 any-integer-behind s (FieldRead.Refused n) bytes end h = absurd h
 any-integer-behind s (FieldRead.Field from value at) bytes end h = go (integerAt s at) (number-kept s at (integerAt s at) bytes refl) h
   where
-    go : (r : NumberRead) → NumberKept s at r → FieldEnds end (numberField at r)
-        → (at ≡ placeOf (numberField at r) .0) × FieldKept s (placeOf (numberField at r) .0) end (plain (integerBytes (valueOf (numberField at r))))
+    go : (r : NumberRead) → NumberKept s at r → FieldEnds end (numberAsField at r)
+        → (at ≡ fieldPlace (numberAsField at r) .0) × FieldKept s (fieldPlace (numberAsField at r) .0) end (plain (integerBytes (fieldNumber (numberAsField at r))))
     go (NumberRead.Refused n) k q = absurd q
     go (NumberRead.Number number next) k q =
         (refl, record { held = subst (λ (i : ℕ). Held s at i (integerBytes number)) q (k .0); fine = refl })
 
 -- and it fits two bytes
-any-integer-fits : (s : List ℕ) (before : FieldRead) → Bytes s → valueOf (anyIntegerAfter s before) < 65536
+any-integer-fits : (s : List ℕ) (before : FieldRead) → Bytes s → fieldNumber (anyIntegerAfter s before) < 65536
 unfolding anyIntegerAfter
 any-integer-fits s (FieldRead.Refused n) bytes = omega arith
 any-integer-fits s (FieldRead.Field from value at) bytes = go (integerAt s at) (number-kept s at (integerAt s at) bytes refl)
   where
-    go : (r : NumberRead) → NumberKept s at r → valueOf (numberField at r) < 65536
+    go : (r : NumberRead) → NumberKept s at r → fieldNumber (numberAsField at r) < 65536
     go (NumberRead.Refused n) k = omega arith
     go (NumberRead.Number number next) k = k .1
 
 -- a boolean
 boolean-behind : (s : List ℕ) (before : FieldRead)
-    → KeptBehind s before (booleanAfter s before) (plain (booleanBytes (eqb (valueOf (booleanAfter s before)) 1)))
+    → KeptBehind s before (booleanAfter s before) (plain (booleanBytes (eqb (fieldNumber (booleanAfter s before)) 1)))
 unfolding booleanAfter booleanFieldAt
 boolean-behind s (FieldRead.Refused n) end h = absurd h
 boolean-behind s (FieldRead.Field from value at) end h = go (booleanAt s at) refl (boolean-inside s at (booleanAt s at) refl) h
   where
-    go : (r : BooleanRead) → booleanAt s at ≡ r → BooleanInside (length s) at r → FieldEnds end (booleanField at r)
-        → (at ≡ placeOf (booleanField at r) .0)
-        × FieldKept s (placeOf (booleanField at r) .0) end (plain (booleanBytes (eqb (valueOf (booleanField at r)) 1)))
+    go : (r : BooleanRead) → booleanAt s at ≡ r → BooleanInside (length s) at r → FieldEnds end (booleanAsField at r)
+        → (at ≡ fieldPlace (booleanAsField at r) .0)
+        × FieldKept s (fieldPlace (booleanAsField at r) .0) end (plain (booleanBytes (eqb (fieldNumber (booleanAsField at r)) 1)))
     go (BooleanRead.Refused n) e i q = absurd q
     go (BooleanRead.Boolean b next) e i q =
         let one : end - at ≡ 1 = omega (arith, i .0, q) in (
@@ -189,7 +189,7 @@ boolean-behind s (FieldRead.Field from value at) end h = go (booleanAt s at) ref
 abbrev HeadersBehind : Direction → List ℕ → FieldRead → List ℕ → HeadersRead → Type 0
 HeadersBehind d s count places (HeadersRead.Refused n) = Unit
 HeadersBehind d s count places (HeadersRead.Headers declared end) =
-    (at : ℕ) × FieldEnds at count × (at ≤ length s → HeadersKept d s at (valueOf count) places end)
+    (at : ℕ) × FieldEnds at count × (at ≤ length s → HeadersKept d s at (fieldNumber count) places end)
 
 -- they are read from where the count ends, and are kept
 headers-behind : (d : Direction) (s : List ℕ) (count : FieldRead) → Bytes s
@@ -238,7 +238,7 @@ record ListsKept (s : List ℕ) (at count : ℕ) (headers attributes : List ℕ)
 abbrev ListsBehind : List ℕ → FieldRead → List ℕ → List ℕ → ListsRead → Type 0
 ListsBehind s count headers attributes (ListsRead.Refused n) = Unit
 ListsBehind s count headers attributes (ListsRead.Lists declared many) =
-    (at : ℕ) × FieldEnds at count × (at ≤ length s → ListsKept s at (valueOf count) headers attributes)
+    (at : ℕ) × FieldEnds at count × (at ≤ length s → ListsKept s at (fieldNumber count) headers attributes)
 
 -- the places of the headers behind a count
 abbrev headersOf : List ℕ → FieldRead → List ℕ
@@ -267,7 +267,7 @@ lists-behind s count bytes = go (headersAfter Direction.ToContainer s count .end
 -- its attributes have no fault, and each of its numbers fits the call that takes it
 pub record PiecesKept (direction : Direction) (s : List ℕ) (m : Message) (own : List Field) (headers : List Header) (attributes : List Attribute) : Type 0 where
   pub bytes-are : messageBytes m ≡ s
-  pub way-is : wayOf m ≡ direction
+  pub way-is : messageDirection m ≡ direction
   pub own-fine : FieldsFine own
   pub headers-fine : HeadersFine direction headers
   pub few : length headers ≤ maxHeaders
@@ -299,14 +299,14 @@ held-rest s at bytes h = rest-part s at (length s - at) (omega (arith, h .forth)
 
 -- a packet whose pieces are kept, one behind the other, from behind its code to its end
 pieces-kept : (kind : BuildingKind) (s : List ℕ) {own : List Field} {at count next n : ℕ} {places : List ℕ} {middle : ℕ} (attributes : List Attribute)
-    (m : Message) → s ≡ packet (directionOf (kindIn kind)) (codeOf (kindIn kind) ∷ drop afterCodePlace s) → wayOf m ≡ directionOf (kindIn kind)
+    (m : Message) → s ≡ packet (directionOf (builtKind kind)) (codeOf (builtKind kind) ∷ drop afterCodePlace s) → messageDirection m ≡ directionOf (builtKind kind)
     → payloadOf m ≡ piecesPayload kind own (headersShown s places) attributes → afterCodePlace ≡ at → FieldsKept s at count own
-    → FieldKept s count next (integerWithin 0 maxHeaders n) → HeadersKept (directionOf (kindIn kind)) s next n places middle
+    → FieldKept s count next (integerWithin 0 maxHeaders n) → HeadersKept (directionOf (builtKind kind)) s next n places middle
     → Held s middle (length s) (attributesBytes attributes ++ lastBytes kind) → AttributesFine attributes → Fit m
-    → PiecesKept (directionOf (kindIn kind)) s m own (headersShown s places) attributes
+    → PiecesKept (directionOf (builtKind kind)) s m own (headersShown s places) attributes
 unfolding messageBytes
 pieces-kept kind s {own} {at} {count} {next} {n} {places} {middle} attributes m packed way payload opened fixed counted of-headers rest fine fit =
-    let first : Held s afterCodePlace count (bytesOf own) = subst (λ (i : ℕ). Held s i count (bytesOf own)) (sym opened) (fixed .held) in
+    let first : Held s afterCodePlace count (fieldsBytes own) = subst (λ (i : ℕ). Held s i count (fieldsBytes own)) (sym opened) (fixed .held) in
     let own-many : length (headersShown s places) ≡ n = headers-many s places n (omega (arith, of-headers .placed)) in
     let many : Held s count next (integerBytes (length (headersShown s places))) =
     subst (λ (k : ℕ). Held s count next (integerBytes k)) (sym own-many) (counted .held) in
@@ -314,7 +314,7 @@ pieces-kept kind s {own} {at} {count} {next} {n} {places} {middle} attributes m 
     record {
       bytes-are =
           ap (λ (d : Direction). packet d (payloadOf m)) way
-          ∙ ap (packet (directionOf (kindIn kind))) (payload ∙ ap (λ (l : List ℕ). codeOf (kindIn kind) ∷ l) (sym (held-rest s afterCodePlace _ whole)))
+          ∙ ap (packet (directionOf (builtKind kind))) (payload ∙ ap (λ (l : List ℕ). codeOf (builtKind kind) ∷ l) (sym (held-rest s afterCodePlace _ whole)))
           ∙ sym packed;
       way-is = way;
       own-fine = fixed .fine;
@@ -327,16 +327,16 @@ pieces-kept kind s {own} {at} {count} {next} {n} {places} {middle} attributes m 
 -- a Forward, by its fixed fields, each of which stands behind the one before it
 module _ (s : List ℕ) (packed : s ≡ packet Direction.ToContainer (codeOf Kind.Forward ∷ drop afterCodePlace s))
     (method protocol uri addr host name port ssl count : FieldRead)
-    (method-behind : KeptBehind s afterCode method (byteWithin firstMethod lastMethod (valueOf method)))
-    (protocol-behind : KeptBehind s method protocol (textField StringField.Protocol (textShown s (placeOf protocol .0))))
-    (uri-behind : KeptBehind s protocol uri (textField StringField.ReqUri (textShown s (placeOf uri .0))))
-    (addr-behind : KeptBehind s uri addr (textField StringField.RemoteAddr (textShown s (placeOf addr .0))))
-    (host-behind : KeptBehind s addr host (textField StringField.RemoteHost (textShown s (placeOf host .0))))
-    (name-behind : KeptBehind s host name (textField StringField.ServerName (textShown s (placeOf name .0))))
-    (port-behind : KeptBehind s name port (plain (integerBytes (valueOf port))))
-    (port-fits : valueOf port < 65536)
-    (ssl-behind : KeptBehind s port ssl (plain (booleanBytes (eqb (valueOf ssl) 1))))
-    (count-behind : KeptBehind s ssl count (integerWithin 0 maxHeaders (valueOf count)))
+    (method-behind : KeptBehind s afterCode method (byteWithin firstMethod lastMethod (fieldNumber method)))
+    (protocol-behind : KeptBehind s method protocol (textField StringField.Protocol (textShown s (fieldPlace protocol .0))))
+    (uri-behind : KeptBehind s protocol uri (textField StringField.ReqUri (textShown s (fieldPlace uri .0))))
+    (addr-behind : KeptBehind s uri addr (textField StringField.RemoteAddr (textShown s (fieldPlace addr .0))))
+    (host-behind : KeptBehind s addr host (textField StringField.RemoteHost (textShown s (fieldPlace host .0))))
+    (name-behind : KeptBehind s host name (textField StringField.ServerName (textShown s (fieldPlace name .0))))
+    (port-behind : KeptBehind s name port (plain (integerBytes (fieldNumber port))))
+    (port-fits : fieldNumber port < 65536)
+    (ssl-behind : KeptBehind s port ssl (plain (booleanBytes (eqb (fieldNumber ssl) 1))))
+    (count-behind : KeptBehind s ssl count (integerWithin 0 maxHeaders (fieldNumber count)))
     (headers attributes : List ℕ) where
   -- it is kept, and the places of its headers are two for each
   forward-found : (f : Forward) (r : ListsRead) → ListsBehind s count headers attributes r
@@ -345,17 +345,17 @@ module _ (s : List ℕ) (packed : s ≡ packet Direction.ToContainer (codeOf Kin
   forward-found f (ListsRead.Refused n) h e = let z : _≡_ {A = ℕ} 0 1 = cc in absurd (omega arith)
   forward-found f (ListsRead.Lists declared many) h e =
       let k9 = count-behind (h .0) (h .1) in
-      let k8 = ssl-behind (placeOf count .0) (k9 .0) in
-      let k7 = port-behind (placeOf ssl .0) (k8 .0) in
-      let k6 = name-behind (placeOf port .0) (k7 .0) in
-      let k5 = host-behind (placeOf name .0) (k6 .0) in
-      let k4 = addr-behind (placeOf host .0) (k5 .0) in
-      let k3 = uri-behind (placeOf addr .0) (k4 .0) in
-      let k2 = protocol-behind (placeOf uri .0) (k3 .0) in
-      let k1 = method-behind (placeOf protocol .0) (k2 .0) in
+      let k8 = ssl-behind (fieldPlace count .0) (k9 .0) in
+      let k7 = port-behind (fieldPlace ssl .0) (k8 .0) in
+      let k6 = name-behind (fieldPlace port .0) (k7 .0) in
+      let k5 = host-behind (fieldPlace name .0) (k6 .0) in
+      let k4 = addr-behind (fieldPlace host .0) (k5 .0) in
+      let k3 = uri-behind (fieldPlace addr .0) (k4 .0) in
+      let k2 = protocol-behind (fieldPlace uri .0) (k3 .0) in
+      let k1 = method-behind (fieldPlace protocol .0) (k2 .0) in
       let lists = h .2 (k9 .1 .held .inside) in
-      let shown : FieldKept s (placeOf ssl .0) (placeOf count .0) (plain (booleanBytes (eqb (booleanNumber (eqb (valueOf ssl) 1)) 1))) =
-      subst (λ (b : Bool). FieldKept s (placeOf ssl .0) (placeOf count .0) (plain (booleanBytes b))) (sym (boolean-back (eqb (valueOf ssl) 1))) (k8 .1) in
+      let shown : FieldKept s (fieldPlace ssl .0) (fieldPlace count .0) (plain (booleanBytes (eqb (booleanNumber (eqb (fieldNumber ssl) 1)) 1))) =
+      subst (λ (b : Bool). FieldKept s (fieldPlace ssl .0) (fieldPlace count .0) (plain (booleanBytes b))) (sym (boolean-back (eqb (fieldNumber ssl) 1))) (k8 .1) in
       let fixed = fields-front (k1 .1) (fields-front (k2 .1) (fields-front (k3 .1) (fields-front (k4 .1) (fields-front (k5 .1)
       (fields-front (k6 .1) (fields-front (k7 .1) (fields-last shown))))))) in
       subst (λ (g : Forward). (length headers ≡ g .headers + g .headers) × RequestKept s (forwardShown s g headers attributes)) (forward-same _ f e) (
@@ -365,7 +365,7 @@ module _ (s : List ℕ) (packed : s ≡ packet Direction.ToContainer (codeOf Kin
           refl,
           pieces-kept BuildingKind.Forward s (attributesShown s attributes) _ packed refl refl (k1 .0) fixed (k9 .1) (lists .of-headers)
               (lists .of-attributes .held) (lists .of-attributes .fine)
-              (omega (arith, range-most firstMethod lastMethod (valueOf method) (k1 .1 .fine)), port-fits, lists .of-headers .fit, lists .of-attributes .fit),
+              (omega (arith, range-most firstMethod lastMethod (fieldNumber method) (k1 .1 .fine)), port-fits, lists .of-headers .fit, lists .of-attributes .fit),
         ),
       )
 
@@ -399,9 +399,9 @@ forward-kept s f headers attributes bytes r are many =
 
 -- a Send Headers, by its fixed fields, each of which stands behind the one before it
 module _ (s : List ℕ) (packed : s ≡ packet Direction.ToServer (codeOf Kind.SendHeaders ∷ drop afterCodePlace s)) (status message count : FieldRead)
-    (status-behind : KeptBehind s afterCode status (integerWithin leastStatus greatestStatus (valueOf status)))
-    (message-behind : KeptBehind s status message (textField StringField.Message (textShown s (placeOf message .0))))
-    (count-behind : KeptBehind s message count (integerWithin 0 maxHeaders (valueOf count)))
+    (status-behind : KeptBehind s afterCode status (integerWithin leastStatus greatestStatus (fieldNumber status)))
+    (message-behind : KeptBehind s status message (textField StringField.Message (textShown s (fieldPlace message .0))))
+    (count-behind : KeptBehind s message count (integerWithin 0 maxHeaders (fieldNumber count)))
     (headers : List ℕ) where
   -- it is kept
   send-headers-found : (h : SendHeaders) (r : HeadersRead) → HeadersBehind Direction.ToServer s count headers r
@@ -410,22 +410,22 @@ module _ (s : List ℕ) (packed : s ≡ packet Direction.ToServer (codeOf Kind.S
   send-headers-found h (HeadersRead.Refused n) b e = let z : _≡_ {A = ℕ} 0 1 = cc in absurd (omega arith)
   send-headers-found h (HeadersRead.Headers declared end) b e =
       let found : SendHeaders = record {
-        status = valueOf status;
-        message = placeOf message;
-        headers = valueOf count;
+        status = fieldNumber status;
+        message = fieldPlace message;
+        headers = fieldNumber count;
       } in
       let f = finished-is (length s) end (Packet.SendHeaders found) (Packet.SendHeaders h) e in
       let k3 = count-behind (b .0) (b .1) in
-      let k2 = message-behind (placeOf count .0) (k3 .0) in
-      let k1 = status-behind (placeOf message .0) (k2 .0) in
-      let all : HeadersKept Direction.ToServer s (b .0) (valueOf count) headers (length s) =
-      subst (HeadersKept Direction.ToServer s (b .0) (valueOf count) headers) (f .0) (b .2 (k3 .1 .held .inside)) in
+      let k2 = message-behind (fieldPlace count .0) (k3 .0) in
+      let k1 = status-behind (fieldPlace message .0) (k2 .0) in
+      let all : HeadersKept Direction.ToServer s (b .0) (fieldNumber count) headers (length s) =
+      subst (HeadersKept Direction.ToServer s (b .0) (fieldNumber count) headers) (f .0) (b .2 (k3 .1 .held .inside)) in
       subst (λ (g : SendHeaders). ResponseKept s (sendHeadersShown s g headers)) (head-same found h (ap PacketRead.Packet (f .1))) (
         _,
         refl,
         pieces-kept BuildingKind.SendHeaders s [] _ packed refl refl (k1 .0) (fields-front (k1 .1) (fields-last (k2 .1))) (k3 .1) all
             (held-none s (length s) (omega arith)) tt
-            (omega (arith, range-most leastStatus greatestStatus (valueOf status) (k1 .1 .fine)), all .fit),
+            (omega (arith, range-most leastStatus greatestStatus (fieldNumber status) (k1 .1 .fine)), all .fit),
       )
 
 -- a Send Headers that was read

@@ -21,7 +21,7 @@ use Rattle.places.specs.Entries.{Entries, maxHeaders}
 use Rattle.headers.specs.declared.HeadersRead.{HeadersRead}
 use Rattle.attributes.specs.Attributes.{lastMark}
 use Rattle.payload.specs.Code.{afterCodePlace}
-use Rattle.payload.specs.Sequence.{booleanNumber, placeOf, valueOf}
+use Rattle.payload.specs.Sequence.{booleanNumber, fieldPlace, fieldNumber}
 use Rattle.payload.specs.Forward.{forwardOf, forwardAt}
 use Rattle.payload.specs.SendHeaders.{sendHeadersOf, sendHeadersAt, greatestStatus, leastStatus}
 use Rattle.payload.specs.Lists.{headersAfter, listsAt}
@@ -32,11 +32,11 @@ use Rattle.packet.specs.declared.SendHeaders.{SendHeaders}
 use Rattle.packet.specs.declared.Packet.{Packet}
 use Rattle.payload.specs.declared.found.PacketRead.{PacketRead}
 use Rattle.payload.proofs.Handed.{forward-handed, head-handed, finished-is}
-use Rattle.fields.specs.Field.{opening, faultsOf, bytesOf}
-use Rattle.fields.proofs.Sizes.{boolean-one}
-use Rattle.fields.proofs.Faults.{faultless, range-most}
+use Rattle.building.specs.Field.{opening, faultsOf, fieldsBytes}
+use Rattle.building.proofs.Sizes.{boolean-one}
+use Rattle.building.proofs.Faults.{faultless, range-most}
 use Rattle.reader.specs.Meaning.{told}
-use Rattle.messages.specs.Message.{Request, Response, forward, sendHeaders, isNull, bytesIn, AttributesFit}
+use Rattle.messages.specs.Message.{Request, Response, forward, sendHeaders, isNull, contentOf, AttributesFit}
 use Rattle.messages.specs.Bytes.{headersBytes, attributesBytes, numbersOf, nullsOf, requestFields, responseFields, payloadOf, messageBytes}
 use Rattle.messages.specs.Shown.{headersShown, attributesShown, shownBy, messageShown}
 use Rattle.messages.proofs.Fine.{FieldsFine, HeadersFine, AttributesFine}
@@ -50,14 +50,14 @@ use Rattle.messages.proofs.FieldsShown.{headers-many, attributes-many, 
 -- the numbers of a Forward, by its fixed fields
 forward-numbers : (method protocol uri addr host name port ssl headers : FieldRead) (r : ListsRead) (f : Forward)
     → forwardOf method protocol uri addr host name port ssl headers r ≡ PacketRead.Packet (Packet.Forward f)
-    → (f .method ≡ valueOf method) × (f .«server_port» ≡ valueOf port) × (f .«is_ssl» ≡ eqb (valueOf ssl) 1) × (f .headers ≡ valueOf headers)
+    → (f .method ≡ fieldNumber method) × (f .«server_port» ≡ fieldNumber port) × (f .«is_ssl» ≡ eqb (fieldNumber ssl) 1) × (f .headers ≡ fieldNumber headers)
 forward-numbers method protocol uri addr host name port ssl headers (ListsRead.Refused n) f e =
     absurd (let z : _≡_ {A = ℕ} 0 1 = cc in omega arith)
 forward-numbers method protocol uri addr host name port ssl headers (ListsRead.Lists declared attributes) f e =
-    let method-is : f .method ≡ valueOf method = cc in
-    let port-is : f .«server_port» ≡ valueOf port = cc in
-    let ssl-is : f .«is_ssl» ≡ eqb (valueOf ssl) 1 = cc in
-    let headers-are : f .headers ≡ valueOf headers = cc in
+    let method-is : f .method ≡ fieldNumber method = cc in
+    let port-is : f .«server_port» ≡ fieldNumber port = cc in
+    let ssl-is : f .«is_ssl» ≡ eqb (fieldNumber ssl) 1 = cc in
+    let headers-are : f .headers ≡ fieldNumber headers = cc in
     (method-is, port-is, ssl-is, headers-are)
 
 -- the bytes of a Forward behind its count of headers
@@ -68,18 +68,18 @@ behindCount request = headersBytes Direction.ToContainer (request .headers) ++ (
 module _ {s : List ℕ} (short : length s ≤ maxPacket) (request : Request) (own : FieldsFine (requestFields request))
     (headers-fine : HeadersFine Direction.ToContainer (request .headers)) (attributes-fine : AttributesFine (request .attributes))
     (port-fits : request .port < 65536) (fit : AttributesFit (request .attributes)) (few : length (request .headers) ≤ maxHeaders)
-    (stands : Ahead s afterCodePlace (bytesOf (requestFields request) ++ (integerBytes (length (request .headers)) ++ behindCount request))) where
+    (stands : Ahead s afterCodePlace (fieldsBytes (requestFields request) ++ (integerBytes (length (request .headers)) ++ behindCount request))) where
   -- where it is read, its numbers are those that were written
-  forward-counts : (f : Forward) → forwardAt s .end ≡ PacketRead.Packet (Packet.Forward f) → length (bytesIn (request .protocol)) ≤ maxPacket
-      → length (bytesIn (request .uri)) ≤ maxPacket → length (bytesIn (request .addr)) ≤ maxPacket → length (bytesIn (request .host)) ≤ maxPacket
-      → length (bytesIn (request .name)) ≤ maxPacket
+  forward-counts : (f : Forward) → forwardAt s .end ≡ PacketRead.Packet (Packet.Forward f) → length (contentOf (request .protocol)) ≤ maxPacket
+      → length (contentOf (request .uri)) ≤ maxPacket → length (contentOf (request .addr)) ≤ maxPacket → length (contentOf (request .host)) ≤ maxPacket
+      → length (contentOf (request .name)) ≤ maxPacket
       → (f .method ≡ request .method) × (f .«server_port» ≡ request .port) × (eqb (booleanNumber (f .«is_ssl»)) 1 ≡ request .ssl)
       × (f .headers ≡ length (request .headers))
   forward-counts f e h1 h2 h3 h4 h5 =
       let count : ℕ = length (request .headers) in
       let read =
-      forward-read (stands .front) (behindCount request) (numbersOf request) (nullsOf request) (bytesIn (request .protocol)) (bytesIn (request .uri))
-      (bytesIn (request .addr)) (bytesIn (request .host)) (bytesIn (request .name)) count (stands .place) port-fits few h1 h2 h3 h4 h5 (rw own) in
+      forward-read (stands .front) (behindCount request) (numbersOf request) (nullsOf request) (contentOf (request .protocol)) (contentOf (request .uri))
+      (contentOf (request .addr)) (contentOf (request .host)) (contentOf (request .name)) count (stands .place) port-fits few h1 h2 h3 h4 h5 (rw own) in
       let f1 : FieldRead = FieldRead.Field afterCodePlace (request .method) (afterCodePlace + 1) in
       let f2 : FieldRead = reached 0 (length (textBytes (request .protocol))) f1 in
       let f3 : FieldRead = reached 0 (length (textBytes (request .uri))) f2 in
@@ -144,13 +144,13 @@ module _ {s : List ℕ} (short : length s ≤ maxPacket) (request : Request) (ow
 -- the numbers of a Send Headers, by its fixed fields
 send-headers-numbers : (size : ℕ) (status message headers : FieldRead) (r : HeadersRead) (h : SendHeaders)
     → sendHeadersOf size status message headers r ≡ PacketRead.Packet (Packet.SendHeaders h)
-    → (h .status ≡ valueOf status) × (h .headers ≡ valueOf headers)
+    → (h .status ≡ fieldNumber status) × (h .headers ≡ fieldNumber headers)
 send-headers-numbers size status message headers (HeadersRead.Refused n) h e = absurd (let z : _≡_ {A = ℕ} 0 1 = cc in omega arith)
 send-headers-numbers size status message headers (HeadersRead.Headers declared next) h e =
     let found : SendHeaders = record {
-      status = valueOf status;
-      message = placeOf message;
-      headers = valueOf headers;
+      status = fieldNumber status;
+      message = fieldPlace message;
+      headers = fieldNumber headers;
     } in
     let same : Packet.SendHeaders found ≡ Packet.SendHeaders h =
     finished-is size next (Packet.SendHeaders found) (Packet.SendHeaders h) e .1 in
@@ -162,17 +162,17 @@ send-headers-numbers size status message headers (HeadersRead.Headers declared n
 module _ {s : List ℕ} (short : length s ≤ maxPacket) (response : Response) (own : FieldsFine (responseFields response))
     (headers-fine : HeadersFine Direction.ToServer (response .headers)) (few : length (response .headers) ≤ maxHeaders)
     (stands : Ahead s afterCodePlace
-    (bytesOf (responseFields response)
+    (fieldsBytes (responseFields response)
     ++ (integerBytes (length (response .headers)) ++ (headersBytes Direction.ToServer (response .headers) ++ [])))) where
   -- where it is read, its numbers are those that were written
-  send-headers-counts : (h : SendHeaders) → sendHeadersAt s .end ≡ PacketRead.Packet (Packet.SendHeaders h) → length (bytesIn (response .message)) ≤ maxPacket
+  send-headers-counts : (h : SendHeaders) → sendHeadersAt s .end ≡ PacketRead.Packet (Packet.SendHeaders h) → length (contentOf (response .message)) ≤ maxPacket
       → (h .status ≡ response .status) × (h .headers ≡ length (response .headers))
   send-headers-counts h e size =
       let count : ℕ = length (response .headers) in
       let b : List ℕ = headersBytes Direction.ToServer (response .headers) ++ [] in
       let none = faultless (faultsOf (responseFields response)) own in
       let read =
-      send-headers-read (stands .front) b (response .status) (isNull (response .message)) (bytesIn (response .message)) count (stands .place)
+      send-headers-read (stands .front) b (response .status) (isNull (response .message)) (contentOf (response .message)) count (stands .place)
       (omega (arith, range-most leastStatus greatestStatus (response .status) (none .0))) size few (rw own) in
       let f1 : FieldRead = FieldRead.Field afterCodePlace (response .status) (afterCodePlace + 2) in
       let f2 : FieldRead = reached 0 (length (textBytes (response .message))) f1 in
@@ -211,14 +211,14 @@ module _ {s : List ℕ} (short : length s ≤ maxPacket) (response : Response) (
 -- the bytes of a Forward behind the first five
 forward-stands : (request : Request)
     → Ahead (messageBytes (forward request)) afterCodePlace
-    (bytesOf (requestFields request) ++ (integerBytes (length (request .headers)) ++ behindCount request))
+    (fieldsBytes (requestFields request) ++ (integerBytes (length (request .headers)) ++ behindCount request))
 unfolding messageBytes
 forward-stands request = record { front = opening Kind.Forward (length (payloadOf (forward request))); is = refl; place = refl }
 
 -- and those of a Send Headers
 send-headers-stands : (response : Response)
     → Ahead (messageBytes (sendHeaders response)) afterCodePlace
-    (bytesOf (responseFields response)
+    (fieldsBytes (responseFields response)
     ++ (integerBytes (length (response .headers)) ++ (headersBytes Direction.ToServer (response .headers) ++ [])))
 unfolding messageBytes
 send-headers-stands response = record { front = opening Kind.SendHeaders (length (payloadOf (sendHeaders response))); is = refl; place = refl }

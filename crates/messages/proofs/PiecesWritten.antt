@@ -9,7 +9,7 @@ use mathlib.Core.List.{List, [], _∷_, _++_, append-assoc}
 use Prim.Native.Nat.{ℕ, _+_, _-_, _≤_}
 use lib.ListN.{length, length-append}
 use Rattle.wire.specs.Bytes.{over, part, integerBytes}
-use Rattle.wire.specs.Packet.{leading, head, packet}
+use Rattle.wire.specs.Packet.{leading, packetHead, packet}
 use Rattle.packet.specs.declared.Direction.{Direction}
 use Rattle.wire.proofs.Bytes.{length-over, over-over, over-there}
 use Rattle.wire.proofs.Field.{length-leading, head-four}
@@ -19,9 +19,9 @@ use Rattle.connection.specs.declared.Connection.{Connection}
 use Rattle.connection.specs.Connection.{maxPacket}
 use Rattle.places.specs.Entries.{maxHeaders}
 use Rattle.payload.specs.Code.{codeOf, afterCodePlace, payloadPlace}
-use Rattle.fields.specs.Field.{Field, opening, bytesOf}
-use Rattle.fields.proofs.Rows.{bytes-append}
-use Rattle.building_record.specs.Record.{kindIn, fields}
+use Rattle.building.specs.Field.{Field, opening, fieldsBytes}
+use Rattle.building.proofs.Rows.{bytes-append}
+use Rattle.building_record.specs.Record.{builtKind, buildingFields}
 use Rattle.pieces.specs.Fixed.{unset, fixed, fixedCall, forwardCall, sendHeadersCall}
 use Rattle.building_record.specs.declared.BuildingKind.{BuildingKind}
 use Rattle.building_record.specs.declared.Building.{Building}
@@ -43,17 +43,17 @@ use Rattle.messages.proofs.PieceByPiece.{Unstopped, Reached, reached-sa
 -- a packet without its last bytes, by its length, its own fields' bytes, its count and what stands behind that
 abbrev unclosed : BuildingKind → List ℕ → ℕ → ℕ → List ℕ → List ℕ
 unclosed kind own size count rest =
-    leading (directionOf (kindIn kind)) ++ (integerBytes size ++ (codeOf (kindIn kind) ∷ (own ++ (integerBytes count ++ rest))))
+    leading (directionOf (builtKind kind)) ++ (integerBytes size ++ (codeOf (builtKind kind) ∷ (own ++ (integerBytes count ++ rest))))
 
 module _ (kind : BuildingKind) (own rest buffer : List ℕ) where
   -- how long it is goes neither by the length that it tells nor by its count
   unclosed-length : (size count : ℕ) → length (unclosed kind own size count rest) ≡ afterCodePlace + 2 + length own + length rest
   unclosed-length size count =
-      let d : Direction = directionOf (kindIn kind) in
+      let d : Direction = directionOf (builtKind kind) in
       omega (
         arith,
         length-leading d,
-        length-append (leading d) (integerBytes size ++ (codeOf (kindIn kind) ∷ (own ++ (integerBytes count ++ rest)))),
+        length-append (leading d) (integerBytes size ++ (codeOf (builtKind kind) ∷ (own ++ (integerBytes count ++ rest)))),
         length-append own (integerBytes count ++ rest),
       )
 
@@ -61,12 +61,12 @@ module _ (kind : BuildingKind) (own rest buffer : List ℕ) where
   count-set : (count : ℕ) → over (over buffer 0 (unclosed kind own 0 0 rest)) (afterCodePlace + length own) (integerBytes count)
       ≡ over buffer 0 (unclosed kind own 0 count rest)
   count-set count =
-      let d : Direction = directionOf (kindIn kind) in
-      let front : List ℕ = leading d ++ (integerBytes 0 ++ (codeOf (kindIn kind) ∷ own)) in
+      let d : Direction = directionOf (builtKind kind) in
+      let front : List ℕ = leading d ++ (integerBytes 0 ++ (codeOf (builtKind kind) ∷ own)) in
       let place : afterCodePlace + length own ≡ length front =
-      omega (arith, length-leading d, length-append (leading d) (integerBytes 0 ++ (codeOf (kindIn kind) ∷ own))) in
+      omega (arith, length-leading d, length-append (leading d) (integerBytes 0 ++ (codeOf (builtKind kind) ∷ own))) in
       let parted : (n : ℕ) → front ++ (integerBytes n ++ rest) ≡ unclosed kind own 0 n rest =
-      λ n. append-assoc (leading d) (integerBytes 0 ++ (codeOf (kindIn kind) ∷ own)) (integerBytes n ++ rest) in
+      λ n. append-assoc (leading d) (integerBytes 0 ++ (codeOf (builtKind kind) ∷ own)) (integerBytes n ++ rest) in
       ap (λ (l : List ℕ). over (over buffer 0 l) (afterCodePlace + length own) (integerBytes count)) (sym (parted 0))
       ∙ over-inside buffer front (integerBytes 0) (integerBytes count) rest (afterCodePlace + length own) place refl
       ∙ ap (over buffer 0) (parted count)
@@ -75,13 +75,13 @@ module _ (kind : BuildingKind) (own rest buffer : List ℕ) where
   size-set : (size count : ℕ) → over (over buffer 0 (unclosed kind own 0 count rest)) 2 (integerBytes size)
       ≡ over buffer 0 (unclosed kind own size count rest)
   size-set size count =
-      over-inside buffer (leading (directionOf (kindIn kind))) (integerBytes 0) (integerBytes size)
-      (codeOf (kindIn kind) ∷ (own ++ (integerBytes count ++ rest))) 2 (sym (length-leading (directionOf (kindIn kind)))) refl
+      over-inside buffer (leading (directionOf (builtKind kind))) (integerBytes 0) (integerBytes size)
+      (codeOf (builtKind kind) ∷ (own ++ (integerBytes count ++ rest))) 2 (sym (length-leading (directionOf (builtKind kind)))) refl
 
   -- and with both set the last bytes are written
   all-set : (next count headers : ℕ) (came : Bool) → next ≡ length (unclosed kind own 0 0 rest) → count ≡ afterCodePlace + length own
       → length (unclosed kind own 0 0 rest) ≤ length buffer
-      → closed (fields kind next count headers came) (over buffer 0 (unclosed kind own 0 0 rest))
+      → closed (buildingFields kind next count headers came) (over buffer 0 (unclosed kind own 0 0 rest))
       ≡ over buffer 0 (unclosed kind own (next + length (lastBytes kind) - payloadPlace) headers rest ++ lastBytes kind)
   unfolding closed
   all-set next count headers came behind place fits =
@@ -96,28 +96,28 @@ module _ (kind : BuildingKind) (own rest buffer : List ℕ) where
 
 -- the packet of a message in pieces
 abbrev wholePacket : BuildingKind → List Field → List Header → List Attribute → List ℕ
-wholePacket kind own headers attributes = packet (directionOf (kindIn kind)) (piecesPayload kind own headers attributes)
+wholePacket kind own headers attributes = packet (directionOf (builtKind kind)) (piecesPayload kind own headers attributes)
 
 -- the bytes behind its count, without the last ones
 abbrev listsBytes : BuildingKind → List Header → List Attribute → List ℕ
-listsBytes kind headers attributes = headersBytes (directionOf (kindIn kind)) headers ++ attributesBytes attributes
+listsBytes kind headers attributes = headersBytes (directionOf (builtKind kind)) headers ++ attributesBytes attributes
 
 -- what all pieces write
 abbrev piecesBytes : BuildingKind → List Field → List Header → List Attribute → List ℕ
-piecesBytes kind own headers attributes = unclosed kind (bytesOf own) 0 0 (listsBytes kind headers attributes)
+piecesBytes kind own headers attributes = unclosed kind (fieldsBytes own) 0 0 (listsBytes kind headers attributes)
 
--- where the count is: it is the last two bytes of the fixed fields
+-- where the count is: it is the last two bytes of the fixed buildingFields
 abbrev countPlace : BuildingKind → List Field → ℕ
-countPlace kind own = length (bytesOf (fixed kind own)) - 2
+countPlace kind own = length (fieldsBytes (fixed kind own)) - 2
 
 -- the record behind all pieces
 abbrev behindAll : BuildingKind → List Field → List Header → List Attribute → Bool → Building
 behindAll kind own headers attributes came =
-    fields kind (length (piecesBytes kind own headers attributes)) (countPlace kind own) (length headers) came
+    buildingFields kind (length (piecesBytes kind own headers attributes)) (countPlace kind own) (length headers) came
 
 module _ (kind : BuildingKind) (own : List Field) (headers : List Header) (attributes : List Attribute) where
   -- the packet is what is set, and the last bytes
-  whole-parts : unclosed kind (bytesOf own) (length (piecesPayload kind own headers attributes)) (length headers) (listsBytes kind headers attributes) ++ lastBytes kind
+  whole-parts : unclosed kind (fieldsBytes own) (length (piecesPayload kind own headers attributes)) (length headers) (listsBytes kind headers attributes) ++ lastBytes kind
       ≡ wholePacket kind own headers attributes
   whole-parts = simp append-assoc
 
@@ -128,32 +128,32 @@ module _ (kind : BuildingKind) (own : List Field) (headers : List Header) (attri
       omega (
         arith,
         ap length whole-parts,
-        length-append (unclosed kind (bytesOf own) size (length headers) (listsBytes kind headers attributes)) (lastBytes kind),
-        unclosed-length kind (bytesOf own) (listsBytes kind headers attributes) [] 0 0,
-        unclosed-length kind (bytesOf own) (listsBytes kind headers attributes) [] size (length headers),
+        length-append (unclosed kind (fieldsBytes own) size (length headers) (listsBytes kind headers attributes)) (lastBytes kind),
+        unclosed-length kind (fieldsBytes own) (listsBytes kind headers attributes) [] 0 0,
+        unclosed-length kind (fieldsBytes own) (listsBytes kind headers attributes) [] size (length headers),
       )
 
   -- and how long its payload is
   payload-length : length (wholePacket kind own headers attributes) - payloadPlace ≡ length (piecesPayload kind own headers attributes)
   payload-length =
-      let d : Direction = directionOf (kindIn kind) in
+      let d : Direction = directionOf (builtKind kind) in
       let payload : List ℕ = piecesPayload kind own headers attributes in
-      omega (arith, length-append (head d (length payload)) payload, head-four d (length payload))
+      omega (arith, length-append (packetHead d (length payload)) payload, head-four d (length payload))
 
   -- what the pieces wrote
-  pieces-parts : bytesOf (fixed kind own) ++ headersBytes (directionOf (kindIn kind)) headers ++ attributesBytes attributes
+  pieces-parts : fieldsBytes (fixed kind own) ++ headersBytes (directionOf (builtKind kind)) headers ++ attributesBytes attributes
       ≡ piecesBytes kind own headers attributes
   pieces-parts = rw (bytes-append own (unset ∷ [])) (simp append-assoc)
 
   -- where their count is
-  count-place : countPlace kind own ≡ afterCodePlace + length (bytesOf own)
+  count-place : countPlace kind own ≡ afterCodePlace + length (fieldsBytes own)
   count-place =
       omega (
         arith,
         opening-five kind 0,
-        length-append (opening (kindIn kind) 0) (bytesOf (own ++ (unset ∷ []))),
+        length-append (opening (builtKind kind) 0) (fieldsBytes (own ++ (unset ∷ []))),
         ap length (bytes-append own (unset ∷ [])),
-        length-append (bytesOf own) (integerBytes 0),
+        length-append (fieldsBytes own) (integerBytes 0),
       )
 
   -- closing makes the packet of them
@@ -163,8 +163,8 @@ module _ (kind : BuildingKind) (own : List Field) (headers : List Header) (attri
       let next : ℕ = length (piecesBytes kind own headers attributes) in
       let size : next + length (lastBytes kind) - payloadPlace ≡ length (piecesPayload kind own headers attributes) =
       omega (arith, whole-length, payload-length) in
-      all-set kind (bytesOf own) (listsBytes kind headers attributes) buffer next (countPlace kind own) (length headers) came refl count-place fits
-      ∙ ap (λ (n : ℕ). over buffer 0 (unclosed kind (bytesOf own) n (length headers) (listsBytes kind headers attributes) ++ lastBytes kind)) size
+      all-set kind (fieldsBytes own) (listsBytes kind headers attributes) buffer next (countPlace kind own) (length headers) came refl count-place fits
+      ∙ ap (λ (n : ℕ). over buffer 0 (unclosed kind (fieldsBytes own) n (length headers) (listsBytes kind headers attributes) ++ lastBytes kind)) size
       ∙ ap (over buffer 0) whole-parts
 
   -- and where it fits it stands there
@@ -182,24 +182,24 @@ module _ (kind : BuildingKind) (own : List Field) (headers : List Header) (attri
 pub record PiecesWritten (c : Connection) (kind : BuildingKind) (own : List Field) (headers : List Header) (attributes : List Attribute)
     (whole buffer : List ℕ) (w : Written) (after : List ℕ) : Type 0 where
   pub own-fine : FieldsFine own
-  pub headers-fine : HeadersFine (directionOf (kindIn kind)) headers
+  pub headers-fine : HeadersFine (directionOf (builtKind kind)) headers
   pub attributes-fine : AttributesFine attributes
   pub few : length headers ≤ maxHeaders
   pub within : length whole ≤ maxPacket
   pub fits : length whole ≤ length buffer
   pub size : w .size ≡ length whole
   pub is : after ≡ over buffer 0 whole
-  pub state : inState c (kindIn kind) ≡ true
+  pub state : inState c (builtKind kind) ≡ true
   pub tells : Told
-  pub judged : judging c (parse (directionOf (kindIn kind)) (readAsBody (directionOf (kindIn kind)) c) whole)
+  pub judged : judging c (parse (directionOf (builtKind kind)) (readAsBody (directionOf (builtKind kind)) c) whole)
       ≡ accepted tells (length whole) (w .connection)
 
 -- and the other way: where no piece has a fault, all fit, and the packet is judged good, it is written
 abbrev pub Writes : Connection → BuildingKind → List Field → List Header → List Attribute → List ℕ → List ℕ → Wrote → Type 0
 Writes c kind own headers attributes whole buffer answer = (t : Told) (taken : ℕ) (next : Connection) → FieldsFine own
-    → HeadersFine (directionOf (kindIn kind)) headers → AttributesFine attributes → length headers ≤ maxHeaders → length whole ≤ maxPacket
-    → length whole ≤ length buffer → inState c (kindIn kind) ≡ true
-    → judging c (parse (directionOf (kindIn kind)) (readAsBody (directionOf (kindIn kind)) c) whole) ≡ accepted t taken next
+    → HeadersFine (directionOf (builtKind kind)) headers → AttributesFine attributes → length headers ≤ maxHeaders → length whole ≤ maxPacket
+    → length whole ≤ length buffer → inState c (builtKind kind) ≡ true
+    → judging c (parse (directionOf (builtKind kind)) (readAsBody (directionOf (builtKind kind)) c) whole) ≡ accepted t taken next
     → answer ≡ wrote (record { size = length whole; connection = next }) (over buffer 0 whole)
 
 module _ (c : Connection) (kind : BuildingKind) (own : List Field) (headers : List Header) (attributes : List Attribute) (buffer : List ℕ) where
@@ -210,7 +210,7 @@ module _ (c : Connection) (kind : BuildingKind) (own : List Field) (headers : Li
   -- where none of them is refused, none has a fault, and they are written
   all-unstopped : Unstopped allPieces
       → FieldsFine own
-      × HeadersFine (directionOf (kindIn kind)) headers
+      × HeadersFine (directionOf (builtKind kind)) headers
       × AttributesFine attributes
       × Reached allPieces kind (countPlace kind own) (length headers) (cameAfter false attributes) buffer (piecesBytes kind own headers attributes)
   all-unstopped h =
@@ -225,12 +225,12 @@ module _ (c : Connection) (kind : BuildingKind) (own : List Field) (headers : Li
       )
 
   -- where none has a fault, and all fit, they are
-  all-fit : FieldsFine own → HeadersFine (directionOf (kindIn kind)) headers → AttributesFine attributes → Takes kind attributes
+  all-fit : FieldsFine own → HeadersFine (directionOf (builtKind kind)) headers → AttributesFine attributes → Takes kind attributes
       → length headers ≤ maxHeaders → length (piecesBytes kind own headers attributes) ≤ maxPacket → length (piecesBytes kind own headers attributes) ≤ length buffer
       → Reached allPieces kind (countPlace kind own) (length headers) (cameAfter false attributes) buffer (piecesBytes kind own headers attributes)
   all-fit own-fine headers-fine attributes-fine takes few within fits =
-      let a : List ℕ = bytesOf (fixed kind own) in
-      let b : List ℕ = headersBytes (directionOf (kindIn kind)) headers in
+      let a : List ℕ = fieldsBytes (fixed kind own) in
+      let b : List ℕ = headersBytes (directionOf (builtKind kind)) headers in
       let d : List ℕ = attributesBytes attributes in
       let all : length (a ++ b ++ d) ≡ length (piecesBytes kind own headers attributes) = ap length (pieces-parts kind own headers attributes) in
       let three : length (a ++ b ++ d) ≡ length (a ++ b) + length d = length-append (a ++ b) d in
@@ -246,7 +246,7 @@ module _ (c : Connection) (kind : BuildingKind) (own : List Field) (headers : Li
   unfolding judgement
   pieces-written w after e =
       let came : Bool = cameAfter false attributes in
-      let d : Direction = directionOf (kindIn kind) in
+      let d : Direction = directionOf (builtKind kind) in
       let whole : List ℕ = wholePacket kind own headers attributes in
       let r : Building = behindAll kind own headers attributes came in
       let x : List ℕ = over buffer 0 (piecesBytes kind own headers attributes) in
@@ -280,7 +280,7 @@ module _ (c : Connection) (kind : BuildingKind) (own : List Field) (headers : Li
   unfolding judgement
   pieces-write takes t taken next own-fine headers-fine attributes-fine few within fits state judged =
       let came : Bool = cameAfter false attributes in
-      let d : Direction = directionOf (kindIn kind) in
+      let d : Direction = directionOf (builtKind kind) in
       let whole : List ℕ = wholePacket kind own headers attributes in
       let r : Building = behindAll kind own headers attributes came in
       let x : List ℕ = over buffer 0 (piecesBytes kind own headers attributes) in

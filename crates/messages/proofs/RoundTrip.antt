@@ -14,14 +14,14 @@ use Rattle.wire.specs.Facts.{Bytes}
 use Rattle.wire.proofs.Parts.{bytes-part}
 use Rattle.connection.specs.Cycle.{directionOf, allowed, after}
 use Rattle.connection.specs.declared.Connection.{Connection}
-use Rattle.payload.specs.Kinds.{kindIn, moveIn}
+use Rattle.payload.specs.Kinds.{packetKind, packetMove}
 use Rattle.packet.specs.declared.Packet.{Packet}
-use Rattle.fields.specs.Call.{Outcome, refused, done}
+use Rattle.building.specs.Call.{Outcome, refused, done}
 use Rattle.writer.specs.Meaning.{Written}
 use Rattle.reader.specs.Meaning.{Told, accepted, told, placesNeeded}
 use Rattle.reader.specs.Reading.{reading, tableAfter}
 use Rattle.reading_laws.proofs.Acceptance.{accepted-is}
-use Rattle.messages.specs.Message.{Message, wayOf, placesFor, Fit}
+use Rattle.messages.specs.Message.{Message, messageDirection, placesFor, Fit}
 use Rattle.messages.specs.Writing.{unwritten, wrote, wroteBy, writing}
 use Rattle.messages.specs.Shown.{messageShown}
 use Rattle.messages.specs.RoundTrips.{ReadBack, WrittenBack}
@@ -32,23 +32,23 @@ use Rattle.messages.proofs.Tables.{tableOf, table-filled}
 abbrev pub Forth : Message → Type 0
 Forth m = (c : Connection) (buffer : List ℕ) (w : Written) (left : List ℕ) → Fit m → writing c m buffer ≡ wrote w left
     → (rest table : List ℕ) → placesFor m ≤ length table
-    → ReadBack (wayOf m) c (part left 0 (w .size) ++ rest) table m (w .size) (w .connection)
+    → ReadBack (messageDirection m) c (part left 0 (w .size) ++ rest) table m (w .size) (w .connection)
 
 -- a packet is written again as its bytes: the message that it shows, by each connection that allows its move
 abbrev pub Back : Packet → Type 0
-Back p = (d : Direction) (c : Connection) (s table : List ℕ) → Bytes s → Parses d s p → allowed c (moveIn p) ≡ true
+Back p = (d : Direction) (c : Connection) (s table : List ℕ) → Bytes s → Parses d s p → allowed c (packetMove p) ≡ true
     → placesNeeded (told p) ≤ length table → (buffer : List ℕ) → length s ≤ length buffer
-    → WrittenBack d c s buffer (messageShown (told p) s (tableOf p s table)) (length s) (after c (moveIn p))
+    → WrittenBack d c s buffer (messageShown (told p) s (tableOf p s table)) (length s) (after c (packetMove p))
 
 -- a packet that parses is read back, whatever stands behind it, as the message that it shows
-read-back : {d : Direction} {s : List ℕ} {p : Packet} → Parses d s p → (c : Connection) → allowed c (moveIn p) ≡ true
+read-back : {d : Direction} {s : List ℕ} {p : Packet} → Parses d s p → (c : Connection) → allowed c (packetMove p) ≡ true
     → (rest table : List ℕ) → placesNeeded (told p) ≤ length table → (m : Message) → messageShown (told p) s (tableOf p s table) ≡ m
-    → ReadBack d c (s ++ rest) table m (length s) (after c (moveIn p))
+    → ReadBack d c (s ++ rest) table m (length s) (after c (packetMove p))
 unfolding part
 read-back {d} {s} {p} r c a rest table h m shows =
     let alone : part (s ++ rest) 0 (length s) ≡ s = take-append-seam s rest in
     let answer = parses-accepted r c a rest (length table) h in
-    let places = table-filled d c (s ++ rest) table p (length s) (after c (moveIn p)) answer in
+    let places = table-filled d c (s ++ rest) table p (length s) (after c (packetMove p)) answer in
     record {
       told = told p;
       answer = answer;
@@ -74,21 +74,21 @@ pub record Shows (p : Packet) (s : List ℕ) (m : Message) : Type 0 where
 pub record Stands (m : Message) (c : Connection) (w : Written) (left : List ℕ) : Type 0 where
   pub packet : Packet
   pub size : length (part left 0 (w .size)) ≡ w .size
-  pub parses : Parses (wayOf m) (part left 0 (w .size)) packet
-  pub allows : allowed c (moveIn packet) ≡ true
-  pub steps : after c (moveIn packet) ≡ w .connection
+  pub parses : Parses (messageDirection m) (part left 0 (w .size)) packet
+  pub allows : allowed c (packetMove packet) ≡ true
+  pub steps : after c (packetMove packet) ≡ w .connection
   pub shows : Shows packet (part left 0 (w .size)) m
 
 -- such a packet reads back, whatever stands behind it
 pub stands-back : {m : Message} {c : Connection} {w : Written} {left : List ℕ} → Stands m c w left → (rest table : List ℕ)
     → placesFor m ≤ length table
-    → ReadBack (wayOf m) c (part left 0 (w .size) ++ rest) table m (w .size) (w .connection)
+    → ReadBack (messageDirection m) c (part left 0 (w .size) ++ rest) table m (w .size) (w .connection)
 stands-back {m} {c} {w} {left} k rest table h =
     rw (k .size, k .steps) at (read-back (k .parses) c (k .allows) rest table (omega (arith, k .shows .asks)) m (k .shows .shown table))
 
 -- a packet goes its own way, so it is enough to write it back that way
 pub own-way : {p : Packet} {c : Connection} {s buffer : List ℕ} {m : Message} {n : ℕ} {next : Connection}
-    → (Parses (directionOf (kindIn p)) s p → WrittenBack (directionOf (kindIn p)) c s buffer m n next) → {d : Direction} → Parses d s p
+    → (Parses (directionOf (packetKind p)) s p → WrittenBack (directionOf (packetKind p)) c s buffer m n next) → {d : Direction} → Parses d s p
     → WrittenBack d c s buffer m n next
 own-way {p} {c} {s} {buffer} {m} {n} {next} back r =
     subst (λ (x : Direction). Parses x s p → WrittenBack x c s buffer m n next) (r .way) back r

@@ -10,12 +10,12 @@ use Rattle.wire.specs.Bytes.{part, over}
 use Rattle.packet.specs.declared.Direction.{Direction}
 use Rattle.wire.specs.Facts.{Bytes}
 use Rattle.connection.specs.declared.Connection.{Connection}
-use Rattle.payload.specs.Kinds.{moveIn}
+use Rattle.payload.specs.Kinds.{packetMove}
 use Rattle.packet.specs.declared.Packet.{Packet}
 use Rattle.writer.specs.Meaning.{Written}
 use Rattle.reader.specs.Meaning.{Told, accepted}
 use Rattle.reader.specs.Reading.{reading, tableAfter}
-use Rattle.messages.specs.Message.{Message, kindOf, cping, cpong, forward, body, getBody, sendHeaders, bodyChunk, end, wayOf, placesFor, Fit}
+use Rattle.messages.specs.Message.{Message, messageKind, cping, cpong, forward, body, getBody, sendHeaders, bodyChunk, end, messageDirection, placesFor, Fit}
 use Rattle.messages.specs.Bytes.{payloadOf, messageBytes}
 use Rattle.messages.specs.Writing.{wrote, writing}
 use Rattle.messages.specs.Shown.{messageShown}
@@ -26,11 +26,11 @@ use Rattle.messages.proofs.PiecesWritten.{forward-written, send-headers
 use Rattle.messages.proofs.InPieces.{forward-forth, send-headers-forth, forward-back, send-headers-back}
 
 -- by one call
-one-bytes : (m : Message) → IsOne (kindOf m) → (c : Connection) (buffer : List ℕ) (w : Written) (left : List ℕ) → Fit m → writing c m buffer ≡ wrote w left
+one-bytes : (m : Message) → IsOne (messageKind m) → (c : Connection) (buffer : List ℕ) (w : Written) (left : List ℕ) → Fit m → writing c m buffer ≡ wrote w left
     → WrittenBytes m buffer w left
 one-bytes m one c buffer w left fit e =
     let calls = one-packet m one fit .calls in
-    let k = one-written c (moveIn (one-packet m one fit .packet)) (payloadOf m) buffer w left (sym (calls .call-is c buffer) ∙ e) in
+    let k = one-written c (packetMove (one-packet m one fit .packet)) (payloadOf m) buffer w left (sym (calls .call-is c buffer) ∙ e) in
     record {
       buffer-is = k .buffer-is ∙ ap (over buffer 0) (calls .bytes-are);
       size = k .size ∙ ap length (calls .bytes-are);
@@ -68,7 +68,7 @@ forth (end reuse) = one-forth (end reuse) tt
 -- connection after it is the writer's, and the message that it shows is the one that was written
 pub written-reads : (c : Connection) (m : Message) (buffer : List ℕ) (w : Written) (left : List ℕ) → Fit m → writing c m buffer ≡ wrote w left
     → (rest table : List ℕ) → placesFor m ≤ length table
-    → ReadBack (wayOf m) c (part left 0 (w .size) ++ rest) table m (w .size) (w .connection)
+    → ReadBack (messageDirection m) c (part left 0 (w .size) ++ rest) table m (w .size) (w .connection)
 written-reads c m buffer w left fit e = forth m c buffer w left fit e
 
 -- back, for each kind of packet

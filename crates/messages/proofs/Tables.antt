@@ -13,7 +13,7 @@ use Rattle.connection.specs.declared.Connection.{Connection}
 use Rattle.connection.specs.declared.Kind.{Kind}
 use Rattle.payload.specs.Forward.{forwardAt}
 use Rattle.payload.specs.SendHeaders.{sendHeadersAt}
-use Rattle.payload.specs.Kinds.{packetAt, kindIn}
+use Rattle.payload.specs.Kinds.{packetAt, packetKind}
 use Rattle.packet.specs.declared.Forward.{Forward}
 use Rattle.packet.specs.declared.SendHeaders.{SendHeaders}
 use Rattle.packet.specs.declared.Packet.{Packet}
@@ -28,20 +28,20 @@ use Rattle.messages.specs.Shown.{headerPlaces, attributePlaces}
 
 -- the table with a packet's places
 abbrev pub tableOf : Packet → List ℕ → List ℕ → List ℕ
-tableOf p s table = over table 0 (packetAt (kindIn p) s .places)
+tableOf p s table = over table 0 (packetAt (packetKind p) s .places)
 
 -- an accepted packet fills the table with its own places
 pub table-filled : (d : Direction) (c : Connection) (s table : List ℕ) (p : Packet) (n : ℕ) (next : Connection)
     → reading d c s (length table) ≡ accepted (told p) n next → tableAfter d c s table ≡ tableOf p (part s 0 n) table
 table-filled d c s table p n next e =
     let a = accepted-is d c s (length table) (told p) n next e in
-    let kind : a .kind ≡ kindIn p =
+    let kind : a .kind ≡ packetKind p =
     sym (parsed-kind (a .kind) (part s 0 n) (a .packet) (a .fields-are)) ∙ sym (told-kind (a .packet))
     ∙ ap (λ (t : Told). t .kind) (sym (a .tells)) ∙ told-kind p in
     accepted-fills d c s table (told p) n next e .0 ∙ ap (λ (k : Kind). over table 0 (packetAt k (part s 0 n) .places)) kind
 
 -- a packet's places, parted into those of its headers and those of its attributes
-module _ (p : Packet) (s table headers attributes : List ℕ) (are : packetAt (kindIn p) s .places ≡ headers ++ attributes)
+module _ (p : Packet) (s table headers attributes : List ℕ) (are : packetAt (packetKind p) s .places ≡ headers ++ attributes)
     (many : length headers ≡ 2 * told p .headers) where
   -- the places of its headers in the table, whatever its length
   pub header-places : headerPlaces (told p) (tableOf p s table) ≡ headers

@@ -8,19 +8,19 @@ use Prim.Native.Nat.{ℕ}
 use Rattle.wire.specs.Field.{stringAt, stringBytes}
 use Rattle.wire.specs.declared.StringField.{StringField}
 use Rattle.wire.specs.declared.read.StringRead.{StringRead}
-use Rattle.fields.specs.Field.{Field, stringField}
+use Rattle.building.specs.Field.{Field, stringField}
 use Rattle.views.specs.View.{textView}
 use Rattle.reading_laws.proofs.Shown.{text-shown, null-shown}
-use Rattle.messages.specs.Message.{Text, null, text, isNull, bytesIn}
+use Rattle.messages.specs.Message.{Text, null, text, isNull, contentOf}
 use Rattle.messages.specs.Shown.{textShown}
 
 -- a string's bytes
 abbrev pub textBytes : Text → List ℕ
-textBytes t = stringBytes (isNull t) (bytesIn t)
+textBytes t = stringBytes (isNull t) (contentOf t)
 
 -- the field that holds it
 abbrev pub textField : StringField → Text → Field
-textField field t = stringField field (isNull t) (bytesIn t)
+textField field t = stringField field (isNull t) (contentOf t)
 
 -- what is shown of a string that was read as null
 pub null-told : (s : List ℕ) (at : ℕ) (optional : Bool) (next : ℕ) → stringAt s at optional ≡ StringRead.Null next → textShown s at ≡ null

@@ -11,22 +11,22 @@ use Rattle.packet.specs.declared.Direction.{Direction}
 use Rattle.connection.specs.Cycle.{directionOf}
 use Rattle.connection.specs.declared.Move.{Move}
 use Rattle.payload.specs.Code.{codeOf}
-use Rattle.fields.specs.Field.{Field, bytesOf}
+use Rattle.building.specs.Field.{Field, fieldsBytes}
 use Rattle.building_record.specs.declared.BuildingKind.{BuildingKind}
 use Rattle.pieces.specs.declared.forward.Numbers.{Numbers}
 use Rattle.pieces.specs.declared.forward.Nulls.{Nulls}
-use Rattle.building_record.specs.Record.{kindIn}
+use Rattle.building_record.specs.Record.{builtKind}
 use Rattle.pieces.specs.Fixed.{forwardFields, sendHeadersFields}
 use Rattle.pieces.specs.Header.{codedFields, spelledFields}
 use Rattle.pieces.specs.Attribute.{textFields, integerFields, pairFields}
 use Rattle.writer.specs.Sending.{barePayload, bodyPayload, chunkPayload, getPayload, endPayload}
 use Rattle.closing.specs.Closing.{lastBytes}
-use Rattle.messages.specs.Message.{Text, Name, coded, spelled, Header, Value, string, integer, pair, Attribute, Request, Response, Message, cping, cpong, forward, body, getBody, sendHeaders, bodyChunk, end, wayOf, isNull, bytesIn}
+use Rattle.messages.specs.Message.{Text, MessageName, coded, spelled, Header, Value, string, integer, pair, Attribute, Request, Response, Message, cping, cpong, forward, body, getBody, sendHeaders, bodyChunk, end, messageDirection, isNull, contentOf}
 
 -- a header's fields: its name and its value
-abbrev pub fieldsBy : Direction → Text → Name → List Field
-fieldsBy direction value (coded n) = codedFields direction n (isNull value) (bytesIn value)
-fieldsBy direction value (spelled name) = spelledFields direction false name (isNull value) (bytesIn value)
+abbrev pub fieldsBy : Direction → Text → MessageName → List Field
+fieldsBy direction value (coded n) = codedFields direction n (isNull value) (contentOf value)
+fieldsBy direction value (spelled name) = spelledFields direction false name (isNull value) (contentOf value)
 
 abbrev pub headerFields : Direction → Header → List Field
 headerFields direction header = fieldsBy direction (header .value) (header .name)
@@ -34,21 +34,21 @@ headerFields direction header = fieldsBy direction (header .value) (header .name
 -- the bytes of headers, one behind the other
 abbrev pub headersBytes : Direction → List Header → List ℕ
 headersBytes direction [] = []
-headersBytes direction (header ∷ later) = bytesOf (headerFields direction header) ++ headersBytes direction later
+headersBytes direction (header ∷ later) = fieldsBytes (headerFields direction header) ++ headersBytes direction later
 
 -- an attribute's fields: its code and its value
-abbrev pub fieldsOf : ℕ → Value → List Field
-fieldsOf code (string value) = textFields code (isNull value) (bytesIn value)
-fieldsOf code (integer n) = integerFields code n
-fieldsOf code (pair name value) = pairFields code false name (isNull value) (bytesIn value)
+abbrev pub valueFields : ℕ → Value → List Field
+valueFields code (string value) = textFields code (isNull value) (contentOf value)
+valueFields code (integer n) = integerFields code n
+valueFields code (pair name value) = pairFields code false name (isNull value) (contentOf value)
 
 abbrev pub attributeFields : Attribute → List Field
-attributeFields attribute = fieldsOf (attribute .code) (attribute .value)
+attributeFields attribute = valueFields (attribute .code) (attribute .value)
 
 -- the bytes of attributes, one behind the other
 abbrev pub attributesBytes : List Attribute → List ℕ
 attributesBytes [] = []
-attributesBytes (attribute ∷ later) = bytesOf (attributeFields attribute) ++ attributesBytes later
+attributesBytes (attribute ∷ later) = fieldsBytes (attributeFields attribute) ++ attributesBytes later
 
 -- a Forward's fixed fields, its numbers and nulls as its call takes them
 abbrev pub numbersOf : Request → Numbers
@@ -65,20 +65,20 @@ nullsOf request = record {
 
 abbrev pub requestFields : Request → List Field
 requestFields request =
-    forwardFields (numbersOf request) (nullsOf request) (bytesIn (request .protocol)) (bytesIn (request .uri)) (bytesIn (request .addr))
-    (bytesIn (request .host)) (bytesIn (request .name))
+    forwardFields (numbersOf request) (nullsOf request) (contentOf (request .protocol)) (contentOf (request .uri)) (contentOf (request .addr))
+    (contentOf (request .host)) (contentOf (request .name))
 
 -- a Send Headers' fixed fields
 abbrev pub responseFields : Response → List Field
-responseFields response = sendHeadersFields (response .status) (isNull (response .message)) (bytesIn (response .message))
+responseFields response = sendHeadersFields (response .status) (isNull (response .message)) (contentOf (response .message))
 
 -- the payload of a packet in pieces: its code, its fixed fields, how many headers, the headers, the attributes, and FF in a Forward
 abbrev pub piecesPayload : BuildingKind → List Field → List Header → List Attribute → List ℕ
 piecesPayload kind own headers attributes =
-    codeOf (kindIn kind)
-    ∷ (bytesOf own
+    codeOf (builtKind kind)
+    ∷ (fieldsBytes own
     ++ (integerBytes (length headers)
-    ++ (headersBytes (directionOf (kindIn kind)) headers ++ (attributesBytes attributes ++ lastBytes kind))))
+    ++ (headersBytes (directionOf (builtKind kind)) headers ++ (attributesBytes attributes ++ lastBytes kind))))
 
 -- the payload of a message
 abbrev pub payloadOf : Message → List ℕ
@@ -93,4 +93,4 @@ payloadOf (end reuse) = endPayload reuse
 
 -- the packet of a message
 unfoldable pub messageBytes : Message → List ℕ
-messageBytes m = packet (wayOf m) (payloadOf m)
+messageBytes m = packet (messageDirection m) (payloadOf m)

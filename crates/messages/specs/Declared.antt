@@ -9,15 +9,15 @@ use Prim.Native.Nat.{ℕ, _+_, _-_, _*_, _≤_}
 use Rattle.wire.specs.Pick.{pick, between, all}
 use Rattle.names.specs.Names.{ascii, nameFor, sameName}
 use Rattle.names.specs.declared.NameList.{NameList}
-use Rattle.messages.specs.Message.{Text, null, text, Name, coded, spelled, Header, Message, cping, cpong, forward, body, getBody, sendHeaders, bodyChunk, end}
+use Rattle.messages.specs.Message.{Text, null, text, MessageName, coded, spelled, Header, Message, cping, cpong, forward, body, getBody, sendHeaders, bodyChunk, end}
 
 -- the text of a request header's name: the listed one for a code, or as it is spelled out
-abbrev pub nameText : Name → List ℕ
+abbrev pub nameText : MessageName → List ℕ
 nameText (coded n) = nameFor NameList.RequestHeaders n
 nameText (spelled bytes) = bytes
 
 -- whether it is content-length, in capital or small letters
-abbrev pub namesLength : Name → Bool
+abbrev pub namesLength : MessageName → Bool
 namesLength name = sameName true (ascii "content-length") (nameText name)
 
 -- the values of the headers whose name is content-length

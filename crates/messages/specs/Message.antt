@@ -15,13 +15,13 @@ pub data Text : Type 0 where
   text : List ℕ → Text
 
 -- a header's name: a code of the direction's list, or spelled out
-pub data Name : Type 0 where
-  coded : ℕ → Name
-  spelled : List ℕ → Name
+pub data MessageName : Type 0 where
+  coded : ℕ → MessageName
+  spelled : List ℕ → MessageName
 
 -- a header
 pub record Header : Type 0 where
-  pub name : Name
+  pub name : MessageName
   pub value : Text
 
 -- what an attribute's code comes with: a string, an integer, or a name and a string
@@ -66,28 +66,28 @@ pub data Message : Type 0 where
   end : Bool → Message
 
 -- a message's kind
-abbrev pub kindOf : Message → Kind
-kindOf cping = Kind.CPing
-kindOf cpong = Kind.CPong
-kindOf (forward request) = Kind.Forward
-kindOf (body bytes) = Kind.Body
-kindOf (getBody asked) = Kind.GetBody
-kindOf (sendHeaders response) = Kind.SendHeaders
-kindOf (bodyChunk bytes) = Kind.BodyChunk
-kindOf (end reuse) = Kind.End
+abbrev pub messageKind : Message → Kind
+messageKind cping = Kind.CPing
+messageKind cpong = Kind.CPong
+messageKind (forward request) = Kind.Forward
+messageKind (body bytes) = Kind.Body
+messageKind (getBody asked) = Kind.GetBody
+messageKind (sendHeaders response) = Kind.SendHeaders
+messageKind (bodyChunk bytes) = Kind.BodyChunk
+messageKind (end reuse) = Kind.End
 
 -- which way it goes
-abbrev pub wayOf : Message → Direction
-wayOf m = directionOf (kindOf m)
+abbrev pub messageDirection : Message → Direction
+messageDirection m = directionOf (messageKind m)
 
 -- a string as a call takes it: whether it is null, and its bytes
 abbrev pub isNull : Text → Bool
 isNull null = true
 isNull (text bytes) = false
 
-abbrev pub bytesIn : Text → List ℕ
-bytesIn null = []
-bytesIn (text bytes) = bytes
+abbrev pub contentOf : Text → List ℕ
+contentOf null = []
+contentOf (text bytes) = bytes
 
 -- how many places the table needs for it: two for each header and each attribute
 abbrev pub placesFor : Message → ℕ
@@ -104,7 +104,7 @@ placesFor (end reuse) = 0
 abbrev pub Integer : ℕ → Type 0
 Integer n = n < 65536
 
-abbrev pub NameFits : Name → Type 0
+abbrev pub NameFits : MessageName → Type 0
 NameFits (coded n) = Integer n
 NameFits (spelled bytes) = Unit
 

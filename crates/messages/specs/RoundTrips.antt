@@ -11,7 +11,7 @@ use Rattle.connection.specs.declared.Connection.{Connection}
 use Rattle.writer.specs.Meaning.{Written}
 use Rattle.reader.specs.Meaning.{Told, accepted}
 use Rattle.reader.specs.Reading.{reading, tableAfter}
-use Rattle.messages.specs.Message.{Message, wayOf, Fit}
+use Rattle.messages.specs.Message.{Message, messageDirection, Fit}
 use Rattle.messages.specs.Bytes.{messageBytes}
 use Rattle.messages.specs.Writing.{wrote, writing}
 use Rattle.messages.specs.Shown.{messageShown}
@@ -32,4 +32,4 @@ pub record ReadBack (d : Direction) (c : Connection) (s table : List ℕ) (m : M
 pub record WrittenBack (d : Direction) (c : Connection) (s buffer : List ℕ) (m : Message) (n : ℕ) (next : Connection) : Type 0 where
   pub written : writing c m buffer ≡ wrote (record { size = n; connection = next }) (over buffer 0 s)
   pub fit : Fit m
-  pub way : wayOf m ≡ d
+  pub way : messageDirection m ≡ d

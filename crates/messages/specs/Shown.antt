@@ -16,18 +16,18 @@ use Rattle.packet.specs.declared.HeaderName.{HeaderName}
 use Rattle.reader.specs.Meaning.{Told}
 use Rattle.reading_laws.specs.Handed.{numberTold, placeTold}
 use Rattle.views.specs.View.{integerView, nullView, textView, nameView}
-use Rattle.messages.specs.Message.{Text, null, text, Name, coded, spelled, Header, Value, string, integer, pair, Attribute, Message, cping, cpong, forward, body, getBody, sendHeaders, bodyChunk, end}
+use Rattle.messages.specs.Message.{Text, null, text, MessageName, coded, spelled, Header, Value, string, integer, pair, Attribute, Message, cping, cpong, forward, body, getBody, sendHeaders, bodyChunk, end}
 
 -- the string at a place
 abbrev pub textShown : List ℕ → ℕ → Text
 textShown s at = pick (nullView s at) null (text (textView s at))
 
 -- the header's name at a place
-abbrev pub nameBy : List ℕ → ℕ → HeaderName → Name
+abbrev pub nameBy : List ℕ → ℕ → HeaderName → MessageName
 nameBy s at (HeaderName.Code n) = coded n
 nameBy s at HeaderName.Spelled = spelled (textView s at)
 
-abbrev pub nameShown : List ℕ → ℕ → Name
+abbrev pub nameShown : List ℕ → ℕ → MessageName
 nameShown s at = nameBy s at (nameView s at)
 
 -- the headers at these places, two for each

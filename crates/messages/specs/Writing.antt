@@ -6,7 +6,7 @@ use mathlib.Core.List.{List, [], _∷_}
 use Prim.Native.Nat.{ℕ}
 use lib.ListN.{length}
 use Rattle.connection.specs.declared.Connection.{Connection}
-use Rattle.fields.specs.Call.{Call, Outcome, refused, done, outcome, bufferAfter}
+use Rattle.building.specs.Call.{Call, Outcome, refused, done, outcome, bufferAfter}
 use Rattle.building_record.specs.declared.Building.{Building}
 use Rattle.pieces.specs.Fixed.{forwardCall, sendHeadersCall}
 use Rattle.pieces.specs.Header.{codedCall, spelledCall}
@@ -14,7 +14,7 @@ use Rattle.pieces.specs.Attribute.{textCall, integerCall, pairCall}
 use Rattle.writer.specs.Meaning.{Written}
 use Rattle.writer.specs.Sending.{cpingCall, cpongCall, bodyCall, chunkCall, getCall, endCall}
 use Rattle.closing.specs.Closing.{closeOutcome, closeBuffer}
-use Rattle.messages.specs.Message.{Text, Name, coded, spelled, Header, Value, string, integer, pair, Attribute, Request, Response, Message, cping, cpong, forward, body, getBody, sendHeaders, bodyChunk, end, isNull, bytesIn}
+use Rattle.messages.specs.Message.{Text, MessageName, coded, spelled, Header, Value, string, integer, pair, Attribute, Request, Response, Message, cping, cpong, forward, body, getBody, sendHeaders, bodyChunk, end, isNull, contentOf}
 use Rattle.messages.specs.Bytes.{numbersOf, nullsOf}
 
 -- what pieces come to: refused with a number, or a building record and the buffer in which its packet stands so far
@@ -32,9 +32,9 @@ abbrev pub piece : Call Building → List ℕ → Built
 piece call buffer = builtBy (bufferAfter call buffer) (outcome call (length buffer))
 
 -- a header's call, by its name
-abbrev pub headerCallBy : Building → List ℕ → Text → Name → Call Building
-headerCallBy r buffer value (coded n) = codedCall r buffer n (isNull value) (bytesIn value)
-headerCallBy r buffer value (spelled name) = spelledCall r buffer false name (isNull value) (bytesIn value)
+abbrev pub headerCallBy : Building → List ℕ → Text → MessageName → Call Building
+headerCallBy r buffer value (coded n) = codedCall r buffer n (isNull value) (contentOf value)
+headerCallBy r buffer value (spelled name) = spelledCall r buffer false name (isNull value) (contentOf value)
 
 -- a header added to what was built
 abbrev pub addHeader : Built → Header → Built
@@ -48,9 +48,9 @@ addHeaders before (header ∷ later) = addHeaders (addHeader before header) late
 
 -- an attribute's call, by its value
 abbrev pub attributeCallBy : Building → List ℕ → ℕ → Value → Call Building
-attributeCallBy r buffer code (string value) = textCall r buffer code (isNull value) (bytesIn value)
+attributeCallBy r buffer code (string value) = textCall r buffer code (isNull value) (contentOf value)
 attributeCallBy r buffer code (integer n) = integerCall r buffer code n
-attributeCallBy r buffer code (pair name value) = pairCall r buffer code false name (isNull value) (bytesIn value)
+attributeCallBy r buffer code (pair name value) = pairCall r buffer code false name (isNull value) (contentOf value)
 
 -- an attribute added to what was built
 abbrev pub addAttribute : Built → Attribute → Built
@@ -88,12 +88,12 @@ inPieces c begin headers attributes buffer = closeBuilt c (addAttributes (addHea
 -- the call for a Forward's fixed fields
 abbrev pub beginRequest : Request → Call Building
 beginRequest request =
-    forwardCall (numbersOf request) (nullsOf request) (bytesIn (request .protocol)) (bytesIn (request .uri)) (bytesIn (request .addr))
-    (bytesIn (request .host)) (bytesIn (request .name))
+    forwardCall (numbersOf request) (nullsOf request) (contentOf (request .protocol)) (contentOf (request .uri)) (contentOf (request .addr))
+    (contentOf (request .host)) (contentOf (request .name))
 
 -- and for a Send Headers'
 abbrev pub beginResponse : Response → Call Building
-beginResponse response = sendHeadersCall (response .status) (isNull (response .message)) (bytesIn (response .message))
+beginResponse response = sendHeadersCall (response .status) (isNull (response .message)) (contentOf (response .message))
 
 -- a message written into a buffer
 unfoldable pub writing : Connection → Message → List ℕ → Wrote

@@ -21,8 +21,8 @@ use Rattle.names.specs.Attribute.{attributeKind, isServed}
 use Rattle.names.specs.Header.{headerNames, isFound, unlistedFault, spelledFault}
 use Rattle.names.specs.Length.{contentLengthCode, isContentLength}
 use Rattle.names.specs.Names.{ascii, methodNames, requestNames, responseNames, attributeNames, namesIn, firstCode, ignoresCase, isListed, nameFor, letter, sameName, codeFrom, codeIn}
-use Rattle.names.specs.Row.{nameRoom, padded, bytesOf}
-use Rattle.names.specs.Private.{inSet, hasAll, placeOf}
+use Rattle.names.specs.Row.{nameRoom, padded, nameBytes}
+use Rattle.names.specs.Private.{inSet, hasAll, alphabetPlace}
 use Rattle.names.proofs.Rule.{values, agree}
 use Rattle.names.proofs.Rows.{all-short, name-room}
 use Rattle.names.proofs.Laws.{bytes-padded, same-length, same-first, name-from}
@@ -62,7 +62,7 @@ spelled-clear d text bytes e = go (isToken text) refl e
 
 -- no name for a code is longer than its room, and what is handed out has the name's bytes and no other
 pub name-length : (list : NameList) (n : ℕ)
-    → (length (nameFor list n) ≤ nameRoom) × (bytesOf (padded (nameFor list n)) ≡ nameFor list n)
+    → (length (nameFor list n) ≤ nameRoom) × (nameBytes (padded (nameFor list n)) ≡ nameFor list n)
 unfolding nameFor
 name-length list n = (go (leb (firstCode list) n), bytes-padded (nameFor list n))
   where
@@ -201,10 +201,10 @@ module _ (list : NameList) (text : List ℕ) where
   unlisted-length set has not-this =
       told-apart list text (inSet set) length (λ name. same-length (ignoresCase list) name text) has not-this
 
-  pub unlisted-letter : (set : ℕ) → hasAll set (map placeOf (namesIn list)) ≡ true → inSet set (placeOf text) ≡ false
+  pub unlisted-letter : (set : ℕ) → hasAll set (map alphabetPlace (namesIn list)) ≡ true → inSet set (alphabetPlace text) ≡ false
       → codeIn list text ≡ CodeFound.NotListed
   unlisted-letter set has not-this =
-      told-apart list text (inSet set) placeOf
+      told-apart list text (inSet set) alphabetPlace
       (λ name d. same-first (ignoresCase list) name text
       (λ q. d (sym (letter-place (ignoresCase list) (getD name 0 0))
       ∙ ap (λ (b : ℕ). b % 32) q

@@ -17,11 +17,11 @@ use Rattle.packet.specs.declared.Name.{Name}
 use Rattle.names.specs.declared.NameList.{NameList}
 use Rattle.names.specs.declared.CodeFound.{CodeFound}
 use Rattle.names.specs.Names.{methodNames, requestNames, responseNames, attributeNames, namesIn, firstCode, ignoresCase, isListed, nameFor, letter, sameName, codeFrom, codeIn}
-use Rattle.names.specs.Row.{nameRoom, rowOf, padded, bytesOf}
+use Rattle.names.specs.Row.{nameRoom, rowOf, padded, nameBytes}
 use Rattle.names.specs.Private.{firstOf}
 
 -- the bytes of a name that is handed out are the name's
-pub bytes-padded : (name : List ℕ) → bytesOf (padded name) ≡ name
+pub bytes-padded : (name : List ℕ) → nameBytes (padded name) ≡ name
 bytes-padded name = take-append-seam name (replicate (nameRoom - length name) 0)
 
 -- a name that is handed out, from its row and its length
@@ -103,10 +103,10 @@ module _ (list : NameList) (text : List ℕ) where
 
   -- the comparison with the name at a place, as the row of that place has it
   pub spelled-row : (k : ℕ) (ignoring : Bool) (row : Name) (t : Bool) → ignoring ≡ ignoresCase list
-      → row ≡ padded (getD (namesIn list) k []) → t ≡ sameName ignoring (bytesOf row) text
+      → row ≡ padded (getD (namesIn list) k []) → t ≡ sameName ignoring (nameBytes row) text
       → sameName (ignoresCase list) (getD (namesIn list) k []) text ≡ t
   spelled-row k ignoring row t i r h =
-      sym (h ∙ ap (λ (x : Name). sameName ignoring (bytesOf x) text) r
+      sym (h ∙ ap (λ (x : Name). sameName ignoring (nameBytes x) text) r
       ∙ ap (λ (x : List ℕ). sameName ignoring x text) (bytes-padded (getD (namesIn list) k []))
       ∙ ap (λ (x : Bool). sameName x (getD (namesIn list) k []) text) i)
 

@@ -5,16 +5,16 @@ use mathlib.Core.Bool.{Bool, true, false, not}
 use mathlib.Core.List.{List}
 use Prim.Native.Nat.{ℕ}
 use Rattle.wire.specs.Pick.{pick, both}
-use Rattle.wire.specs.Refusal.{none, nameWrong, attributeWrong, lengthWrong, isRefusal, isFault}
+use Rattle.wire.specs.Refusal.{none, nameWrong, attributeWrong, contentLengthWrong, isRefusal, isFault}
 use Rattle.packet.specs.declared.Direction.{Direction}
 use Rattle.names.specs.declared.length.Decimal.{Decimal}
 use Rattle.names.specs.declared.length.Declared.{Declared}
-use Rattle.names.specs.declared.length.Declaring.{Declaring}
+use Rattle.names.specs.declared.length.LengthRead.{LengthRead}
 use Rattle.names.specs.Names.{isListed, codeIn}
 use Rattle.names.specs.Token.{isToken}
 use Rattle.names.specs.Header.{headerNames, codeFault, isFound, isTransferEncoding, isRequest, unlistedFault, spelledFault}
 use Rattle.names.specs.Attribute.{attributeKind, mayRepeat, isServed, attributeFault}
-use Rattle.names.specs.Length.{decimalOf, asDeclared, declare}
+use Rattle.names.specs.Length.{decimalOf, decimalDeclared, lengthAfter}
 
 -- a choice between two faults is one
 fault-of : (t : Bool) (a b : ℕ) → isFault a ≡ true → isFault b ≡ true → isFault (pick t a b) ≡ true
@@ -30,10 +30,10 @@ code-fault direction n = fault-of (isListed (headerNames direction) n) none name
 pub spelled-fault : (direction : Direction) (text : List ℕ) → isFault (spelledFault direction text) ≡ true
 unfolding spelledFault unlistedFault
 spelled-fault direction text =
-    let unlisted = pick (both (isRequest direction) (isTransferEncoding text)) lengthWrong none in
+    let unlisted = pick (both (isRequest direction) (isTransferEncoding text)) contentLengthWrong none in
     let listed = isFound (codeIn (headerNames direction) text) in
     fault-of (isToken text) (pick listed nameWrong unlisted) nameWrong
-    (fault-of listed nameWrong unlisted refl (fault-of (both (isRequest direction) (isTransferEncoding text)) lengthWrong none refl refl)) refl
+    (fault-of listed nameWrong unlisted refl (fault-of (both (isRequest direction) (isTransferEncoding text)) contentLengthWrong none refl refl)) refl
 
 -- an attribute's code
 pub attribute-fault : (code : ℕ) (seen : Bool) → isFault (attributeFault code seen) ≡ true
@@ -43,16 +43,16 @@ attribute-fault code seen =
     fault-of (isServed (attributeKind code)) (pick again attributeWrong none) attributeWrong (fault-of again attributeWrong none refl refl) refl
 
 -- what a content-length declares, where it is refused
-abbrev pub DeclaringRefusal : Declaring → Type 0
-DeclaringRefusal (Declaring.Refused n) = isRefusal n ≡ true
-DeclaringRefusal (Declaring.Now declared) = Unit
+abbrev pub DeclaringRefusal : LengthRead → Type 0
+DeclaringRefusal (LengthRead.Refused n) = isRefusal n ≡ true
+DeclaringRefusal (LengthRead.Now declared) = Unit
 
-as-declared-refusal : (r : Decimal) → DeclaringRefusal (asDeclared r)
+as-declared-refusal : (r : Decimal) → DeclaringRefusal (decimalDeclared r)
 as-declared-refusal (Decimal.Value n) = tt
 as-declared-refusal Decimal.Bad = refl
 
 -- a content-length
-pub declare-refusal : (before : Declared) (null : Bool) (text : List ℕ) → DeclaringRefusal (declare before null text)
+pub declare-refusal : (before : Declared) (null : Bool) (text : List ℕ) → DeclaringRefusal (lengthAfter before null text)
 declare-refusal Declared.Absent true text = refl
 declare-refusal Declared.Absent false text = as-declared-refusal (decimalOf text)
 declare-refusal (Declared.Known n) null text = refl

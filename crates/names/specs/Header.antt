@@ -6,7 +6,7 @@ use mathlib.Core.List.{List}
 use Prim.Native.Nat.{ℕ}
 use lib.Dec.{eqb}
 use Rattle.wire.specs.Pick.{pick, both}
-use Rattle.wire.specs.Refusal.{none, nameWrong, lengthWrong}
+use Rattle.wire.specs.Refusal.{none, nameWrong, contentLengthWrong}
 use Rattle.packet.specs.declared.Direction.{Direction}
 use Rattle.names.specs.declared.NameList.{NameList}
 use Rattle.names.specs.declared.CodeFound.{CodeFound}
@@ -42,7 +42,7 @@ isRequest Direction.ToServer = false
 
 -- of the names that are not listed, transfer-encoding is 10 in a request
 unfoldable pub unlistedFault : Direction → List ℕ → ℕ
-unlistedFault direction text = pick (both (isRequest direction) (isTransferEncoding text)) lengthWrong none
+unlistedFault direction text = pick (both (isRequest direction) (isTransferEncoding text)) contentLengthWrong none
 
 -- a spelled name that is no token is 8, and so is a listed one
 unfoldable pub spelledFault : Direction → List ℕ → ℕ

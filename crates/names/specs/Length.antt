@@ -7,16 +7,16 @@ use Prim.Native.Nat.{ℕ, _+_, _-_, _*_}
 use lib.Dec.{leb, eqb}
 use lib.ListN.{length}
 use Rattle.wire.specs.Pick.{pick, between}
-use Rattle.wire.specs.Refusal.{lengthWrong}
+use Rattle.wire.specs.Refusal.{contentLengthWrong}
 use Rattle.names.specs.declared.length.Decimal.{Decimal}
 use Rattle.names.specs.declared.length.Declared.{Declared}
-use Rattle.names.specs.declared.length.Declaring.{Declaring}
+use Rattle.names.specs.declared.length.LengthRead.{LengthRead}
 
 -- the greatest length that can be declared
 abbrev pub maxDeclared : ℕ
 maxDeclared = 4294967295
 
--- the most digits that declare it
+-- the most digits that lengthAfter it
 abbrev pub maxDigits : ℕ
 maxDigits = 10
 
@@ -34,9 +34,9 @@ unfoldable pub decimalOf : List ℕ → Decimal
 decimalOf text = pick (between 1 maxDigits (length text)) (digits 0 text) Decimal.Bad
 
 -- what a number declares; a bad one is 10
-abbrev pub asDeclared : Decimal → Declaring
-asDeclared (Decimal.Value n) = Declaring.Now (Declared.Known n)
-asDeclared Decimal.Bad = Declaring.Refused lengthWrong
+abbrev pub decimalDeclared : Decimal → LengthRead
+decimalDeclared (Decimal.Value n) = LengthRead.Now (Declared.Known n)
+decimalDeclared Decimal.Bad = LengthRead.Refused contentLengthWrong
 
 -- the code of content-length in a request
 abbrev pub contentLengthCode : ℕ
@@ -47,9 +47,9 @@ abbrev pub isContentLength : ℕ → Bool
 isContentLength n = eqb n contentLengthCode
 
 -- what a content-length declares, by what was declared before it: once, and not by null
-abbrev pub declare : Declared → Bool → List ℕ → Declaring
-declare Declared.Absent null text = pick null (Declaring.Refused lengthWrong) (asDeclared (decimalOf text))
-declare (Declared.Known n) null text = Declaring.Refused lengthWrong
+abbrev pub lengthAfter : Declared → Bool → List ℕ → LengthRead
+lengthAfter Declared.Absent null text = pick null (LengthRead.Refused contentLengthWrong) (decimalDeclared (decimalOf text))
+lengthAfter (Declared.Known n) null text = LengthRead.Refused contentLengthWrong
 
 -- the length then; 0 where none was declared
 abbrev pub declaredLength : Declared → ℕ

@@ -37,8 +37,8 @@ abbrev pub hasAll : ℕ → List ℕ → Bool
 hasAll set numbers = all (inSet set) numbers
 
 -- the place of a text's first letter in the alphabet, the same for a capital and a small one
-abbrev pub placeOf : List ℕ → ℕ
-placeOf text = getD text 0 0 % 32
+abbrev pub alphabetPlace : List ℕ → ℕ
+alphabetPlace text = getD text 0 0 % 32
 
 -- flags that say of each of the 256 bytes whether it is a token byte
 unfoldable pub TokenFlags : List Bool → Type 0

@@ -18,5 +18,5 @@ abbrev pub padded : List ℕ → Name
 padded name = record { bytes = rowOf name; len = length name }
 
 -- the bytes of a name that was handed out
-abbrev pub bytesOf : Name → List ℕ
-bytesOf name = take (name .len) (name .bytes)
+abbrev pub nameBytes : Name → List ℕ
+nameBytes name = take (name .len) (name .bytes)

@@ -4,7 +4,7 @@ ghost use mathlib.Core.Bool.{true, false};
 ghost use mathlib.Core.List.{map};
 ghost use Prim.Native.Nat.{_<_};
 ghost use lib.ListN.{length};
-ghost use Rattle.names.specs.Private.{TokenFlags, inSet, hasAll, placeOf};
+ghost use Rattle.names.specs.Private.{TokenFlags, inSet, hasAll, alphabetPlace};
 ghost use Rattle.names.specs.Names.{namesIn, codeIn};
 ghost use Rattle.names.specs.Header.{beginsCode, headerNames, codeFault, isFound, isTransferEncoding, unlistedFault, spelledFault};
 use crate::CodeFound;
@@ -88,7 +88,7 @@ fn lengths_of(direction: Direction) -> u32
 
 // A set of all the letters that they begin with.
 fn letters_of(direction: Direction) -> u32
-    ensures { λ r. ⌜ hasAll r (map placeOf (namesIn (headerNames direction))) ≡ true ⌝ }
+    ensures { λ r. ⌜ hasAll r (map alphabetPlace (namesIn (headerNames direction))) ≡ true ⌝ }
 {
     match direction {
         Direction::ToContainer => REQUEST_LETTERS,
@@ -156,7 +156,7 @@ fn unlisted_fault(direction: Direction, text: &[u8]) -> u8
         Direction::ToServer => refusal::NONE,
         Direction::ToContainer => {
             if is_transfer_encoding(text) {
-                return refusal::LENGTH_WRONG;
+                return refusal::CONTENT_LENGTH_WRONG;
             }
             refusal::NONE
         }

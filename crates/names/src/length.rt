@@ -1,6 +1,6 @@
 // The declared length of a request's body.
 ghost use mathlib.Core.Path.{_≡_};
-ghost use Rattle.names.specs.Length.{isContentLength, decimalOf, declare, declaredLength};
+ghost use Rattle.names.specs.Length.{isContentLength, decimalOf, lengthAfter, declaredLength};
 use wire::refusal;
 
 // Whether a request header's code is that of content-length.
@@ -23,7 +23,7 @@ pub enum Declared {
 }
 
 // What a content-length's value makes of it.
-pub enum Declaring {
+pub enum LengthRead {
     Refused(u8),
     Now(Declared),
 }
@@ -58,25 +58,25 @@ pub fn decimal_of(text: &[u8]) -> Decimal
 }
 
 // What is declared after a content-length's value. A second one and null are refused.
-pub fn declare_length(before: Declared, text: &[u8], null: bool) -> Declaring
-    ensures { λ r. ⌜ r ≡ declare before null (now (text .entry)) ⌝ }
+pub fn length_after(before: Declared, text: &[u8], null: bool) -> LengthRead
+    ensures { λ r. ⌜ r ≡ lengthAfter before null (now (text .entry)) ⌝ }
 {
     match before {
-        Declared::Known(_) => Declaring::Refused(refusal::LENGTH_WRONG),
+        Declared::Known(_) => LengthRead::Refused(refusal::CONTENT_LENGTH_WRONG),
         Declared::Absent => first_length(text, null),
     }
 }
 
 // What the first content-length declares.
-fn first_length(text: &[u8], null: bool) -> Declaring
-    ensures { λ r. ⌜ r ≡ declare Declared.Absent null (now (text .entry)) ⌝ }
+fn first_length(text: &[u8], null: bool) -> LengthRead
+    ensures { λ r. ⌜ r ≡ lengthAfter Declared.Absent null (now (text .entry)) ⌝ }
 {
     if null {
-        return Declaring::Refused(refusal::LENGTH_WRONG);
+        return LengthRead::Refused(refusal::CONTENT_LENGTH_WRONG);
     }
     match decimal_of(text) {
-        Decimal::Bad => Declaring::Refused(refusal::LENGTH_WRONG),
-        Decimal::Value(n) => Declaring::Now(Declared::Known(n)),
+        Decimal::Bad => LengthRead::Refused(refusal::CONTENT_LENGTH_WRONG),
+        Decimal::Value(n) => LengthRead::Now(Declared::Known(n)),
     }
 }
 

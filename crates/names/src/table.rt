@@ -5,7 +5,7 @@ ghost use mathlib.Core.List.{[]};
 ghost use Prim.Native.Nat.{_<_};
 ghost use lib.ListN.{getD, length};
 ghost use Rattle.names.specs.Names.{methodNames, requestNames, responseNames, attributeNames, namesIn, firstCode, ignoresCase, isListed, nameFor, letter, sameName, codeIn};
-ghost use Rattle.names.specs.Row.{rowOf, padded, bytesOf};
+ghost use Rattle.names.specs.Row.{rowOf, padded, nameBytes};
 ghost use Rattle.names.specs.Private.{lengthsIn, firstOf, firstsIn, mostNames};
 use crate::CodeFound;
 use crate::NameList;
@@ -286,7 +286,7 @@ fn compared(b: u8, ignoring: bool) -> u8
 
 // Whether a text spells a name. The loop has no early way out.
 pub fn spells(name: Name, text: &[u8], ignoring: bool) -> bool
-    ensures { λ r. ⌜ r ≡ sameName ignoring (bytesOf name) (now (text .entry)) ⌝ }
+    ensures { λ r. ⌜ r ≡ sameName ignoring (nameBytes name) (now (text .entry)) ⌝ }
 {
     let bytes = name.bytes;
     let mut n = name.len;

@@ -19,7 +19,7 @@ use Rattle.wire.specs.Facts.{NumberInside, BooleanInside, StringInside}
 use Rattle.wire.proofs.Field.{byte-inside, integer-inside, boolean-inside, string-inside}
 use Rattle.connection.specs.Connection.{maxPacket}
 use Rattle.payload.specs.declared.field.FieldRead.{FieldRead}
-use Rattle.payload.specs.Sequence.{behind, stringField, stringFieldAt, stringAfter, booleanField, booleanFieldAt, booleanAfter, numberField, anyIntegerAfter, bounded, byteAfter, integerAfter, valueOf}
+use Rattle.payload.specs.Sequence.{behind, stringAsField, stringFieldAt, stringAfter, booleanAsField, booleanFieldAt, booleanAfter, numberAsField, anyIntegerAfter, bounded, byteAfter, integerAfter, fieldNumber}
 use Rattle.payload.specs.Facts.{FieldInside}
 use Rattle.payload.specs.Private.{Within, Counts}
 
@@ -29,7 +29,7 @@ behind-inside size read (FieldRead.Refused n) h = tt
 behind-inside size read (FieldRead.Field at value next) h = h next
 
 -- a string that is read as a field lies inside
-string-field-inside : (size at : ℕ) (r : StringRead) → StringInside size at r → FieldInside size (stringField at r)
+string-field-inside : (size at : ℕ) (r : StringRead) → StringInside size at r → FieldInside size (stringAsField at r)
 string-field-inside size at (StringRead.Refused n) h = tt
 string-field-inside size at (StringRead.Null next) h = (omega arith, h .1)
 string-field-inside size at (StringRead.Text start len next) h = (omega arith, h .1 .1)
@@ -42,7 +42,7 @@ string-after-inside s field before =
     (λ at. string-field-inside (length s) at (stringAt s at (isOptional field)) (string-inside s at (isOptional field) (stringAt s at (isOptional field)) refl))
 
 -- a boolean that is read as a field lies inside
-boolean-field-inside : (size at : ℕ) (r : BooleanRead) → BooleanInside size at r → FieldInside size (booleanField at r)
+boolean-field-inside : (size at : ℕ) (r : BooleanRead) → BooleanInside size at r → FieldInside size (booleanAsField at r)
 boolean-field-inside size at (BooleanRead.Refused n) h = tt
 boolean-field-inside size at (BooleanRead.Boolean value next) h = (omega arith, h .1)
 
@@ -54,7 +54,7 @@ boolean-after-inside s before =
     (λ at. boolean-field-inside (length s) at (booleanAt s at) (boolean-inside s at (booleanAt s at) refl))
 
 -- a number that may be any lies inside, read as a field
-number-field-inside : (size at width : ℕ) (r : NumberRead) → 0 < width → NumberInside size at width r → FieldInside size (numberField at r)
+number-field-inside : (size at width : ℕ) (r : NumberRead) → 0 < width → NumberInside size at width r → FieldInside size (numberAsField at r)
 number-field-inside size at width (NumberRead.Refused n) some h = tt
 number-field-inside size at width (NumberRead.Number value next) some h = (omega arith, h .1)
 
@@ -62,7 +62,7 @@ number-field-inside size at width (NumberRead.Number value next) some h = (omega
 pub any-integer-after-inside : (s : List ℕ) (before : FieldRead) → FieldInside (length s) (anyIntegerAfter s before)
 unfolding anyIntegerAfter
 any-integer-after-inside s before =
-    behind-inside (length s) (λ at. numberField at (integerAt s at)) before
+    behind-inside (length s) (λ at. numberAsField at (integerAt s at)) before
     (λ at. number-field-inside (length s) at 2 (integerAt s at) (omega arith) (integer-inside s at (integerAt s at) refl))
 
 -- a number from `low` to `high` lies inside, read as a field
@@ -119,12 +119,12 @@ integer-counts s low high fault before r e = subst (Counts high) (sym e) (go bef
     go (FieldRead.Field at value next) = bounded-counts next low high fault (integerAt s next)
 
 -- the number of such a field is at most that, also where it is told as 0 because it is refused
-pub counts-value : (most : ℕ) (f : FieldRead) (value : ℕ) → value ≡ valueOf f → Counts most f → value ≤ most
+pub counts-value : (most : ℕ) (f : FieldRead) (value : ℕ) → value ≡ fieldNumber f → Counts most f → value ≤ most
 counts-value most (FieldRead.Refused n) value e h = omega arith
 counts-value most (FieldRead.Field at number next) value e h = omega arith
 
 -- so the number that an integer behind a field tells is at most `high`
-pub integer-most : (s : List ℕ) (low high fault : ℕ) (before : FieldRead) → valueOf (integerAfter s low high fault before) ≤ high
+pub integer-most : (s : List ℕ) (low high fault : ℕ) (before : FieldRead) → fieldNumber (integerAfter s low high fault before) ≤ high
 integer-most s low high fault before =
     let f = integerAfter s low high fault before in
-    counts-value high f (valueOf f) refl (integer-counts s low high fault before f refl)
+    counts-value high f (fieldNumber f) refl (integer-counts s low high fault before f refl)

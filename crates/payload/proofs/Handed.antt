@@ -11,7 +11,7 @@ use borrow.Author.Tests.{eqb-true}
 use lib.Dec.{leb, ltb, eqb}
 use lib.ListN.{length, getD}
 use Rattle.wire.specs.Pick.{pick, oneOf, between}
-use Rattle.wire.specs.Refusal.{none, outOfRange, cutShort, stringWrong, tooMany, leftOver, sizeWrong}
+use Rattle.wire.specs.Refusal.{none, outOfRange, cutShort, stringWrong, tooMany, leftOver, bodySizeWrong}
 use Rattle.wire.specs.Bytes.{part}
 use Rattle.wire.specs.Field.{byteAt, integerAt, booleanAt, stringAt, isOptional}
 use Rattle.packet.specs.declared.Direction.{Direction}
@@ -24,13 +24,13 @@ use Rattle.names.specs.Length.{declaredLength}
 use Rattle.names.specs.Attribute.{attributeKind, attributeFault}
 use Rattle.packet.specs.declared.AttributeKind.{AttributeKind}
 use Rattle.names.specs.declared.length.Declared.{Declared}
-use Rattle.names.specs.declared.length.Declaring.{Declaring}
+use Rattle.names.specs.declared.length.LengthRead.{LengthRead}
 use Rattle.places.specs.Entries.{Entries, ended, maxHeaders, maxAttributes}
-use Rattle.headers.specs.Headers.{nameAt, declares, declaredBy, valued, valueOf as headerValueOf, valueAt as headerValueAt, headerOf, headerAt, andThen as headerThen, headersAt}
+use Rattle.headers.specs.Headers.{nameAt, declares, declaredAfter, headerValued, headerValueOf, headerValueAt, headerOf, headerAt, headerThen, headersAt}
 use Rattle.headers.specs.declared.NameRead.{NameRead}
 use Rattle.headers.specs.declared.HeaderRead.{HeaderRead}
 use Rattle.headers.specs.declared.HeadersRead.{HeadersRead}
-use Rattle.attributes.specs.Attributes.{lastMark, textValueOf, textValueAt, integerValueOf, integerValueAt, pairValueOf, pairValueAt, valueAt, withValue, codedAt, attributeAt, andThen, attributesAt}
+use Rattle.attributes.specs.Attributes.{lastMark, textValueOf, textValueAt, integerValueOf, integerValueAt, pairValueOf, pairValueAt, attributeValueAt, withValue, codedAt, attributeAt, attributeThen, attributesAt}
 use Rattle.attributes.specs.declared.ValueRead.{ValueRead}
 use Rattle.attributes.specs.declared.AttributeRead.{AttributeRead}
 use Rattle.attributes.specs.declared.AttributesRead.{AttributesRead}
@@ -43,7 +43,7 @@ use Rattle.payload.specs.declared.field.FieldRead.{FieldRead}
 use Rattle.payload.specs.declared.lists.ListsRead.{ListsRead}
 use Rattle.payload.specs.declared.found.PacketRead.{PacketRead}
 use Rattle.payload.specs.Code.{payloadPlace, afterCodePlace}
-use Rattle.payload.specs.Sequence.{afterCode, stringField, stringFieldAt, stringAfter, booleanNumber, booleanField, booleanFieldAt, booleanAfter, numberField, anyIntegerAfter, bounded, byteAfter, integerAfter, placeOf, valueOf}
+use Rattle.payload.specs.Sequence.{afterCode, stringAsField, stringFieldAt, stringAfter, booleanNumber, booleanAsField, booleanFieldAt, booleanAfter, numberAsField, anyIntegerAfter, bounded, byteAfter, integerAfter, fieldPlace, fieldNumber}
 use Rattle.payload.specs.Packet.{partFrom, finished}
 use Rattle.payload.specs.End.{endOf, endAt}
 use Rattle.payload.specs.GetBody.{getOf, getAt}
@@ -52,8 +52,8 @@ use Rattle.payload.specs.BodyChunk.{chunkStart, chunkOf, chunkBy, chunkA
 use Rattle.payload.specs.Lists.{headersAfter, listsOf, attributesBehind, behindHeaders, listsAt}
 use Rattle.payload.specs.Forward.{firstMethod, lastMethod, forwardOf, forwardAt}
 use Rattle.payload.specs.SendHeaders.{leastStatus, greatestStatus, sendHeadersOf, sendHeadersAt}
-use Rattle.payload.specs.Kinds.{packetAt, kindIn}
-use Rattle.payload.specs.Handed.{StringEnds, NumberEnds, NameEnds, StringThere, HeadersHanded, ValueThere, AttributesHanded, ListsHanded, ForwardHanded, HeadHanded, bodySizeRead, BodyHanded, ChunkHanded, GetHanded, EndHanded, BareHanded, PacketHanded}
+use Rattle.payload.specs.Kinds.{packetAt, packetKind}
+use Rattle.payload.specs.Handed.{StringEnds, NumberEnds, NameEnds, StringThere, HeadersHanded, ValueThere, AttributesHanded, ListsHanded, ForwardHanded, SendHeadersHanded, bodySizeRead, BodyHanded, ChunkHanded, GetHanded, EndHanded, BareHanded, PacketHanded}
 use Rattle.payload.proofs.Laws.{body-inside}
 use Rattle.payload.proofs.Below.{attributes-many}
 use Rattle.payload.proofs.Listing.{HeadersPlaces, headers-places}
@@ -65,20 +65,20 @@ HeaderThere d s at (HeaderRead.Refused n) = Unit
 HeaderThere d s at (HeaderRead.Header value declared next) = NameEnds value (nameAt d s at) × StringThere s StringField.HeaderValue value next
 
 -- a header whose name ends where its value is read
-value-there : (d : Direction) (s : List ℕ) (at value : ℕ) (declaring : Bool) (before : Declared) → NameEnds value (nameAt d s at)
-    → HeaderThere d s at (headerValueAt s value declaring before)
+value-there : (d : Direction) (s : List ℕ) (at value : ℕ) (isLength : Bool) (before : Declared) → NameEnds value (nameAt d s at)
+    → HeaderThere d s at (headerValueAt s value isLength before)
 unfolding headerValueAt
-value-there d s at value declaring before named = go (stringAt s value (isOptional StringField.HeaderValue)) refl
+value-there d s at value isLength before named = go (stringAt s value (isOptional StringField.HeaderValue)) refl
   where
-    by : (next : ℕ) → StringThere s StringField.HeaderValue value next → (r : Declaring) → HeaderThere d s at (valued value next r)
-    by next h (Declaring.Refused n) = tt
-    by next h (Declaring.Now declared) = (named, h)
+    by : (next : ℕ) → StringThere s StringField.HeaderValue value next → (r : LengthRead) → HeaderThere d s at (headerValued value next r)
+    by next h (LengthRead.Refused n) = tt
+    by next h (LengthRead.Now declared) = (named, h)
 
-    go : (r : StringRead) → stringAt s value (isOptional StringField.HeaderValue) ≡ r → HeaderThere d s at (headerValueOf s value declaring before r)
+    go : (r : StringRead) → stringAt s value (isOptional StringField.HeaderValue) ≡ r → HeaderThere d s at (headerValueOf s value isLength before r)
     go (StringRead.Refused n) e = tt
-    go (StringRead.Null next) e = by next (subst (StringEnds next) (sym e) refl) (declaredBy declaring before true [])
+    go (StringRead.Null next) e = by next (subst (StringEnds next) (sym e) refl) (declaredAfter isLength before true [])
     go (StringRead.Text start len next) e =
-        by next (subst (StringEnds next) (sym e) refl) (declaredBy declaring before false (part s start len))
+        by next (subst (StringEnds next) (sym e) refl) (declaredAfter isLength before false (part s start len))
 
 -- a header, where it is read at a place
 header-there : (d : Direction) (s : List ℕ) (at : ℕ) (before : Declared) → HeaderThere d s at (headerAt d s at before)
@@ -159,7 +159,7 @@ pair-right s at = go (stringAt s at (isOptional StringField.AttributeName)) refl
         text-right s AttributeKind.Pair at next (λ end h. (subst (StringEnds next) (sym e) refl, h))
 
 -- a value of any kind
-value-right : (s : List ℕ) (kind : AttributeKind) (at : ℕ) → ValueRight s kind at (valueAt s at kind)
+value-right : (s : List ℕ) (kind : AttributeKind) (at : ℕ) → ValueRight s kind at (attributeValueAt s at kind)
 value-right s AttributeKind.NotServed at = tt
 value-right s AttributeKind.Text at = text-right s AttributeKind.Text at at (λ end h. (refl, h))
 value-right s AttributeKind.Integer at = integer-right s at
@@ -186,14 +186,14 @@ attribute-there s at full seen =
         (pick t
         (pick u (AttributeRead.Last (at + 1))
         (pick v (AttributeRead.Refused tooMany)
-        (pick w (withValue (getD s at 0) (valueAt s (at + 1) (attributeKind (getD s at 0))))
+        (pick w (withValue (getD s at 0) (attributeValueAt s (at + 1) (attributeKind (getD s at 0))))
         (AttributeRead.Refused (attributeFault (getD s at 0) (seen (getD s at 0)))))))
         (AttributeRead.Refused cutShort))
     go false u v w e = tt
     go true true v w e = (eqb-true (getD s at 0) lastMark e, refl)
     go true false true w e = tt
     go true false false true e =
-        by (valueAt s (at + 1) (attributeKind (getD s at 0))) (value-right s (attributeKind (getD s at 0)) (at + 1))
+        by (attributeValueAt s (at + 1) (attributeKind (getD s at 0))) (value-right s (attributeKind (getD s at 0)) (at + 1))
     go true false false false e = tt
 
 -- attributes with these places, where none is refused
@@ -210,7 +210,7 @@ attribute-front s at code value next places (AttributesRead.Attributes count end
 -- an attribute and the later ones, if what is later is right
 attributes-more : (s : List ℕ) (at count : ℕ) (r : AttributeRead) (later : ℕ → ℕ → Entries AttributesRead) → AttributeThere s at r
     → ((code next : ℕ) → AttributesTo s next (later code next .places) (later code next .end))
-    → AttributesTo s at (andThen at count r later .places) (andThen at count r later .end)
+    → AttributesTo s at (attributeThen at count r later .places) (attributeThen at count r later .end)
 attributes-more s at count (AttributeRead.Refused n) later h so = tt
 attributes-more s at count (AttributeRead.Last next) later h so = h
 attributes-more s at count (AttributeRead.Attribute code value next) later h so =
@@ -240,75 +240,75 @@ FieldEnds end (FieldRead.Field at value next) = next ≡ end
 
 -- a string that is read behind a field: it is read where that field ends
 string-behind : (s : List ℕ) (field : StringField) (before : FieldRead) (end : ℕ) → FieldEnds end (stringAfter s field before)
-    → FieldEnds (placeOf (stringAfter s field before) .0) before × StringThere s field (placeOf (stringAfter s field before) .0) end
+    → FieldEnds (fieldPlace (stringAfter s field before) .0) before × StringThere s field (fieldPlace (stringAfter s field before) .0) end
 unfolding stringAfter stringFieldAt
 string-behind s field (FieldRead.Refused n) end h = absurd h
 string-behind s field (FieldRead.Field from value at) end h = go (stringAt s at (isOptional field)) refl h
   where
-    go : (r : StringRead) → stringAt s at (isOptional field) ≡ r → FieldEnds end (stringField at r)
-        → (at ≡ placeOf (stringField at r) .0) × StringThere s field (placeOf (stringField at r) .0) end
+    go : (r : StringRead) → stringAt s at (isOptional field) ≡ r → FieldEnds end (stringAsField at r)
+        → (at ≡ fieldPlace (stringAsField at r) .0) × StringThere s field (fieldPlace (stringAsField at r) .0) end
     go (StringRead.Refused n) e q = absurd q
     go (StringRead.Null next) e q = (refl, subst (StringEnds end) (sym e) q)
     go (StringRead.Text start len next) e q = (refl, subst (StringEnds end) (sym e) q)
 
 -- a number as a field: it is what is read at its place
 bounded-ends : (at low high fault end : ℕ) (r : NumberRead) → FieldEnds end (bounded at low high fault r)
-    → (at ≡ placeOf (bounded at low high fault r) .0) × (r ≡ NumberRead.Number (valueOf (bounded at low high fault r)) end)
+    → (at ≡ fieldPlace (bounded at low high fault r) .0) × (r ≡ NumberRead.Number (fieldNumber (bounded at low high fault r)) end)
 bounded-ends at low high fault end (NumberRead.Refused n) h = absurd h
 bounded-ends at low high fault end (NumberRead.Number value next) h = go (between low high value) h
   where
     go : (t : Bool) → FieldEnds end (pick t (FieldRead.Field at value next) (FieldRead.Refused fault))
-        → (at ≡ placeOf (pick t (FieldRead.Field at value next) (FieldRead.Refused fault)) .0)
-        × (NumberRead.Number value next ≡ NumberRead.Number (valueOf (pick t (FieldRead.Field at value next) (FieldRead.Refused fault))) end)
+        → (at ≡ fieldPlace (pick t (FieldRead.Field at value next) (FieldRead.Refused fault)) .0)
+        × (NumberRead.Number value next ≡ NumberRead.Number (fieldNumber (pick t (FieldRead.Field at value next) (FieldRead.Refused fault))) end)
     go true q = (refl, ap (NumberRead.Number value) q)
     go false q = absurd q
 
 -- a byte that is read behind a field: it is what is read where that field ends
 byte-behind : (s : List ℕ) (low high fault : ℕ) (before : FieldRead) (end : ℕ) → FieldEnds end (byteAfter s low high fault before)
     → (let f = byteAfter s low high fault before in
-    FieldEnds (placeOf f .0) before × (byteAt s (placeOf f .0) ≡ NumberRead.Number (valueOf f) end))
+    FieldEnds (fieldPlace f .0) before × (byteAt s (fieldPlace f .0) ≡ NumberRead.Number (fieldNumber f) end))
 unfolding byteAfter
 byte-behind s low high fault (FieldRead.Refused n) end h = absurd h
 byte-behind s low high fault (FieldRead.Field from value at) end h =
     let b = bounded-ends at low high fault end (byteAt s at) h in
     let f = bounded at low high fault (byteAt s at) in
-    (b .0, subst (λ (p : ℕ). byteAt s p ≡ NumberRead.Number (valueOf f) end) (b .0) (b .1))
+    (b .0, subst (λ (p : ℕ). byteAt s p ≡ NumberRead.Number (fieldNumber f) end) (b .0) (b .1))
 
 -- so is an integer
 integer-behind : (s : List ℕ) (low high fault : ℕ) (before : FieldRead) (end : ℕ) → FieldEnds end (integerAfter s low high fault before)
     → (let f = integerAfter s low high fault before in
-    FieldEnds (placeOf f .0) before × (integerAt s (placeOf f .0) ≡ NumberRead.Number (valueOf f) end))
+    FieldEnds (fieldPlace f .0) before × (integerAt s (fieldPlace f .0) ≡ NumberRead.Number (fieldNumber f) end))
 unfolding integerAfter
 integer-behind s low high fault (FieldRead.Refused n) end h = absurd h
 integer-behind s low high fault (FieldRead.Field from value at) end h =
     let b = bounded-ends at low high fault end (integerAt s at) h in
     let f = bounded at low high fault (integerAt s at) in
-    (b .0, subst (λ (p : ℕ). integerAt s p ≡ NumberRead.Number (valueOf f) end) (b .0) (b .1))
+    (b .0, subst (λ (p : ℕ). integerAt s p ≡ NumberRead.Number (fieldNumber f) end) (b .0) (b .1))
 
 -- so is an integer that may be any
 any-integer-behind : (s : List ℕ) (before : FieldRead) (end : ℕ) → FieldEnds end (anyIntegerAfter s before)
     → (let f = anyIntegerAfter s before in
-    FieldEnds (placeOf f .0) before × (integerAt s (placeOf f .0) ≡ NumberRead.Number (valueOf f) end))
+    FieldEnds (fieldPlace f .0) before × (integerAt s (fieldPlace f .0) ≡ NumberRead.Number (fieldNumber f) end))
 unfolding anyIntegerAfter
 any-integer-behind s (FieldRead.Refused n) end h = absurd h
 any-integer-behind s (FieldRead.Field from value at) end h = go (integerAt s at) refl h
   where
-    go : (r : NumberRead) → integerAt s at ≡ r → FieldEnds end (numberField at r)
-        → (at ≡ placeOf (numberField at r) .0) × (integerAt s (placeOf (numberField at r) .0) ≡ NumberRead.Number (valueOf (numberField at r)) end)
+    go : (r : NumberRead) → integerAt s at ≡ r → FieldEnds end (numberAsField at r)
+        → (at ≡ fieldPlace (numberAsField at r) .0) × (integerAt s (fieldPlace (numberAsField at r) .0) ≡ NumberRead.Number (fieldNumber (numberAsField at r)) end)
     go (NumberRead.Refused n) e q = absurd q
     go (NumberRead.Number number next) e q = (refl, e ∙ ap (NumberRead.Number number) q)
 
 -- so is a boolean
 boolean-behind : (s : List ℕ) (before : FieldRead) (end : ℕ) → FieldEnds end (booleanAfter s before)
     → (let f = booleanAfter s before in
-    FieldEnds (placeOf f .0) before × (booleanAt s (placeOf f .0) ≡ BooleanRead.Boolean (eqb (valueOf f) (booleanNumber true)) end))
+    FieldEnds (fieldPlace f .0) before × (booleanAt s (fieldPlace f .0) ≡ BooleanRead.Boolean (eqb (fieldNumber f) (booleanNumber true)) end))
 unfolding booleanAfter booleanFieldAt
 boolean-behind s (FieldRead.Refused n) end h = absurd h
 boolean-behind s (FieldRead.Field from value at) end h = go (booleanAt s at) refl h
   where
-    go : (r : BooleanRead) → booleanAt s at ≡ r → FieldEnds end (booleanField at r)
-        → (at ≡ placeOf (booleanField at r) .0)
-        × (booleanAt s (placeOf (booleanField at r) .0) ≡ BooleanRead.Boolean (eqb (valueOf (booleanField at r)) (booleanNumber true)) end)
+    go : (r : BooleanRead) → booleanAt s at ≡ r → FieldEnds end (booleanAsField at r)
+        → (at ≡ fieldPlace (booleanAsField at r) .0)
+        × (booleanAt s (fieldPlace (booleanAsField at r) .0) ≡ BooleanRead.Boolean (eqb (fieldNumber (booleanAsField at r)) (booleanNumber true)) end)
     go (BooleanRead.Refused n) e q = absurd q
     go (BooleanRead.Boolean true next) e q = (refl, e ∙ ap (BooleanRead.Boolean true) q)
     go (BooleanRead.Boolean false next) e q = (refl, e ∙ ap (BooleanRead.Boolean false) q)
@@ -358,7 +358,7 @@ attributes-last s declared at = go (attributesAt s at maxAttributes [] .end) ref
 -- the lists behind a count, where they are read
 abbrev ListsTo : List ℕ → FieldRead → List ℕ → ListsRead → Type 0
 ListsTo s count places (ListsRead.Refused n) = Unit
-ListsTo s count places (ListsRead.Lists declared attributes) = (at : ℕ) × FieldEnds at count × ListsHanded s at (valueOf count) attributes places
+ListsTo s count places (ListsRead.Lists declared attributes) = (at : ℕ) × FieldEnds at count × ListsHanded s at (fieldNumber count) attributes places
 
 -- they are read from where the count ends
 lists-to : (s : List ℕ) (count : FieldRead) → ListsTo s count (listsAt s count .places) (listsAt s count .end)
@@ -438,26 +438,26 @@ module _ (s : List ℕ) where
   forward-found f places (ListsRead.Refused n) h e = let z : _≡_ {A = ℕ} 0 1 = cc in absurd (omega arith)
   forward-found f places (ListsRead.Lists declared attributes) h e =
       let count = integer-behind s 0 maxHeaders tooMany sslRead (h .0) (h .1) in
-      let ssl = boolean-behind s portRead (placeOf countRead .0) (count .0) in
-      let port = any-integer-behind s nameRead (placeOf sslRead .0) (ssl .0) in
-      let name = string-behind s StringField.ServerName hostRead (placeOf portRead .0) (port .0) in
-      let host = string-behind s StringField.RemoteHost addrRead (placeOf nameRead .0) (name .0) in
-      let addr = string-behind s StringField.RemoteAddr uriRead (placeOf hostRead .0) (host .0) in
-      let uri = string-behind s StringField.ReqUri protocolRead (placeOf addrRead .0) (addr .0) in
-      let protocol = string-behind s StringField.Protocol methodRead (placeOf uriRead .0) (uri .0) in
-      let method = byte-behind s firstMethod lastMethod outOfRange afterCode (placeOf protocolRead .0) (protocol .0) in
+      let ssl = boolean-behind s portRead (fieldPlace countRead .0) (count .0) in
+      let port = any-integer-behind s nameRead (fieldPlace sslRead .0) (ssl .0) in
+      let name = string-behind s StringField.ServerName hostRead (fieldPlace portRead .0) (port .0) in
+      let host = string-behind s StringField.RemoteHost addrRead (fieldPlace nameRead .0) (name .0) in
+      let addr = string-behind s StringField.RemoteAddr uriRead (fieldPlace hostRead .0) (host .0) in
+      let uri = string-behind s StringField.ReqUri protocolRead (fieldPlace addrRead .0) (addr .0) in
+      let protocol = string-behind s StringField.Protocol methodRead (fieldPlace uriRead .0) (uri .0) in
+      let method = byte-behind s firstMethod lastMethod outOfRange afterCode (fieldPlace protocolRead .0) (protocol .0) in
       subst (λ (g : Forward). PacketHanded s (Packet.Forward g) places) (forward-same _ f e)
       (record {
-        method-read = subst (λ (p : ℕ). byteAt s p ≡ NumberRead.Number (valueOf methodRead) (placeOf protocolRead .0)) (sym (method .0)) (method .1);
+        method-read = subst (λ (p : ℕ). byteAt s p ≡ NumberRead.Number (fieldNumber methodRead) (fieldPlace protocolRead .0)) (sym (method .0)) (method .1);
         protocol-there = protocol .1;
         uri-there = uri .1;
         addr-there = addr .1;
         host-there = host .1;
-        port-place = placeOf portRead .0;
+        port-place = fieldPlace portRead .0;
         name-there = name .1;
-        ssl-place = placeOf sslRead .0;
+        ssl-place = fieldPlace sslRead .0;
         port-read = port .1;
-        count-place = placeOf countRead .0;
+        count-place = fieldPlace countRead .0;
         ssl-read = ssl .1;
         lists-place = h .0;
         count-read = count .1;
@@ -490,7 +490,7 @@ module _ (s : List ℕ) where
 
   -- a Send Headers that is found by how its headers end
   head-found : (h : SendHeaders) (places : List ℕ) (r : HeadersRead) → HeadersBehind Direction.ToServer s headCountRead places r
-      → HeadersPlaces (valueOf headCountRead) (length places) r
+      → HeadersPlaces (fieldNumber headCountRead) (length places) r
       → sendHeadersOf (length s) statusRead messageRead headCountRead r ≡ PacketRead.Packet (Packet.SendHeaders h)
       → PacketHanded s (Packet.SendHeaders h) places
   head-found h places (HeadersRead.Refused n) b many e = let z : _≡_ {A = ℕ} 0 1 = cc in absurd (omega arith)
@@ -498,9 +498,9 @@ module _ (s : List ℕ) where
     where
       found : SendHeaders
       found = record {
-        status = valueOf statusRead;
-        message = placeOf messageRead;
-        headers = valueOf headCountRead;
+        status = fieldNumber statusRead;
+        message = fieldPlace messageRead;
+        headers = fieldNumber headCountRead;
       }
 
       go : (t : Bool) → eqb end (length s) ≡ t
@@ -508,12 +508,12 @@ module _ (s : List ℕ) where
           → PacketHanded s (Packet.SendHeaders h) places
       go true q f =
           let count = integer-behind s 0 maxHeaders tooMany messageRead (b .0) (b .1) in
-          let message = string-behind s StringField.Message statusRead (placeOf headCountRead .0) (count .0) in
-          let status = integer-behind s leastStatus greatestStatus outOfRange afterCode (placeOf messageRead .0) (message .0) in
+          let message = string-behind s StringField.Message statusRead (fieldPlace headCountRead .0) (count .0) in
+          let status = integer-behind s leastStatus greatestStatus outOfRange afterCode (fieldPlace messageRead .0) (message .0) in
           subst (λ (g : SendHeaders). PacketHanded s (Packet.SendHeaders g) places) (head-same found h f)
           (record {
-            status-read = subst (λ (p : ℕ). integerAt s p ≡ NumberRead.Number (valueOf statusRead) (placeOf messageRead .0)) (sym (status .0)) (status .1);
-            count-place = placeOf headCountRead .0;
+            status-read = subst (λ (p : ℕ). integerAt s p ≡ NumberRead.Number (fieldNumber statusRead) (fieldPlace messageRead .0)) (sym (status .0)) (status .1);
+            count-place = fieldPlace headCountRead .0;
             message-there = message .1;
             headers-place = b .0;
             count-read = count .1;
@@ -596,7 +596,7 @@ body-handed s p e =
     by-tests : (len : ℕ) (a b c : Bool)
         → pick a (PacketRead.Refused cutShort)
         (pick b (PacketRead.Refused leftOver)
-        (pick c (PacketRead.Refused sizeWrong) (PacketRead.Packet (Packet.Body (partFrom bodyStart len)))))
+        (pick c (PacketRead.Refused bodySizeWrong) (PacketRead.Packet (Packet.Body (partFrom bodyStart len)))))
         ≡ PacketRead.Packet (Packet.Body p) → NumberRead.Number len bodyStart ≡ NumberRead.Number (p .len) (p .start .0)
     by-tests len true b c q = let z : _≡_ {A = ℕ} 0 1 = cc in absurd (omega arith)
     by-tests len false true c q = let z : _≡_ {A = ℕ} 0 1 = cc in absurd (omega arith)
@@ -643,8 +643,8 @@ chunk-handed s p = by-length (integerAt s afterCodePlace) refl
         by-tests len (f ∙ ap (NumberRead.Number len) ends) (leb (chunkStart + (len + 1)) (length s)) (eqb (getD s (chunkStart + len) 0) 0) refl q
 
 -- a packet that was read as its own kind
-handed-by : (s : List ℕ) (packet : Packet) → packetAt (kindIn packet) s .end ≡ PacketRead.Packet packet
-    → PacketHanded s packet (packetAt (kindIn packet) s .places)
+handed-by : (s : List ℕ) (packet : Packet) → packetAt (packetKind packet) s .end ≡ PacketRead.Packet packet
+    → PacketHanded s packet (packetAt (packetKind packet) s .places)
 handed-by s Packet.CPing e = bare-handed s Packet.CPing e
 handed-by s Packet.CPong e = bare-handed s Packet.CPong e
 handed-by s (Packet.Forward f) e = forward-handed s f e

@@ -10,7 +10,7 @@ use borrow.Author.Tests.{le-leb, lt-leb, ltb-false, ne-eqb, eqb-true}
 use lib.Dec.{leb, ltb, eqb}
 use lib.ListN.{length, getD}
 use Rattle.wire.specs.Pick.{pick, both, either}
-use Rattle.wire.specs.Refusal.{cutShort, codeWrong, codeNotServed, stringWrong, leftOver, sizeWrong}
+use Rattle.wire.specs.Refusal.{cutShort, codeWrong, codeNotServed, stringWrong, leftOver, bodySizeWrong}
 use Rattle.wire.specs.Field.{byteAt, integerAt, booleanAt, stringAt, isOptional}
 use Rattle.packet.specs.declared.Direction.{Direction}
 use Rattle.wire.specs.declared.StringField.{StringField}
@@ -24,7 +24,7 @@ use Rattle.packet.specs.declared.Packet.{Packet}
 use Rattle.payload.specs.declared.found.PacketRead.{PacketRead}
 use Rattle.payload.specs.declared.field.FieldRead.{FieldRead}
 use Rattle.payload.specs.Code.{payloadPlace, codePlace, afterCodePlace, codeOf, shutdownCode, pingCode, codeKind, kindOfCode, kindAt}
-use Rattle.payload.specs.Sequence.{numberField, anyIntegerAfter, bounded, byteAfter, integerAfter, stringField, stringFieldAt, booleanField, booleanFieldAt}
+use Rattle.payload.specs.Sequence.{numberAsField, anyIntegerAfter, bounded, byteAfter, integerAfter, stringAsField, stringFieldAt, booleanAsField, booleanFieldAt}
 use Rattle.payload.specs.Facts.{PlainInside}
 use Rattle.payload.specs.Packet.{partFrom, finished}
 use Rattle.payload.specs.End.{endOf, endAt}
@@ -40,14 +40,14 @@ kind-is d body t s r p q = rw (p, q)
 
 -- a string as a field, by what it reads as
 pub string-field-is : (s : List ℕ) (field : StringField) (at : ℕ) (optional : Bool) (r : StringRead) → optional ≡ isOptional field
-    → stringAt s at optional ≡ r → stringFieldAt s field at ≡ stringField at r
+    → stringAt s at optional ≡ r → stringFieldAt s field at ≡ stringAsField at r
 unfolding stringFieldAt
-string-field-is s field at optional r p q = ap (stringField at) (ap (stringAt s at) (sym p) ∙ q)
+string-field-is s field at optional r p q = ap (stringAsField at) (ap (stringAt s at) (sym p) ∙ q)
 
 -- a boolean as a field, by what it reads as
-pub boolean-field-is : (s : List ℕ) (at : ℕ) (r : BooleanRead) → booleanAt s at ≡ r → booleanFieldAt s at ≡ booleanField at r
+pub boolean-field-is : (s : List ℕ) (at : ℕ) (r : BooleanRead) → booleanAt s at ≡ r → booleanFieldAt s at ≡ booleanAsField at r
 unfolding booleanFieldAt
-boolean-field-is s at r e = ap (booleanField at) e
+boolean-field-is s at r e = ap (booleanAsField at) e
 
 -- a number as a field, by its two tests; a return that does not reach a test says `refl`
 pub bounded-by : (at low high fault : ℕ) (number : NumberRead) (value next : ℕ) (a b : Bool) → number ≡ NumberRead.Number value next
@@ -71,7 +71,7 @@ module _ (s : List ℕ) (low high fault at value next : ℕ) (before : FieldRead
 
 -- the integer behind a field that was read, which may be any, by what it reads as
 pub any-integer-after-is : (s : List ℕ) (at value next : ℕ) (before : FieldRead) (r : NumberRead) → before ≡ FieldRead.Field at value next
-    → integerAt s next ≡ r → anyIntegerAfter s before ≡ numberField next r
+    → integerAt s next ≡ r → anyIntegerAfter s before ≡ numberAsField next r
 unfolding anyIntegerAfter
 any-integer-after-is s at value next before r p q = rw (p, q)
 
@@ -100,7 +100,7 @@ body-is s t r p q = rw (p, q)
 pub sized-by : (size len : ℕ) (a b c : Bool) → ltb size (bodyStart + len) ≡ a → ltb (bodyStart + len) size ≡ b → eqb len 0 ≡ c
     → pick a (PacketRead.Refused cutShort)
     (pick b (PacketRead.Refused leftOver)
-    (pick c (PacketRead.Refused sizeWrong) (PacketRead.Packet (Packet.Body (partFrom bodyStart len)))))
+    (pick c (PacketRead.Refused bodySizeWrong) (PacketRead.Packet (Packet.Body (partFrom bodyStart len)))))
     ≡ sizedAt size len
 unfolding sizedAt
 sized-by size len a b c p q r = rw (p, q, r)
@@ -132,7 +132,7 @@ sized-inside n len = go (ltb n (bodyStart + len)) (ltb (bodyStart + len) n) (eqb
         → PlainInside n
         (pick a (PacketRead.Refused cutShort)
         (pick b (PacketRead.Refused leftOver)
-        (pick c (PacketRead.Refused sizeWrong) (PacketRead.Packet (Packet.Body (partFrom bodyStart len))))))
+        (pick c (PacketRead.Refused bodySizeWrong) (PacketRead.Packet (Packet.Body (partFrom bodyStart len))))))
     go true b c p q = tt
     go false true c p q = tt
     go false false true p q = tt

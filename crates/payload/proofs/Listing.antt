@@ -22,7 +22,7 @@ use Rattle.attributes.specs.Attributes.{attributesAt}
 use Rattle.attributes.specs.declared.AttributesRead.{AttributesRead}
 use Rattle.payload.specs.declared.field.FieldRead.{FieldRead}
 use Rattle.payload.specs.declared.lists.ListsRead.{ListsRead}
-use Rattle.payload.specs.Sequence.{afterCode, stringAfter, booleanAfter, byteAfter, anyIntegerAfter, integerAfter, valueOf}
+use Rattle.payload.specs.Sequence.{afterCode, stringAfter, booleanAfter, byteAfter, anyIntegerAfter, integerAfter, fieldNumber}
 use Rattle.payload.specs.Lists.{headersAfter, listsOf, attributesBehind, behindHeaders, listsAt}
 use Rattle.payload.specs.Forward.{firstMethod, lastMethod, forwardOf, forwardAt}
 use Rattle.payload.specs.SendHeaders.{leastStatus, greatestStatus, sendHeadersOf, sendHeadersAt}
@@ -50,7 +50,7 @@ HeadersPlaces count many (HeadersRead.Headers declared next) = many ≡ count + 
 
 -- the headers behind a count, where they are read, have two places each
 pub headers-places : (direction : Direction) (s : List ℕ) (count : FieldRead) (r : HeadersRead) → headersAfter direction s count .end ≡ r
-    → HeadersPlaces (valueOf count) (length (headersAfter direction s count .places)) r
+    → HeadersPlaces (fieldNumber count) (length (headersAfter direction s count .places)) r
 unfolding headersAfter
 headers-places direction s (FieldRead.Refused n) r e = subst (HeadersPlaces 0 0) e tt
 headers-places direction s (FieldRead.Field at value next) (HeadersRead.Refused n) e = tt
@@ -89,7 +89,7 @@ module _ (s : List ℕ) (count : FieldRead) (entry middle : List ℕ)
   -- the headers are read, and the attributes follow
   pub lists-read : (declared : Declared) (next many : ℕ) (r : ListsRead) (exit : List ℕ)
       → HeadersRead.Headers declared next ≡ headersAfter Direction.ToContainer s count .end
-      → many ≡ valueOf count → many + many ≤ length entry
+      → many ≡ fieldNumber count → many + many ≤ length entry
       → r ≡ attributesBehind s declared next .end → exit ≡ over middle (many + many) (attributesBehind s declared next .places)
       → (r ≡ listsAt s count .end) × (exit ≡ over entry 0 (listsAt s count .places))
   unfolding listsAt

@@ -8,7 +8,7 @@ use native.Mathlib.Omega.{arith}
 use lib.Dec.{leb, ltb, eqb}
 use lib.ListN.{length, getD, length-append}
 use Rattle.wire.specs.Pick.{pick}
-use Rattle.wire.specs.Refusal.{outOfRange, tooMany, leftOver, cutShort, stringWrong, sizeWrong}
+use Rattle.wire.specs.Refusal.{outOfRange, tooMany, leftOver, cutShort, stringWrong, bodySizeWrong}
 use Rattle.wire.specs.Field.{integerAt, booleanAt}
 use Rattle.packet.specs.declared.Direction.{Direction}
 use Rattle.wire.specs.declared.StringField.{StringField}
@@ -17,7 +17,7 @@ use Rattle.wire.specs.declared.read.BooleanRead.{BooleanRead}
 use Rattle.names.specs.Length.{declaredLength}
 use Rattle.names.specs.declared.length.Declared.{Declared}
 use Rattle.connection.specs.declared.Kind.{Kind}
-use Rattle.connection.specs.Cycle.{kindOf}
+use Rattle.connection.specs.Cycle.{moveKind}
 use Rattle.places.specs.Entries.{maxHeaders, maxAttributes}
 use Rattle.headers.specs.declared.HeadersRead.{HeadersRead}
 use Rattle.attributes.specs.Attributes.{attributesAt}
@@ -29,8 +29,8 @@ use Rattle.packet.specs.declared.SendHeaders.{SendHeaders}
 use Rattle.packet.specs.declared.Packet.{Packet}
 use Rattle.payload.specs.declared.found.PacketRead.{PacketRead}
 use Rattle.payload.specs.Code.{payloadPlace, afterCodePlace}
-use Rattle.payload.specs.Sequence.{afterCode, stringAfter, booleanAfter, byteAfter, anyIntegerAfter, integerAfter, valueOf}
-use Rattle.payload.specs.Facts.{ForwardPlaces, HeadPlaces}
+use Rattle.payload.specs.Sequence.{afterCode, stringAfter, booleanAfter, byteAfter, anyIntegerAfter, integerAfter, fieldNumber}
+use Rattle.payload.specs.Facts.{ForwardPlaces, SendHeadersPlaces}
 use Rattle.payload.specs.Packet.{partFrom, finished}
 use Rattle.payload.specs.End.{endOf, endAt}
 use Rattle.payload.specs.GetBody.{getOf, getAt}
@@ -39,7 +39,7 @@ use Rattle.payload.specs.BodyChunk.{chunkStart, chunkOf, chunkBy, chunkA
 use Rattle.payload.specs.Lists.{headersAfter, listsOf, attributesBehind, behindHeaders, listsAt}
 use Rattle.payload.specs.Forward.{firstMethod, lastMethod, forwardOf, forwardAt}
 use Rattle.payload.specs.SendHeaders.{leastStatus, greatestStatus, sendHeadersOf, sendHeadersAt}
-use Rattle.payload.specs.Kinds.{packetAt, kindIn, moveIn}
+use Rattle.payload.specs.Kinds.{packetAt, packetKind, packetMove}
 use Rattle.payload.proofs.Fields.{integer-most}
 use Rattle.payload.proofs.Below.{attributes-many, attributes-few}
 use Rattle.payload.proofs.Listing.{HeadersPlaces, headers-places}
@@ -72,30 +72,30 @@ headers-before count less many (ListsRead.Refused n) e h = tt
 headers-before count less many (ListsRead.Lists declared attributes) e h = (omega arith, h .1)
 
 -- the headers and attributes of a Forward have two places each
-lists-places : (s : List ℕ) (count : FieldRead) → ListsPlaces (valueOf count) (length (listsAt s count .places)) (listsAt s count .end)
+lists-places : (s : List ℕ) (count : FieldRead) → ListsPlaces (fieldNumber count) (length (listsAt s count .places)) (listsAt s count .end)
 unfolding listsAt
 lists-places s count = go (headersAfter Direction.ToContainer s count .end) refl
   where
     go : (r : HeadersRead) → headersAfter Direction.ToContainer s count .end ≡ r
-        → ListsPlaces (valueOf count) (length (headersAfter Direction.ToContainer s count .places ++ behindHeaders s r .places))
+        → ListsPlaces (fieldNumber count) (length (headersAfter Direction.ToContainer s count .places ++ behindHeaders s r .places))
         (behindHeaders s r .end)
     go (HeadersRead.Refused n) e = tt
     go (HeadersRead.Headers declared next) e =
         let p = headersAfter Direction.ToContainer s count .places in
         let q = attributesBehind s declared next .places in
-        headers-before (valueOf count) (length q) (length (p ++ q)) (attributesBehind s declared next .end)
+        headers-before (fieldNumber count) (length q) (length (p ++ q)) (attributesBehind s declared next .end)
         (omega (arith, length-append p q, headers-places Direction.ToContainer s count (HeadersRead.Headers declared next) e))
         (attributes-places s declared next)
 
 -- a Forward that is found has the places of its lists
 forward-found : (method protocol uri addr host name port ssl headers : FieldRead) (r : ListsRead) (places : List ℕ) (forward : Forward)
-    → valueOf headers ≤ maxHeaders → ListsPlaces (valueOf headers) (length places) r
+    → fieldNumber headers ≤ maxHeaders → ListsPlaces (fieldNumber headers) (length places) r
     → forwardOf method protocol uri addr host name port ssl headers r ≡ PacketRead.Packet (Packet.Forward forward)
     → ForwardPlaces forward places
 forward-found method protocol uri addr host name port ssl headers (ListsRead.Refused n) places forward few h e =
     let z : _≡_ {A = ℕ} 0 1 = cc in absurd (omega arith)
 forward-found method protocol uri addr host name port ssl headers (ListsRead.Lists declared attributes) places forward few h e =
-    let p : valueOf headers ≡ forward .headers = cc in
+    let p : fieldNumber headers ≡ forward .headers = cc in
     let q : attributes ≡ forward .attributes = cc in
     record {
       many = omega arith;
@@ -105,7 +105,7 @@ forward-found method protocol uri addr host name port ssl headers (ListsRead.Lis
 
 -- what holds for any fixed fields, with no more headers counted than may come, and the lists behind them, holds for a Forward
 forward-by : (s : List ℕ) (P : PacketRead → List ℕ → Type 0)
-    → ((method protocol uri addr host name port ssl headers : FieldRead) → valueOf headers ≤ maxHeaders
+    → ((method protocol uri addr host name port ssl headers : FieldRead) → fieldNumber headers ≤ maxHeaders
     → P (forwardOf method protocol uri addr host name port ssl headers (listsAt s headers .end)) (listsAt s headers .places))
     → P (forwardAt s .end) (forwardAt s .places)
 unfolding forwardAt
@@ -138,13 +138,13 @@ finished-packet size next found p = go (eqb next size)
 
 -- a Send Headers that is found has the places of its headers
 head-found : (size : ℕ) (status message headers : FieldRead) (r : HeadersRead) (places : List ℕ) (head : SendHeaders)
-    → valueOf headers ≤ maxHeaders → HeadersPlaces (valueOf headers) (length places) r
-    → sendHeadersOf size status message headers r ≡ PacketRead.Packet (Packet.SendHeaders head) → HeadPlaces head places
+    → fieldNumber headers ≤ maxHeaders → HeadersPlaces (fieldNumber headers) (length places) r
+    → sendHeadersOf size status message headers r ≡ PacketRead.Packet (Packet.SendHeaders head) → SendHeadersPlaces head places
 head-found size status message headers (HeadersRead.Refused n) places head few h e =
     let z : _≡_ {A = ℕ} 0 1 = cc in absurd (omega arith)
 head-found size status message headers (HeadersRead.Headers declared next) places head few h e =
     let p = finished-packet size next _ (Packet.SendHeaders head) e in
-    let q : valueOf headers ≡ head .headers = cc in
+    let q : fieldNumber headers ≡ head .headers = cc in
     record {
       many = omega arith;
       headers-most = omega arith;
@@ -152,7 +152,7 @@ head-found size status message headers (HeadersRead.Headers declared next) place
 
 -- what holds for any fixed fields, with no more headers counted than may come, and the headers behind them, holds for Send Headers
 head-by : (s : List ℕ) (P : PacketRead → List ℕ → Type 0)
-    → ((status message headers : FieldRead) → valueOf headers ≤ maxHeaders
+    → ((status message headers : FieldRead) → fieldNumber headers ≤ maxHeaders
     → P (sendHeadersOf (length s) status message headers (headersAfter Direction.ToServer s headers .end)) (headersAfter Direction.ToServer s headers .places))
     → P (sendHeadersAt s .end) (sendHeadersAt s .places)
 unfolding sendHeadersAt
@@ -163,9 +163,9 @@ head-by s P h =
 
 -- a Send Headers that was read has two places for each header
 pub send-headers-places : (s : List ℕ) (head : SendHeaders) → sendHeadersAt s .end ≡ PacketRead.Packet (Packet.SendHeaders head)
-    → HeadPlaces head (sendHeadersAt s .places)
+    → SendHeadersPlaces head (sendHeadersAt s .places)
 send-headers-places s head =
-    head-by s (λ r places. r ≡ PacketRead.Packet (Packet.SendHeaders head) → HeadPlaces head places)
+    head-by s (λ r places. r ≡ PacketRead.Packet (Packet.SendHeaders head) → SendHeadersPlaces head places)
     (λ status message headers few.
     let after = headersAfter Direction.ToServer s headers in
     head-found (length s) status message headers (after .end) (after .places) head few (headers-places Direction.ToServer s headers (after .end) refl))
@@ -173,13 +173,13 @@ send-headers-places s head =
 -- a packet, where one is read, is of this kind
 abbrev KindIs : Kind → PacketRead → Type 0
 KindIs kind (PacketRead.Refused n) = Unit
-KindIs kind (PacketRead.Packet p) = kindIn p ≡ kind
+KindIs kind (PacketRead.Packet p) = packetKind p ≡ kind
 
 -- a packet behind whose last field nothing stands keeps its kind
-finished-kind : (size next : ℕ) (found : Packet) → KindIs (kindIn found) (finished size next found)
+finished-kind : (size next : ℕ) (found : Packet) → KindIs (packetKind found) (finished size next found)
 finished-kind size next found = go (eqb next size)
   where
-    go : (t : Bool) → KindIs (kindIn found) (pick t (PacketRead.Packet found) (PacketRead.Refused leftOver))
+    go : (t : Bool) → KindIs (packetKind found) (pick t (PacketRead.Packet found) (PacketRead.Refused leftOver))
     go true = refl
     go false = tt
 
@@ -209,7 +209,7 @@ sized-kind size len = go (ltb size (bodyStart + len)) (ltb (bodyStart + len) siz
     go : (t u v : Bool) → KindIs Kind.Body
         (pick t (PacketRead.Refused cutShort)
         (pick u (PacketRead.Refused leftOver)
-        (pick v (PacketRead.Refused sizeWrong) (PacketRead.Packet (Packet.Body (partFrom bodyStart len))))))
+        (pick v (PacketRead.Refused bodySizeWrong) (PacketRead.Packet (Packet.Body (partFrom bodyStart len))))))
     go true u v = tt
     go false true v = tt
     go false false true = tt
@@ -271,11 +271,11 @@ packet-kind Kind.BodyChunk s = chunk-kind s
 packet-kind Kind.End s = end-kind s
 
 -- a packet that was read is of the kind that it was read as
-pub parsed-kind : (kind : Kind) (s : List ℕ) (p : Packet) → packetAt kind s .end ≡ PacketRead.Packet p → kindIn p ≡ kind
+pub parsed-kind : (kind : Kind) (s : List ℕ) (p : Packet) → packetAt kind s .end ≡ PacketRead.Packet p → packetKind p ≡ kind
 parsed-kind kind s p e = subst (KindIs kind) e (packet-kind kind s)
 
 -- a packet's move is of its kind
-pub move-kind : (p : Packet) → kindOf (moveIn p) ≡ kindIn p
+pub move-kind : (p : Packet) → moveKind (packetMove p) ≡ packetKind p
 move-kind Packet.CPing = refl
 move-kind Packet.CPong = refl
 move-kind (Packet.Forward forward) = refl

@@ -7,7 +7,7 @@ use Prim.Native.Nat.{ℕ, _+_}
 use lib.Dec.{leb, ltb, eqb}
 use lib.ListN.{length, getD}
 use Rattle.wire.specs.Pick.{pick, either, between}
-use Rattle.wire.specs.Refusal.{cutShort, codeWrong, codeNotServed, stringWrong, outOfRange, tooMany, leftOver, sizeWrong, isRefusal}
+use Rattle.wire.specs.Refusal.{cutShort, codeWrong, codeNotServed, stringWrong, outOfRange, tooMany, leftOver, bodySizeWrong, isRefusal}
 use Rattle.wire.specs.Field.{byteAt, integerAt, booleanAt, stringAt, isOptional}
 use Rattle.wire.specs.declared.StringField.{StringField}
 use Rattle.wire.specs.declared.read.NumberRead.{NumberRead}
@@ -30,7 +30,7 @@ use Rattle.payload.specs.declared.field.FieldRead.{FieldRead}
 use Rattle.payload.specs.declared.lists.ListsRead.{ListsRead}
 use Rattle.payload.specs.declared.found.PacketRead.{PacketRead}
 use Rattle.payload.specs.Code.{payloadPlace, codePlace, afterCodePlace, codeOf, shutdownCode, pingCode, codeKind, kindOfCode, kindAt}
-use Rattle.payload.specs.Sequence.{afterCode, behind, stringField, stringFieldAt, stringAfter, booleanField, booleanFieldAt, booleanAfter, numberField, anyIntegerAfter, bounded, byteAfter, integerAfter}
+use Rattle.payload.specs.Sequence.{afterCode, behind, stringAsField, stringFieldAt, stringAfter, booleanAsField, booleanFieldAt, booleanAfter, numberAsField, anyIntegerAfter, bounded, byteAfter, integerAfter}
 use Rattle.payload.specs.Packet.{partFrom, finished}
 use Rattle.payload.specs.End.{endOf, endAt}
 use Rattle.payload.specs.GetBody.{getOf, getAt}
@@ -105,7 +105,7 @@ string-after-refusal s field before =
     behind-refusal (stringFieldAt s field) before
     (λ at. go at (stringAt s at (isOptional field)) (string-refusal s at (isOptional field) (stringAt s at (isOptional field)) refl))
   where
-    go : (at : ℕ) (r : StringRead) → StringRefusal r → FieldRefusal (stringField at r)
+    go : (at : ℕ) (r : StringRead) → StringRefusal r → FieldRefusal (stringAsField at r)
     go at (StringRead.Refused n) h = h
     go at (StringRead.Null next) h = tt
     go at (StringRead.Text start len next) h = tt
@@ -115,16 +115,16 @@ unfolding booleanAfter booleanFieldAt
 boolean-after-refusal s before =
     behind-refusal (booleanFieldAt s) before (λ at. go at (booleanAt s at) (boolean-refusal s at (booleanAt s at) refl))
   where
-    go : (at : ℕ) (r : BooleanRead) → BooleanRefusal r → FieldRefusal (booleanField at r)
+    go : (at : ℕ) (r : BooleanRead) → BooleanRefusal r → FieldRefusal (booleanAsField at r)
     go at (BooleanRead.Refused n) h = h
     go at (BooleanRead.Boolean value next) h = tt
 
 any-integer-refusal : (s : List ℕ) (before : FieldRead) → FieldRefusal before → FieldRefusal (anyIntegerAfter s before)
 unfolding anyIntegerAfter
 any-integer-refusal s before =
-    behind-refusal (λ at. numberField at (integerAt s at)) before (λ at. go at (integerAt s at) (integer-refusal s at (integerAt s at) refl))
+    behind-refusal (λ at. numberAsField at (integerAt s at)) before (λ at. go at (integerAt s at) (integer-refusal s at (integerAt s at) refl))
   where
-    go : (at : ℕ) (r : NumberRead) → NumberRefusal r → FieldRefusal (numberField at r)
+    go : (at : ℕ) (r : NumberRead) → NumberRefusal r → FieldRefusal (numberAsField at r)
     go at (NumberRead.Refused n) h = h
     go at (NumberRead.Number value next) h = tt
 
@@ -259,7 +259,7 @@ sized-refusal size len = go (ltb size (bodyStart + len)) (ltb (bodyStart + len) 
         → PacketRefusal
         (pick t (PacketRead.Refused cutShort)
         (pick u (PacketRead.Refused leftOver)
-        (pick v (PacketRead.Refused sizeWrong) (PacketRead.Packet (Packet.Body (partFrom bodyStart len))))))
+        (pick v (PacketRead.Refused bodySizeWrong) (PacketRead.Packet (Packet.Body (partFrom bodyStart len))))))
     go true u v = refl
     go false true v = refl
     go false false true = refl

@@ -6,7 +6,7 @@ use Prim.Native.Nat.{ℕ, _+_}
 use lib.Dec.{ltb, eqb}
 use lib.ListN.{length}
 use Rattle.wire.specs.Pick.{pick}
-use Rattle.wire.specs.Refusal.{cutShort, leftOver, sizeWrong}
+use Rattle.wire.specs.Refusal.{cutShort, leftOver, bodySizeWrong}
 use Rattle.wire.specs.Field.{integerAt}
 use Rattle.wire.specs.declared.read.NumberRead.{NumberRead}
 use Rattle.packet.specs.declared.Packet.{Packet}
@@ -24,7 +24,7 @@ unfoldable pub sizedAt : ℕ → ℕ → PacketRead
 sizedAt size len =
     pick (ltb size (bodyStart + len)) (PacketRead.Refused cutShort)
     (pick (ltb (bodyStart + len) size) (PacketRead.Refused leftOver)
-    (pick (eqb len 0) (PacketRead.Refused sizeWrong) (PacketRead.Packet (Packet.Body (partFrom bodyStart len)))))
+    (pick (eqb len 0) (PacketRead.Refused bodySizeWrong) (PacketRead.Packet (Packet.Body (partFrom bodyStart len)))))
 
 -- a body packet of `size` bytes in all, by what its own size reads as
 abbrev pub sizedOf : ℕ → NumberRead → PacketRead

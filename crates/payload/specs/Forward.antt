@@ -12,7 +12,7 @@ use Rattle.payload.specs.declared.field.FieldRead.{FieldRead}
 use Rattle.payload.specs.declared.lists.ListsRead.{ListsRead}
 use Rattle.packet.specs.declared.Packet.{Packet}
 use Rattle.payload.specs.declared.found.PacketRead.{PacketRead}
-use Rattle.payload.specs.Sequence.{afterCode, stringAfter, booleanNumber, booleanAfter, byteAfter, anyIntegerAfter, integerAfter, placeOf, valueOf}
+use Rattle.payload.specs.Sequence.{afterCode, stringAfter, booleanNumber, booleanAfter, byteAfter, anyIntegerAfter, integerAfter, fieldPlace, fieldNumber}
 use Rattle.payload.specs.Lists.{listsAt}
 
 -- the first method, OPTIONS
@@ -31,15 +31,15 @@ forwardOf method protocol uri addr host name port ssl headers (ListsRead.Lists d
     PacketRead.Packet
     (Packet.Forward
     (record {
-      method = valueOf method;
-      protocol = placeOf protocol;
-      «req_uri» = placeOf uri;
-      «remote_addr» = placeOf addr;
-      «remote_host» = placeOf host;
-      «server_name» = placeOf name;
-      «server_port» = valueOf port;
-      «is_ssl» = eqb (valueOf ssl) (booleanNumber true);
-      headers = valueOf headers;
+      method = fieldNumber method;
+      protocol = fieldPlace protocol;
+      «req_uri» = fieldPlace uri;
+      «remote_addr» = fieldPlace addr;
+      «remote_host» = fieldPlace host;
+      «server_name» = fieldPlace name;
+      «server_port» = fieldNumber port;
+      «is_ssl» = eqb (fieldNumber ssl) (booleanNumber true);
+      headers = fieldNumber headers;
       attributes = attributes;
       declared = declared;
     }))

@@ -98,7 +98,7 @@ pub record ForwardHanded (s : List ℕ) (method protocol uri addr host name port
   pub lists : ListsHanded s lists-place headers attributes places
 
 -- Send Headers: the status is the integer behind the code; the message, the count of headers and so many headers, which end with the packet
-pub record HeadHanded (s : List ℕ) (status message headers : ℕ) (places : List ℕ) : Type 0 where
+pub record SendHeadersHanded (s : List ℕ) (status message headers : ℕ) (places : List ℕ) : Type 0 where
   pub status-read : integerAt s afterCodePlace ≡ NumberRead.Number status message
   pub count-place : ℕ
   pub message-there : StringThere s StringField.Message message count-place
@@ -148,6 +148,6 @@ PacketHanded s (Packet.Forward f) places =
     (f .«server_port») (f .«is_ssl») (f .headers) (f .attributes) places
 PacketHanded s (Packet.Body p) places = BodyHanded s (p .start .0) (p .len) places
 PacketHanded s (Packet.GetBody asked) places = GetHanded s asked places
-PacketHanded s (Packet.SendHeaders h) places = HeadHanded s (h .status) (h .message .0) (h .headers) places
+PacketHanded s (Packet.SendHeaders h) places = SendHeadersHanded s (h .status) (h .message .0) (h .headers) places
 PacketHanded s (Packet.BodyChunk p) places = ChunkHanded s (p .start .0) (p .len) places
 PacketHanded s (Packet.End reuse) places = EndHanded s reuse places

@@ -28,23 +28,23 @@ packetAt Kind.BodyChunk s = ended (chunkAt s)
 packetAt Kind.End s = ended (endAt s)
 
 -- a packet's kind
-abbrev pub kindIn : Packet → Kind
-kindIn Packet.CPing = Kind.CPing
-kindIn Packet.CPong = Kind.CPong
-kindIn (Packet.Forward forward) = Kind.Forward
-kindIn (Packet.Body part) = Kind.Body
-kindIn (Packet.GetBody asked) = Kind.GetBody
-kindIn (Packet.SendHeaders head) = Kind.SendHeaders
-kindIn (Packet.BodyChunk part) = Kind.BodyChunk
-kindIn (Packet.End reuse) = Kind.End
+abbrev pub packetKind : Packet → Kind
+packetKind Packet.CPing = Kind.CPing
+packetKind Packet.CPong = Kind.CPong
+packetKind (Packet.Forward forward) = Kind.Forward
+packetKind (Packet.Body part) = Kind.Body
+packetKind (Packet.GetBody asked) = Kind.GetBody
+packetKind (Packet.SendHeaders head) = Kind.SendHeaders
+packetKind (Packet.BodyChunk part) = Kind.BodyChunk
+packetKind (Packet.End reuse) = Kind.End
 
 -- what a packet is for the cycle: of a Forward what it declares, of a part its size
-abbrev pub moveIn : Packet → Move
-moveIn Packet.CPing = Move.CPing
-moveIn Packet.CPong = Move.CPong
-moveIn (Packet.Forward forward) = Move.Forward (forward .declared)
-moveIn (Packet.Body part) = Move.Body (part .len)
-moveIn (Packet.GetBody asked) = Move.GetBody asked
-moveIn (Packet.SendHeaders head) = Move.SendHeaders
-moveIn (Packet.BodyChunk part) = Move.BodyChunk (part .len)
-moveIn (Packet.End reuse) = Move.End reuse
+abbrev pub packetMove : Packet → Move
+packetMove Packet.CPing = Move.CPing
+packetMove Packet.CPong = Move.CPong
+packetMove (Packet.Forward forward) = Move.Forward (forward .declared)
+packetMove (Packet.Body part) = Move.Body (part .len)
+packetMove (Packet.GetBody asked) = Move.GetBody asked
+packetMove (Packet.SendHeaders head) = Move.SendHeaders
+packetMove (Packet.BodyChunk part) = Move.BodyChunk (part .len)
+packetMove (Packet.End reuse) = Move.End reuse

@@ -12,7 +12,7 @@ use Rattle.headers.specs.declared.HeadersRead.{HeadersRead}
 use Rattle.payload.specs.declared.field.FieldRead.{FieldRead}
 use Rattle.packet.specs.declared.Packet.{Packet}
 use Rattle.payload.specs.declared.found.PacketRead.{PacketRead}
-use Rattle.payload.specs.Sequence.{afterCode, stringAfter, integerAfter, placeOf, valueOf}
+use Rattle.payload.specs.Sequence.{afterCode, stringAfter, integerAfter, fieldPlace, fieldNumber}
 use Rattle.payload.specs.Packet.{finished}
 use Rattle.payload.specs.Lists.{headersAfter}
 
@@ -31,9 +31,9 @@ sendHeadersOf size status message headers (HeadersRead.Headers declared next) =
     finished size next
     (Packet.SendHeaders
     (record {
-      status = valueOf status;
-      message = placeOf message;
-      headers = valueOf headers;
+      status = fieldNumber status;
+      message = fieldPlace message;
+      headers = fieldNumber headers;
     }))
 
 -- Send Headers: status (100 to 599), message, num_headers (at most 100, else 11), headers

@@ -24,14 +24,14 @@ behind read (FieldRead.Refused n) = FieldRead.Refused n
 behind read (FieldRead.Field at value next) = read next
 
 -- a string as a field; it has no number, and 0 stands for that
-abbrev pub stringField : ℕ → StringRead → FieldRead
-stringField at (StringRead.Refused n) = FieldRead.Refused n
-stringField at (StringRead.Null next) = FieldRead.Field at 0 next
-stringField at (StringRead.Text start len next) = FieldRead.Field at 0 next
+abbrev pub stringAsField : ℕ → StringRead → FieldRead
+stringAsField at (StringRead.Refused n) = FieldRead.Refused n
+stringAsField at (StringRead.Null next) = FieldRead.Field at 0 next
+stringAsField at (StringRead.Text start len next) = FieldRead.Field at 0 next
 
 -- the string at a place, as a field
 unfoldable pub stringFieldAt : List ℕ → StringField → ℕ → FieldRead
-stringFieldAt s field at = stringField at (stringAt s at (isOptional field))
+stringFieldAt s field at = stringAsField at (stringAt s at (isOptional field))
 
 -- the string behind a field
 unfoldable pub stringAfter : List ℕ → StringField → FieldRead → FieldRead
@@ -43,26 +43,26 @@ booleanNumber true = 1
 booleanNumber false = 0
 
 -- a boolean as a field
-abbrev pub booleanField : ℕ → BooleanRead → FieldRead
-booleanField at (BooleanRead.Refused n) = FieldRead.Refused n
-booleanField at (BooleanRead.Boolean value next) = FieldRead.Field at (booleanNumber value) next
+abbrev pub booleanAsField : ℕ → BooleanRead → FieldRead
+booleanAsField at (BooleanRead.Refused n) = FieldRead.Refused n
+booleanAsField at (BooleanRead.Boolean value next) = FieldRead.Field at (booleanNumber value) next
 
 -- the boolean at a place, as a field
 unfoldable pub booleanFieldAt : List ℕ → ℕ → FieldRead
-booleanFieldAt s at = booleanField at (booleanAt s at)
+booleanFieldAt s at = booleanAsField at (booleanAt s at)
 
 -- the boolean behind a field
 unfoldable pub booleanAfter : List ℕ → FieldRead → FieldRead
 booleanAfter s = behind (booleanFieldAt s)
 
 -- a number as a field
-abbrev pub numberField : ℕ → NumberRead → FieldRead
-numberField at (NumberRead.Refused n) = FieldRead.Refused n
-numberField at (NumberRead.Number value next) = FieldRead.Field at value next
+abbrev pub numberAsField : ℕ → NumberRead → FieldRead
+numberAsField at (NumberRead.Refused n) = FieldRead.Refused n
+numberAsField at (NumberRead.Number value next) = FieldRead.Field at value next
 
 -- the integer behind a field, which may be any
 unfoldable pub anyIntegerAfter : List ℕ → FieldRead → FieldRead
-anyIntegerAfter s = behind (λ at. numberField at (integerAt s at))
+anyIntegerAfter s = behind (λ at. numberAsField at (integerAt s at))
 
 -- a number as a field, from `low` to `high`, else it is refused with `fault`
 abbrev pub bounded : ℕ → ℕ → ℕ → ℕ → NumberRead → FieldRead
@@ -79,11 +79,11 @@ unfoldable pub integerAfter : List ℕ → ℕ → ℕ → ℕ → FieldRead →
 integerAfter s low high fault = behind (λ at. bounded at low high fault (integerAt s at))
 
 -- a field's place; 0 for a refused one, of which nothing is told
-abbrev pub placeOf : FieldRead → Place
-placeOf (FieldRead.Refused n) = record { 0 = 0 }
-placeOf (FieldRead.Field at value next) = record { 0 = at }
+abbrev pub fieldPlace : FieldRead → Place
+fieldPlace (FieldRead.Refused n) = record { 0 = 0 }
+fieldPlace (FieldRead.Field at value next) = record { 0 = at }
 
 -- a field's number; 0 for a refused one, of which nothing is told
-abbrev pub valueOf : FieldRead → ℕ
-valueOf (FieldRead.Refused n) = 0
-valueOf (FieldRead.Field at value next) = value
+abbrev pub fieldNumber : FieldRead → ℕ
+fieldNumber (FieldRead.Refused n) = 0
+fieldNumber (FieldRead.Field at value next) = value

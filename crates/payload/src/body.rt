@@ -41,7 +41,7 @@ fn sized(size: usize, len: u16) -> PacketRead
         return PacketRead::Refused(refusal::LEFT_OVER);
     }
     if len == 0 {
-        return PacketRead::Refused(refusal::SIZE_WRONG);
+        return PacketRead::Refused(refusal::BODY_SIZE_WRONG);
     }
     PacketRead::Packet(Packet::Body(Part {
         start: Place(BODY_START),

@@ -1,7 +1,7 @@
 // The fixed fields of a packet, one after the other: each is read where the one before it ends, and a refusal stays.
 ghost use mathlib.Core.Path.{_≡_};
 ghost use Rattle.connection.specs.Connection.{maxPacket};
-ghost use Rattle.payload.specs.Sequence.{afterCode, bounded, stringFieldAt, stringAfter, booleanFieldAt, booleanAfter, byteAfter, numberField, anyIntegerAfter, integerAfter, placeOf, valueOf};
+ghost use Rattle.payload.specs.Sequence.{afterCode, bounded, stringFieldAt, stringAfter, booleanFieldAt, booleanAfter, byteAfter, numberAsField, anyIntegerAfter, integerAfter, fieldPlace, fieldNumber};
 ghost use Rattle.payload.specs.Private.{Within};
 use crate::AFTER_CODE;
 use crate::CODE_PLACE;
@@ -107,7 +107,7 @@ pub fn any_integer_after(packet: &[u8], before: FieldRead) -> FieldRead
 
 // A number as read at a place, as a field.
 fn number_field(at: usize, number: NumberRead) -> FieldRead
-    ensures { λ r. ⌜ r ≡ numberField at number ⌝ }
+    ensures { λ r. ⌜ r ≡ numberAsField at number ⌝ }
 {
     match number {
         NumberRead::Refused(n) => FieldRead::Refused(n),
@@ -148,7 +148,7 @@ fn bounded(at: usize, number: NumberRead, low: u16, high: u16, fault: u8) -> Fie
 // A field's place, 0 for a refused one.
 pub fn place_of(field: FieldRead) -> Place
     requires { ⌜ Within maxPacket field ⌝ }
-    ensures { λ r. ⌜ r ≡ placeOf field ⌝ }
+    ensures { λ r. ⌜ r ≡ fieldPlace field ⌝ }
 {
     match field {
         FieldRead::Refused(n) => Place(0),
@@ -158,7 +158,7 @@ pub fn place_of(field: FieldRead) -> Place
 
 // A field's number, 0 for a refused one.
 pub fn value_of(field: FieldRead) -> u16
-    ensures { λ r. ⌜ r ≡ valueOf field ⌝ }
+    ensures { λ r. ⌜ r ≡ fieldNumber field ⌝ }
 {
     match field {
         FieldRead::Refused(n) => 0,

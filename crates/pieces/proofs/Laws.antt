@@ -18,11 +18,11 @@ use Rattle.names.specs.Header.{headerNames}
 use Rattle.names.specs.Names.{codeIn}
 use Rattle.names.specs.declared.CodeFound.{CodeFound}
 use Rattle.payload.specs.Forward.{firstMethod, lastMethod}
-use Rattle.fields.specs.Fault.{orElse, firstFault, rangeFault}
-use Rattle.fields.specs.Call.{Outcome, outcome, bufferAfter}
-use Rattle.fields.specs.Field.{Field, opening, faultsOf, bytesOf}
-use Rattle.fields.proofs.Sizes.{or-none, first-none, unless-none, boolean-one}
-use Rattle.fields.proofs.Rows.{bytes-append}
+use Rattle.building.specs.Fault.{orElse, firstFault, rangeFault}
+use Rattle.building.specs.Call.{Outcome, outcome, bufferAfter}
+use Rattle.building.specs.Field.{Field, opening, faultsOf, fieldsBytes}
+use Rattle.building.proofs.Sizes.{or-none, first-none, unless-none, boolean-one}
+use Rattle.building.proofs.Rows.{bytes-append}
 use Rattle.building_record.specs.declared.BuildingKind.{BuildingKind}
 use Rattle.pieces.specs.declared.forward.Numbers.{Numbers}
 use Rattle.pieces.specs.declared.forward.Nulls.{Nulls}
@@ -34,7 +34,7 @@ use Rattle.pieces.specs.Private.{forwardStrings, forwardTail}
 
 -- how many bytes the fixed fields of a Send Headers are
 pub send-headers-size : (status : ℕ) (null : Bool) (message : List ℕ)
-    → 7 + length (stringBytes null message) + 2 ≡ 0 + length (bytesOf (fixed BuildingKind.SendHeaders (sendHeadersFields status null message)))
+    → 7 + length (stringBytes null message) + 2 ≡ 0 + length (fieldsBytes (fixed BuildingKind.SendHeaders (sendHeadersFields status null message)))
 send-headers-size status null message = omega (arith, length-append (stringBytes null message) (integerBytes 0))
 
 -- and those of a Forward
@@ -45,14 +45,14 @@ pub forward-size : (numbers : Numbers) (nulls : Nulls) (protocol uri addr host n
     + length (stringBytes (nulls .«remote_host») host)
     + length (stringBytes (nulls .«server_name») name)
     + 5
-    ≡ 0 + length (bytesOf (fixed BuildingKind.Forward (forwardFields numbers nulls protocol uri addr host name)))
+    ≡ 0 + length (fieldsBytes (fixed BuildingKind.Forward (forwardFields numbers nulls protocol uri addr host name)))
 forward-size numbers nulls protocol uri addr host name =
     let p : List ℕ = stringBytes (nulls .protocol) protocol in
     let u : List ℕ = stringBytes (nulls .«req_uri») uri in
     let a : List ℕ = stringBytes (nulls .«remote_addr») addr in
     let h : List ℕ = stringBytes (nulls .«remote_host») host in
     let n : List ℕ = stringBytes (nulls .«server_name») name in
-    let t : List ℕ = bytesOf (forwardTail numbers) in
+    let t : List ℕ = fieldsBytes (forwardTail numbers) in
     omega (
       arith,
       length-append p (u ++ (a ++ (h ++ (n ++ t)))),
@@ -81,16 +81,16 @@ four-faults f g h i p q t a b c d ef eg eh ei ep eq et = rw (← ef, ← eg, ←
 abbrev pub forwardParts : Numbers → Nulls → List ℕ → List ℕ → List ℕ → List ℕ → List ℕ → List ℕ
 forwardParts numbers nulls protocol uri addr host name =
     opening Kind.Forward 0
-    ++ ((numbers .method ∷ []) ++ (bytesOf (forwardStrings nulls protocol uri addr host name) ++ (bytesOf (forwardTail numbers) ++ [])))
+    ++ ((numbers .method ∷ []) ++ (fieldsBytes (forwardStrings nulls protocol uri addr host name) ++ (fieldsBytes (forwardTail numbers) ++ [])))
 
 pub forward-parts : (numbers : Numbers) (nulls : Nulls) (protocol uri addr host name : List ℕ)
-    → bytesOf (fixed BuildingKind.Forward (forwardFields numbers nulls protocol uri addr host name))
+    → fieldsBytes (fixed BuildingKind.Forward (forwardFields numbers nulls protocol uri addr host name))
     ≡ forwardParts numbers nulls protocol uri addr host name
 forward-parts numbers nulls protocol uri addr host name =
     let own : List Field = forwardStrings nulls protocol uri addr host name in
     ap (λ (l : List ℕ). opening Kind.Forward 0 ++ ((numbers .method ∷ []) ++ l))
     (bytes-append own (forwardTail numbers)
-    ∙ ap (λ (l : List ℕ). bytesOf own ++ l) (sym (append-nil (bytesOf (forwardTail numbers)))))
+    ∙ ap (λ (l : List ℕ). fieldsBytes own ++ l) (sym (append-nil (fieldsBytes (forwardTail numbers)))))
 
 -- where a Forward has no fault, its method is one byte
 pub method-within : (numbers : Numbers) (nulls : Nulls) (protocol uri addr host name : List ℕ)

@@ -13,11 +13,11 @@ use Rattle.names.specs.Attribute.{attributeKind}
 use Rattle.names.specs.Header.{headerNames}
 use Rattle.names.specs.Names.{codeIn}
 use Rattle.names.specs.declared.CodeFound.{CodeFound}
-use Rattle.headers.specs.Headers.{declares, declaredBy}
+use Rattle.headers.specs.Headers.{declares, declaredAfter}
 use Rattle.payload.specs.Forward.{firstMethod, lastMethod}
 use Rattle.payload.specs.SendHeaders.{leastStatus, greatestStatus}
-use Rattle.fields.specs.Fault.{stringFault}
-use Rattle.fields.specs.Field.{Field, plain, byteWithin, integerWithin, stringField, SameText}
+use Rattle.building.specs.Fault.{stringFault}
+use Rattle.building.specs.Field.{Field, plain, byteWithin, integerWithin, stringField, SameText}
 use Rattle.building_record.specs.declared.BuildingKind.{BuildingKind}
 use Rattle.building_record.specs.declared.Building.{Building}
 use Rattle.building_record.specs.Record.{directionIn}
@@ -42,11 +42,11 @@ name-same direction true text other same = refl
 name-same direction false text other same = ap (spelledName direction false) (same refl)
 
 -- a header's value
-value-same : (declaring null : Bool) (text other : List ℕ) → SameText null text other
-    → headerValue declaring null text ≡ headerValue declaring null other
-unfolding valueFault stringFault stringAllowed stringBytes declaredBy
-value-same declaring true text other same = refl
-value-same declaring false text other same = ap (headerValue declaring false) (same refl)
+value-same : (isLength null : Bool) (text other : List ℕ) → SameText null text other
+    → headerValue isLength null text ≡ headerValue isLength null other
+unfolding valueFault stringFault stringAllowed stringBytes declaredAfter
+value-same isLength true text other same = refl
+value-same isLength false text other same = ap (headerValue isLength false) (same refl)
 
 -- the calls: Forward
 pub forward-same : (numbers : Numbers) (nulls : Nulls) (protocol uri addr host name protocol2 uri2 addr2 host2 name2 : List ℕ)

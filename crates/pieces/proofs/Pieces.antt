@@ -16,11 +16,11 @@ use Rattle.packet.specs.declared.AttributeKind.{AttributeKind}
 use Rattle.connection.specs.Connection.{maxPacket}
 use Rattle.places.specs.Entries.{maxHeaders}
 use Rattle.attributes.proofs.Laws.{high-unserved}
-use Rattle.fields.specs.Fault.{unless, orElse, faultAfter, firstFault, fitFault}
-use Rattle.fields.specs.Field.{Field, faultsOf, sizeTold, Fits}
-use Rattle.fields.specs.Call.{Call, refused, done, refusalOf, outcome, bufferAfter}
-use Rattle.fields.proofs.Sizes.{or-second, first-none, told-exact, told-behind, unless-none}
-use Rattle.fields.proofs.Calls.{found-by, refused-answer, refused-buffer, done-answer, done-buffer, done-own, done-fits}
+use Rattle.building.specs.Fault.{unless, orElse, faultAfter, firstFault, fitFault}
+use Rattle.building.specs.Field.{Field, faultsOf, sizeTold, Fits}
+use Rattle.building.specs.Call.{Call, refused, done, refusalOf, outcome, bufferAfter}
+use Rattle.building.proofs.Sizes.{or-second, first-none, told-exact, told-behind, unless-none}
+use Rattle.building.proofs.Calls.{found-by, refused-answer, refused-buffer, done-answer, done-buffer, done-own, done-fits}
 use Rattle.building_record.specs.declared.Building.{Building}
 use Rattle.building_record.specs.Record.{headerNow, attributeNow, countFault}
 use Rattle.pieces.specs.Header.{headerCall}

@@ -9,21 +9,21 @@ use lib.ListN.{length, getD, length-append}
 use lib.Seq.{getD-take}
 use Rattle.wire.specs.Pick.{both}
 use Rattle.wire.specs.Bytes.{over, integerBytes}
-use Rattle.wire.specs.Packet.{head}
+use Rattle.wire.specs.Packet.{packetHead}
 use Rattle.wire.proofs.Tests.{both-first}
 use Rattle.wire.proofs.Field.{head-four}
 use Rattle.wire.specs.Refusal.{recordWrong}
 use Rattle.connection.specs.Cycle.{directionOf}
 use Rattle.places.specs.Entries.{maxHeaders}
 use Rattle.payload.specs.Code.{codeOf, afterCodePlace, codePlace}
-use Rattle.fields.specs.Field.{Field, opening, faultsOf, bytesOf}
-use Rattle.fields.specs.Call.{Call, refusalOf, bufferAfter}
-use Rattle.fields.proofs.Sizes.{first-none, unless-none}
-use Rattle.fields.proofs.Rows.{bytes-append}
-use Rattle.fields.proofs.Calls.{done-own, done-fits, after-length, after-written, after-before}
+use Rattle.building.specs.Field.{Field, opening, faultsOf, fieldsBytes}
+use Rattle.building.specs.Call.{Call, refusalOf, bufferAfter}
+use Rattle.building.proofs.Sizes.{first-none, unless-none}
+use Rattle.building.proofs.Rows.{bytes-append}
+use Rattle.building.proofs.Calls.{done-own, done-fits, after-length, after-written, after-before}
 use Rattle.building_record.specs.declared.Building.{Building}
 use Rattle.building_record.specs.declared.BuildingKind.{BuildingKind}
-use Rattle.building_record.specs.Record.{kindIn, isPossible, headerNow, attributeNow, countFault, withHeader, withAttribute, isForward, Possible, countSize}
+use Rattle.building_record.specs.Record.{builtKind, isPossible, headerNow, attributeNow, countFault, withHeader, withAttribute, isForward, Possible, countSize}
 use Rattle.pieces.specs.Fixed.{unset, fixed, fixedCall}
 use Rattle.pieces.specs.Header.{headerCall}
 use Rattle.pieces.specs.Attribute.{attributeCall}
@@ -52,12 +52,12 @@ module _ (r s : Building) (buffer : List ℕ) (call : Call Building) (can : Poss
         behind = omega (arith, can .behind, place);
         apart = omega (arith, can .apart, place, next, at);
         few = few;
-        code = byte-kept call buffer codePlace none (omega (arith, can .behind, can .apart, at)) ∙ can .code ∙ ap (λ k. codeOf (kindIn k)) (sym kind);
+        code = byte-kept call buffer codePlace none (omega (arith, can .behind, can .apart, at)) ∙ can .code ∙ ap (λ k. codeOf (builtKind k)) (sym kind);
       }
 
 -- the record behind a header
 pub header-possible : (r : Building) (buffer : List ℕ) (own : List Field) → refusalOf (headerCall r buffer own) (length buffer) ≡ 0
-    → isPossible (withHeader r (r .next .0 + length (bytesOf own))) (bufferAfter (headerCall r buffer own) buffer) ≡ true
+    → isPossible (withHeader r (r .next .0 + length (fieldsBytes own))) (bufferAfter (headerCall r buffer own) buffer) ≡ true
 unfolding headerNow
 header-possible r buffer own none =
     let call : Call Building = headerCall r buffer own in
@@ -66,13 +66,13 @@ header-possible r buffer own none =
     both-first (isPossible r buffer) (not (r .attributes))
     (unless-none (both (isPossible r buffer) (not (r .attributes))) recordWrong (omega arith)
     (first-none (headerNow r buffer) (faultsOf own ++ (countFault r ∷ [])) (done-own call buffer (refusalOf call (length buffer)) refl none))) in
-    yes-possible (withHeader r (r .next .0 + length (bytesOf own))) (bufferAfter call buffer)
-    (behind-possible r (withHeader r (r .next .0 + length (bytesOf own))) buffer call (possible-yes r buffer ok) none refl refl refl refl
+    yes-possible (withHeader r (r .next .0 + length (fieldsBytes own))) (bufferAfter call buffer)
+    (behind-possible r (withHeader r (r .next .0 + length (fieldsBytes own))) buffer call (possible-yes r buffer ok) none refl refl refl refl
     (omega (arith, header-room own known none .1)))
 
 -- the record behind an attribute
 pub attribute-possible : (r : Building) (buffer : List ℕ) (own : List Field) → refusalOf (attributeCall r buffer own) (length buffer) ≡ 0
-    → isPossible (withAttribute r (r .next .0 + length (bytesOf own))) (bufferAfter (attributeCall r buffer own) buffer) ≡ true
+    → isPossible (withAttribute r (r .next .0 + length (fieldsBytes own))) (bufferAfter (attributeCall r buffer own) buffer) ≡ true
 unfolding attributeNow
 attribute-possible r buffer own none =
     let call : Call Building = attributeCall r buffer own in
@@ -81,26 +81,26 @@ attribute-possible r buffer own none =
     (unless-none (both (isPossible r buffer) (isForward (r .kind))) recordWrong (omega arith)
     (first-none (attributeNow r buffer) (faultsOf own) (done-own call buffer (refusalOf call (length buffer)) refl none))) in
     let can : Possible r buffer = possible-yes r buffer ok in
-    yes-possible (withAttribute r (r .next .0 + length (bytesOf own))) (bufferAfter call buffer)
-    (behind-possible r (withAttribute r (r .next .0 + length (bytesOf own))) buffer call can none refl refl refl refl (can .few))
+    yes-possible (withAttribute r (r .next .0 + length (fieldsBytes own))) (bufferAfter call buffer)
+    (behind-possible r (withAttribute r (r .next .0 + length (fieldsBytes own))) buffer call can none refl refl refl refl (can .few))
 
 -- the fixed fields are longer than the code's place and the count
-fixed-length : (kind : BuildingKind) (own : List Field) → afterCodePlace + countSize ≤ length (bytesOf (fixed kind own))
+fixed-length : (kind : BuildingKind) (own : List Field) → afterCodePlace + countSize ≤ length (fieldsBytes (fixed kind own))
 fixed-length kind own =
-    let first : List ℕ = opening (kindIn kind) 0 in
-    let four : List ℕ = head (directionOf (kindIn kind)) 0 in
+    let first : List ℕ = opening (builtKind kind) 0 in
+    let four : List ℕ = packetHead (directionOf (builtKind kind)) 0 in
     omega (
       arith,
-      length-append first (bytesOf (own ++ (unset ∷ []))),
-      length-append four (codeOf (kindIn kind) ∷ []),
-      head-four (directionOf (kindIn kind)) 0,
+      length-append first (fieldsBytes (own ++ (unset ∷ []))),
+      length-append four (codeOf (builtKind kind) ∷ []),
+      head-four (directionOf (builtKind kind)) 0,
       ap length (bytes-append own (unset ∷ [])),
-      length-append (bytesOf own) (integerBytes 0),
+      length-append (fieldsBytes own) (integerBytes 0),
     )
 
 -- they have the packet's code at its place
 fixed-code : (kind : BuildingKind) (own : List Field) (buffer : List ℕ)
-    → getD (over buffer 0 (bytesOf (fixed kind own))) codePlace 0 ≡ codeOf (kindIn kind)
+    → getD (over buffer 0 (fieldsBytes (fixed kind own))) codePlace 0 ≡ codeOf (builtKind kind)
 unfolding over
 fixed-code BuildingKind.Forward own buffer = refl
 fixed-code BuildingKind.SendHeaders own buffer = refl
@@ -112,7 +112,7 @@ begun-possible kind buffer own none =
     let call : Call Building = fixedCall kind own in
     let fits = done-fits call buffer (refusalOf call (length buffer)) refl none in
     let long : length (bufferAfter call buffer) ≡ length buffer = after-length call buffer in
-    let least : afterCodePlace + countSize ≤ length (bytesOf (fixed kind own)) = fixed-length kind own in
+    let least : afterCodePlace + countSize ≤ length (fieldsBytes (fixed kind own)) = fixed-length kind own in
     yes-possible (call .answer) (bufferAfter call buffer)
     (record {
       within = omega (arith, fits .1);

@@ -12,25 +12,25 @@ use Rattle.packet.specs.declared.Direction.{Direction}
 use Rattle.names.specs.Attribute.{attributeKind}
 use Rattle.names.specs.Header.{headerNames, spelledFault}
 use Rattle.names.specs.Names.{codeIn}
-use Rattle.names.specs.Length.{declare}
+use Rattle.names.specs.Length.{lengthAfter}
 use Rattle.names.specs.declared.CodeFound.{CodeFound}
 use Rattle.names.specs.declared.length.Declared.{Declared}
-use Rattle.names.specs.declared.length.Declaring.{Declaring}
+use Rattle.names.specs.declared.length.LengthRead.{LengthRead}
 use Rattle.names.proofs.Refusals.{code-fault, spelled-fault, DeclaringRefusal, declare-refusal}
-use Rattle.headers.specs.Headers.{declares, declaredBy}
+use Rattle.headers.specs.Headers.{declares, declaredAfter}
 use Rattle.places.specs.Entries.{maxHeaders}
 use Rattle.payload.specs.Forward.{firstMethod, lastMethod}
 use Rattle.payload.specs.SendHeaders.{leastStatus, greatestStatus}
-use Rattle.fields.specs.Fault.{AllFaults, stringFault}
-use Rattle.fields.specs.Field.{Field, faultsOf}
-use Rattle.fields.specs.Call.{Numbered}
-use Rattle.fields.proofs.Refusals.{unless-fault, or-fault, string-fault, range-fault, all-append, outcome-refusal}
+use Rattle.building.specs.Fault.{AllFaults, stringFault}
+use Rattle.building.specs.Field.{Field, faultsOf}
+use Rattle.building.specs.Call.{Numbered}
+use Rattle.building.proofs.Refusals.{unless-fault, or-fault, string-fault, range-fault, all-append, outcome-refusal}
 use Rattle.building_record.specs.declared.Building.{Building}
 use Rattle.building_record.specs.Record.{isForward, directionIn, isPossible, headerNow, attributeNow, countFault}
 use Rattle.pieces.specs.declared.forward.Numbers.{Numbers}
 use Rattle.pieces.specs.declared.forward.Nulls.{Nulls}
 use Rattle.pieces.specs.Fixed.{forwardCall, sendHeadersCall}
-use Rattle.pieces.specs.Header.{spelledName, declaringFault, valueFault, codedFields, spelledFields, headerCall, codedCall, spelledCall, namedBy, namedCall}
+use Rattle.pieces.specs.Header.{spelledName, lengthFault, valueFault, codedFields, spelledFields, headerCall, codedCall, spelledCall, namedBy, namedCall}
 use Rattle.pieces.specs.Attribute.{isText, isInteger, isPair, attributeCall, textFields, integerFields, pairFields, textCall, integerCall, pairCall}
 
 -- a refusal is a fault
@@ -42,21 +42,21 @@ refusal-fault n h = go (eqb n none) (isRefusal n) h
     go false u h = h
 
 -- what a value declares
-declared-fault : (declaring null : Bool) (text : List ℕ) → isFault (declaringFault (declaredBy declaring Declared.Absent null text)) ≡ true
-unfolding declaredBy
-declared-fault true null text = by (declare Declared.Absent null text) (declare-refusal Declared.Absent null text)
+declared-fault : (isLength null : Bool) (text : List ℕ) → isFault (lengthFault (declaredAfter isLength Declared.Absent null text)) ≡ true
+unfolding declaredAfter
+declared-fault true null text = by (lengthAfter Declared.Absent null text) (declare-refusal Declared.Absent null text)
   where
-    by : (d : Declaring) → DeclaringRefusal d → isFault (declaringFault d) ≡ true
-    by (Declaring.Refused n) h = refusal-fault n h
-    by (Declaring.Now declared) h = refl
+    by : (d : LengthRead) → DeclaringRefusal d → isFault (lengthFault d) ≡ true
+    by (LengthRead.Refused n) h = refusal-fault n h
+    by (LengthRead.Now declared) h = refl
 declared-fault false null text = refl
 
 -- a header's value, and its spelled name
-value-fault : (declaring null : Bool) (text : List ℕ) → isFault (valueFault declaring null text) ≡ true
+value-fault : (isLength null : Bool) (text : List ℕ) → isFault (valueFault isLength null text) ≡ true
 unfolding valueFault
-value-fault declaring null text =
-    or-fault (stringFault StringField.HeaderValue null text) (declaringFault (declaredBy declaring Declared.Absent null text))
-    (string-fault StringField.HeaderValue null text) (declared-fault declaring null text)
+value-fault isLength null text =
+    or-fault (stringFault StringField.HeaderValue null text) (lengthFault (declaredAfter isLength Declared.Absent null text))
+    (string-fault StringField.HeaderValue null text) (declared-fault isLength null text)
 
 name-fault : (direction : Direction) (null : Bool) (text : List ℕ) → isFault (spelledName direction null text .fault) ≡ true
 name-fault direction null text =

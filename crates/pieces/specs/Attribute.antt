@@ -11,9 +11,9 @@ use Rattle.wire.specs.Bytes.{integerBytes}
 use Rattle.wire.specs.declared.StringField.{StringField}
 use Rattle.names.specs.Attribute.{attributeKind}
 use Rattle.packet.specs.declared.AttributeKind.{AttributeKind}
-use Rattle.fields.specs.Fault.{unless}
-use Rattle.fields.specs.Field.{Field, plain, stringField, faultsOf, bytesOf}
-use Rattle.fields.specs.Call.{Call}
+use Rattle.building.specs.Fault.{unless}
+use Rattle.building.specs.Field.{Field, plain, stringField, faultsOf, fieldsBytes}
+use Rattle.building.specs.Call.{Call}
 use Rattle.building_record.specs.declared.Building.{Building}
 use Rattle.building_record.specs.Record.{attributeNow, withAttribute}
 
@@ -61,8 +61,8 @@ abbrev pub attributeCall : Building → List ℕ → List Field → Call Buildin
 attributeCall r buffer own = record {
   faults = attributeNow r buffer ∷ faultsOf own;
   at = r .next .0;
-  bytes = bytesOf own;
-  answer = withAttribute r (r .next .0 + length (bytesOf own));
+  bytes = fieldsBytes own;
+  answer = withAttribute r (r .next .0 + length (fieldsBytes own));
 }
 
 -- the calls

@@ -11,13 +11,13 @@ use Rattle.wire.specs.Field.{booleanBytes}
 use Rattle.wire.specs.declared.StringField.{StringField}
 use Rattle.payload.specs.Forward.{firstMethod, lastMethod}
 use Rattle.payload.specs.SendHeaders.{leastStatus, greatestStatus}
-use Rattle.fields.specs.Field.{Field, plain, opening, byteWithin, integerWithin, stringField, faultsOf, bytesOf}
-use Rattle.fields.specs.Call.{Call}
+use Rattle.building.specs.Field.{Field, plain, opening, byteWithin, integerWithin, stringField, faultsOf, fieldsBytes}
+use Rattle.building.specs.Call.{Call}
 use Rattle.building_record.specs.declared.BuildingKind.{BuildingKind}
 use Rattle.building_record.specs.declared.Building.{Building}
 use Rattle.pieces.specs.declared.forward.Numbers.{Numbers}
 use Rattle.pieces.specs.declared.forward.Nulls.{Nulls}
-use Rattle.building_record.specs.Record.{kindIn, opened}
+use Rattle.building_record.specs.Record.{builtKind, opened}
 
 -- a count that closing will set
 abbrev pub unset : Field
@@ -25,15 +25,15 @@ unset = plain (integerBytes 0)
 
 -- a packet's fixed fields, from its first byte to the count of headers
 abbrev pub fixed : BuildingKind → List Field → List Field
-fixed kind own = plain (opening (kindIn kind) 0) ∷ (own ++ (unset ∷ []))
+fixed kind own = plain (opening (builtKind kind) 0) ∷ (own ++ (unset ∷ []))
 
 -- the call that writes them
 abbrev pub fixedCall : BuildingKind → List Field → Call Building
 fixedCall kind own = record {
   faults = faultsOf (fixed kind own);
   at = 0;
-  bytes = bytesOf (fixed kind own);
-  answer = opened kind (length (bytesOf (fixed kind own)));
+  bytes = fieldsBytes (fixed kind own);
+  answer = opened kind (length (fieldsBytes (fixed kind own)));
 }
 
 -- of a Forward's strings none is null

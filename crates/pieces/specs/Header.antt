@@ -14,11 +14,11 @@ use Rattle.names.specs.Header.{headerNames, codeFault, spelledFault}
 use Rattle.names.specs.Names.{codeIn}
 use Rattle.names.specs.declared.CodeFound.{CodeFound}
 use Rattle.names.specs.declared.length.Declared.{Declared}
-use Rattle.names.specs.declared.length.Declaring.{Declaring}
-use Rattle.headers.specs.Headers.{declares, declaredBy}
-use Rattle.fields.specs.Fault.{orElse, stringFault}
-use Rattle.fields.specs.Field.{Field, faultsOf, bytesOf, neededAt}
-use Rattle.fields.specs.Call.{Call}
+use Rattle.names.specs.declared.length.LengthRead.{LengthRead}
+use Rattle.headers.specs.Headers.{declares, declaredAfter}
+use Rattle.building.specs.Fault.{orElse, stringFault}
+use Rattle.building.specs.Field.{Field, faultsOf, fieldsBytes, neededAt}
+use Rattle.building.specs.Call.{Call}
 use Rattle.building_record.specs.declared.Building.{Building}
 use Rattle.building_record.specs.Record.{directionIn, headerNow, countFault, withHeader}
 
@@ -34,18 +34,18 @@ spelledName direction null text = record {
 }
 
 -- the fault of what a value declares
-abbrev pub declaringFault : Declaring → ℕ
-declaringFault (Declaring.Refused n) = n
-declaringFault (Declaring.Now declared) = none
+abbrev pub lengthFault : LengthRead → ℕ
+lengthFault (LengthRead.Refused n) = n
+lengthFault (LengthRead.Now declared) = none
 
 -- a value: the string's own rule (6), then, where it declares a length, that it is one (10)
 unfoldable pub valueFault : Bool → Bool → List ℕ → ℕ
-valueFault declaring null text =
-    orElse (stringFault StringField.HeaderValue null text) (declaringFault (declaredBy declaring Declared.Absent null text))
+valueFault isLength null text =
+    orElse (stringFault StringField.HeaderValue null text) (lengthFault (declaredAfter isLength Declared.Absent null text))
 
 -- a value
 abbrev pub headerValue : Bool → Bool → List ℕ → Field
-headerValue declaring null text = record { fault = valueFault declaring null text; bytes = stringBytes null text }
+headerValue isLength null text = record { fault = valueFault isLength null text; bytes = stringBytes null text }
 
 -- a header with a code for its name
 abbrev pub codedFields : Direction → ℕ → Bool → List ℕ → List Field
@@ -61,8 +61,8 @@ abbrev pub headerCall : Building → List ℕ → List Field → Call Building
 headerCall r buffer own = record {
   faults = headerNow r buffer ∷ (faultsOf own ++ (countFault r ∷ []));
   at = r .next .0;
-  bytes = bytesOf own;
-  answer = withHeader r (r .next .0 + length (bytesOf own));
+  bytes = fieldsBytes own;
+  answer = withHeader r (r .next .0 + length (fieldsBytes own));
 }
 
 -- the calls

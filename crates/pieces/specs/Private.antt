@@ -6,7 +6,7 @@ use Prim.Native.Nat.{ℕ}
 use Rattle.wire.specs.Bytes.{integerBytes}
 use Rattle.wire.specs.Field.{booleanBytes}
 use Rattle.wire.specs.declared.StringField.{StringField}
-use Rattle.fields.specs.Field.{Field, plain, stringField}
+use Rattle.building.specs.Field.{Field, plain, stringField}
 use Rattle.pieces.specs.declared.forward.Numbers.{Numbers}
 use Rattle.pieces.specs.declared.forward.Nulls.{Nulls}
 use Rattle.pieces.specs.Fixed.{unset}

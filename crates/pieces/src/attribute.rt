@@ -7,18 +7,18 @@ ghost use Rattle.wire.specs.Bytes.{over, integerBytes};
 ghost use Rattle.wire.specs.Field.{stringBytes};
 ghost use Rattle.wire.specs.Refusal.{attributeWrong};
 ghost use Rattle.names.specs.Attribute.{attributeKind};
-ghost use Rattle.fields.specs.Fault.{unless, orElse, firstFault};
-ghost use Rattle.fields.specs.Field.{neededAt, Fits};
-ghost use Rattle.fields.specs.Call.{outcome, bufferAfter};
+ghost use Rattle.building.specs.Fault.{unless, orElse, firstFault};
+ghost use Rattle.building.specs.Field.{neededAt, Fits};
+ghost use Rattle.building.specs.Call.{outcome, bufferAfter};
 ghost use Rattle.building_record.specs.Record.{attributeNow};
-ghost use Rattle.pieces.specs.Meaning.{meaning};
+ghost use Rattle.pieces.specs.Meaning.{addedOutcome};
 ghost use Rattle.pieces.specs.Attribute.{isText, isInteger, isPair, textFields, integerFields, pairFields, textCall, integerCall, pairCall};
 use crate::Added;
 use crate::with_attribute;
+use building::fault;
+use building::put;
+use building::size;
 use building_record::Building;
-use fields::fault;
-use fields::put;
-use fields::size;
 use names::attribute::kind_of;
 use packet::AttributeKind;
 use wire::StringField;
@@ -189,7 +189,7 @@ fn write_pair(
 
 // Adds an attribute with a string.
 pub fn text(building: Building, buffer: &mut [u8], code: u16, value: &[u8], null: bool) -> Added
-    ensures { λ r. ⌜ meaning r ≡ outcome (textCall building (now (buffer .entry)) code null (now (value .entry))) (length (now (buffer .entry))) ⌝ }
+    ensures { λ r. ⌜ addedOutcome r ≡ outcome (textCall building (now (buffer .entry)) code null (now (value .entry))) (length (now (buffer .entry))) ⌝ }
     ensures { λ _. ⌜ now (buffer .exit) ≡ bufferAfter (textCall building (now (buffer .entry)) code null (now (value .entry))) (now (buffer .entry)) ⌝ }
 {
     let end = text_needs(building, code, value, null);
@@ -204,7 +204,7 @@ pub fn text(building: Building, buffer: &mut [u8], code: u16, value: &[u8], null
 
 // Adds an attribute with an integer.
 pub fn integer(building: Building, buffer: &mut [u8], code: u16, value: u16) -> Added
-    ensures { λ r. ⌜ meaning r ≡ outcome (integerCall building (now (buffer .entry)) code value) (length (now (buffer .entry))) ⌝ }
+    ensures { λ r. ⌜ addedOutcome r ≡ outcome (integerCall building (now (buffer .entry)) code value) (length (now (buffer .entry))) ⌝ }
     ensures { λ _. ⌜ now (buffer .exit) ≡ bufferAfter (integerCall building (now (buffer .entry)) code value) (now (buffer .entry)) ⌝ }
 {
     let end = integer_needs(building, code, value);
@@ -228,7 +228,7 @@ pub fn pair(
     value: &[u8],
     novalue: bool,
 ) -> Added
-    ensures { λ r. ⌜ meaning r ≡ outcome (pairCall building (now (buffer .entry)) code noname (now (name .entry)) novalue (now (value .entry))) (length (now (buffer .entry))) ⌝ }
+    ensures { λ r. ⌜ addedOutcome r ≡ outcome (pairCall building (now (buffer .entry)) code noname (now (name .entry)) novalue (now (value .entry))) (length (now (buffer .entry))) ⌝ }
     ensures { λ _. ⌜ now (buffer .exit) ≡ bufferAfter (pairCall building (now (buffer .entry)) code noname (now (name .entry)) novalue (now (value .entry))) (now (buffer .entry)) ⌝ }
 {
     let end = pair_needs(building, code, name, noname, value, novalue);

@@ -4,7 +4,7 @@ ghost use Rattle.names.specs.Header.{headerNames};
 ghost use Rattle.names.specs.Names.{codeIn};
 ghost use Rattle.names.specs.declared.NameList.{NameList};
 ghost use Rattle.connection.specs.Cycle.{directionOf};
-ghost use Rattle.building_record.specs.Record.{kindIn};
+ghost use Rattle.building_record.specs.Record.{builtKind};
 use building_record::BuildingKind;
 use names::CodeFound;
 use names::NameList;
@@ -13,7 +13,7 @@ use names::table::code_of;
 
 // The code of a header's name, by the packet that it is for, small and capital letters taken as one.
 pub fn of_header(kind: BuildingKind, name: &[u8]) -> CodeFound
-    ensures { λ r. ⌜ r ≡ codeIn (headerNames (directionOf (kindIn kind))) (now (name .entry)) ⌝ }
+    ensures { λ r. ⌜ r ≡ codeIn (headerNames (directionOf (builtKind kind))) (now (name .entry)) ⌝ }
 {
     header::code_of(kind.kind().direction(), name)
 }

@@ -4,21 +4,21 @@ ghost use Prim.Native.Nat.{_+_, _≤_};
 ghost use lib.ListN.{length};
 ghost use Rattle.wire.specs.Bytes.{over};
 ghost use Rattle.payload.specs.Forward.{lastMethod};
-ghost use Rattle.fields.specs.Fault.{firstFault};
-ghost use Rattle.fields.specs.Field.{faultsOf, bytesOf, neededAt, Fits};
-ghost use Rattle.fields.specs.Call.{outcome, bufferAfter};
+ghost use Rattle.building.specs.Fault.{firstFault};
+ghost use Rattle.building.specs.Field.{faultsOf, fieldsBytes, neededAt, Fits};
+ghost use Rattle.building.specs.Call.{outcome, bufferAfter};
 ghost use Rattle.building_record.specs.declared.BuildingKind.{BuildingKind};
-ghost use Rattle.pieces.specs.Meaning.{meaning};
+ghost use Rattle.pieces.specs.Meaning.{addedOutcome};
 ghost use Rattle.pieces.specs.Fixed.{noNulls, fixed, forwardFields, forwardCall};
 ghost use Rattle.pieces.specs.Private.{forwardStrings, forwardTail};
 use crate::Added;
 use crate::COUNT_SIZE;
 use crate::opened;
+use building::fault;
+use building::put;
+use building::size;
 use building_record::BuildingKind;
 use connection::Kind;
-use fields::fault;
-use fields::put;
-use fields::size;
 use payload::AFTER_CODE;
 use payload::forward::FIRST_METHOD;
 use payload::forward::LAST_METHOD;
@@ -117,9 +117,9 @@ fn strings(
     host: &[u8],
     name: &[u8],
 ) -> usize
-    requires { ⌜ Fits at (bytesOf (forwardStrings nulls (now protocol) (now uri) (now addr) (now host) (now name))) (now buffer) ⌝ }
-    ensures { λ r. ⌜ r ≡ at + length (bytesOf (forwardStrings nulls (now (protocol .entry)) (now (uri .entry)) (now (addr .entry)) (now (host .entry)) (now (name .entry)))) ⌝ }
-    ensures { λ _. ⌜ now (buffer .exit) ≡ over (now (buffer .entry)) at (bytesOf (forwardStrings nulls (now (protocol .entry)) (now (uri .entry)) (now (addr .entry)) (now (host .entry)) (now (name .entry)))) ⌝ }
+    requires { ⌜ Fits at (fieldsBytes (forwardStrings nulls (now protocol) (now uri) (now addr) (now host) (now name))) (now buffer) ⌝ }
+    ensures { λ r. ⌜ r ≡ at + length (fieldsBytes (forwardStrings nulls (now (protocol .entry)) (now (uri .entry)) (now (addr .entry)) (now (host .entry)) (now (name .entry)))) ⌝ }
+    ensures { λ _. ⌜ now (buffer .exit) ≡ over (now (buffer .entry)) at (fieldsBytes (forwardStrings nulls (now (protocol .entry)) (now (uri .entry)) (now (addr .entry)) (now (host .entry)) (now (name .entry)))) ⌝ }
 {
     let at = put::string(buffer, at, protocol, nulls.protocol);
     let at = put::string(buffer, at, uri, nulls.req_uri);
@@ -130,9 +130,9 @@ fn strings(
 
 // Writes what stands behind the strings: port, is_ssl, and 0 for the count.
 fn tail(buffer: &mut [u8], at: usize, numbers: Numbers) -> usize
-    requires { ⌜ Fits at (bytesOf (forwardTail numbers)) (now buffer) ⌝ }
-    ensures { λ r. ⌜ r ≡ at + length (bytesOf (forwardTail numbers)) ⌝ }
-    ensures { λ _. ⌜ now (buffer .exit) ≡ over (now (buffer .entry)) at (bytesOf (forwardTail numbers)) ⌝ }
+    requires { ⌜ Fits at (fieldsBytes (forwardTail numbers)) (now buffer) ⌝ }
+    ensures { λ r. ⌜ r ≡ at + length (fieldsBytes (forwardTail numbers)) ⌝ }
+    ensures { λ _. ⌜ now (buffer .exit) ≡ over (now (buffer .entry)) at (fieldsBytes (forwardTail numbers)) ⌝ }
 {
     let at = put::integer(buffer, at, numbers.server_port);
     let at = put::boolean(buffer, at, numbers.is_ssl);
@@ -150,8 +150,8 @@ fn write(
     host: &[u8],
     name: &[u8],
 )
-    requires { ⌜ (Fits 0 (bytesOf (fixed BuildingKind.Forward (forwardFields numbers nulls (now protocol) (now uri) (now addr) (now host) (now name)))) (now buffer)) × (numbers .method ≤ lastMethod) ⌝ }
-    ensures { λ _. ⌜ now (buffer .exit) ≡ over (now (buffer .entry)) 0 (bytesOf (fixed BuildingKind.Forward (forwardFields numbers nulls (now (protocol .entry)) (now (uri .entry)) (now (addr .entry)) (now (host .entry)) (now (name .entry))))) ⌝ }
+    requires { ⌜ (Fits 0 (fieldsBytes (fixed BuildingKind.Forward (forwardFields numbers nulls (now protocol) (now uri) (now addr) (now host) (now name)))) (now buffer)) × (numbers .method ≤ lastMethod) ⌝ }
+    ensures { λ _. ⌜ now (buffer .exit) ≡ over (now (buffer .entry)) 0 (fieldsBytes (fixed BuildingKind.Forward (forwardFields numbers nulls (now (protocol .entry)) (now (uri .entry)) (now (addr .entry)) (now (host .entry)) (now (name .entry))))) ⌝ }
 {
     let at = put::open(buffer, Kind::Forward, 0);
     let at = put::byte(buffer, at, numbers.method as u8);
@@ -170,7 +170,7 @@ pub fn begin(
     host: &[u8],
     name: &[u8],
 ) -> Added
-    ensures { λ r. ⌜ meaning r ≡ outcome (forwardCall numbers nulls (now (protocol .entry)) (now (uri .entry)) (now (addr .entry)) (now (host .entry)) (now (name .entry))) (length (now (buffer .entry))) ⌝ }
+    ensures { λ r. ⌜ addedOutcome r ≡ outcome (forwardCall numbers nulls (now (protocol .entry)) (now (uri .entry)) (now (addr .entry)) (now (host .entry)) (now (name .entry))) (length (now (buffer .entry))) ⌝ }
     ensures { λ _. ⌜ now (buffer .exit) ≡ bufferAfter (forwardCall numbers nulls (now (protocol .entry)) (now (uri .entry)) (now (addr .entry)) (now (host .entry)) (now (name .entry))) (now (buffer .entry)) ⌝ }
 {
     let end = needs(numbers, nulls, protocol, uri, addr, host, name);

@@ -6,26 +6,26 @@ ghost use Rattle.wire.specs.Bytes.{over, integerBytes};
 ghost use Rattle.wire.specs.Field.{stringBytes};
 ghost use Rattle.names.specs.Header.{headerNames};
 ghost use Rattle.names.specs.Names.{codeIn};
-ghost use Rattle.fields.specs.Fault.{firstFault};
-ghost use Rattle.fields.specs.Field.{neededAt, Fits};
-ghost use Rattle.fields.specs.Call.{outcome, bufferAfter};
+ghost use Rattle.building.specs.Fault.{firstFault};
+ghost use Rattle.building.specs.Field.{neededAt, Fits};
+ghost use Rattle.building.specs.Call.{outcome, bufferAfter};
 ghost use Rattle.building_record.specs.Record.{directionIn};
-ghost use Rattle.pieces.specs.Meaning.{meaning};
-ghost use Rattle.pieces.specs.Header.{declaringFault, valueFault, spelledName, codedFields, spelledFields, codedCall, spelledCall, namedCall, namedNeeds};
+ghost use Rattle.pieces.specs.Meaning.{addedOutcome};
+ghost use Rattle.pieces.specs.Header.{lengthFault, valueFault, spelledName, codedFields, spelledFields, codedCall, spelledCall, namedCall, namedNeeds};
 use crate::Added;
 use crate::code::of_header;
 use crate::with_header;
+use building::fault;
+use building::put;
+use building::size;
 use building_record::Building;
-use fields::fault;
-use fields::put;
-use fields::size;
-use headers::declared_by;
+use headers::declared_after;
 use headers::declares_length;
 use names::CodeFound;
 use names::header::code_fault;
 use names::header::spelled_fault;
 use names::length::Declared;
-use names::length::Declaring;
+use names::length::LengthRead;
 use names::token;
 use packet::Direction;
 use wire::StringField;
@@ -71,12 +71,12 @@ pub fn named_needs(building: Building, name: &[u8], value: &[u8], null: bool) ->
 }
 
 // The fault of what a value declares.
-fn declaring_fault(declaring: Declaring) -> u8
-    ensures { λ r. ⌜ r ≡ declaringFault declaring ⌝ }
+fn declaring_fault(isLength: LengthRead) -> u8
+    ensures { λ r. ⌜ r ≡ lengthFault isLength ⌝ }
 {
-    match declaring {
-        Declaring::Refused(n) => n,
-        Declaring::Now(_) => refusal::NONE,
+    match isLength {
+        LengthRead::Refused(n) => n,
+        LengthRead::Now(_) => refusal::NONE,
     }
 }
 
@@ -86,7 +86,7 @@ fn value_fault(declares: bool, text: &[u8], null: bool) -> u8
 {
     fault::or_else(
         fault::string(StringField::HeaderValue, text, null),
-        declaring_fault(declared_by(declares, Declared::Absent, text, null)),
+        declaring_fault(declared_after(declares, Declared::Absent, text, null)),
     )
 }
 
@@ -144,7 +144,7 @@ fn write_coded(buffer: &mut [u8], at: usize, code: u16, value: &[u8], null: bool
 
 // Adds a header with a code for its name.
 pub fn coded(building: Building, buffer: &mut [u8], code: u16, value: &[u8], null: bool) -> Added
-    ensures { λ r. ⌜ meaning r ≡ outcome (codedCall building (now (buffer .entry)) code null (now (value .entry))) (length (now (buffer .entry))) ⌝ }
+    ensures { λ r. ⌜ addedOutcome r ≡ outcome (codedCall building (now (buffer .entry)) code null (now (value .entry))) (length (now (buffer .entry))) ⌝ }
     ensures { λ _. ⌜ now (buffer .exit) ≡ bufferAfter (codedCall building (now (buffer .entry)) code null (now (value .entry))) (now (buffer .entry)) ⌝ }
 {
     let end = coded_needs(building, code, value, null);
@@ -166,7 +166,7 @@ pub fn spelled(
     value: &[u8],
     novalue: bool,
 ) -> Added
-    ensures { λ r. ⌜ meaning r ≡ outcome (spelledCall building (now (buffer .entry)) noname (now (name .entry)) novalue (now (value .entry))) (length (now (buffer .entry))) ⌝ }
+    ensures { λ r. ⌜ addedOutcome r ≡ outcome (spelledCall building (now (buffer .entry)) noname (now (name .entry)) novalue (now (value .entry))) (length (now (buffer .entry))) ⌝ }
     ensures { λ _. ⌜ now (buffer .exit) ≡ bufferAfter (spelledCall building (now (buffer .entry)) noname (now (name .entry)) novalue (now (value .entry))) (now (buffer .entry)) ⌝ }
 {
     let end = spelled_needs(building, name, noname, value, novalue);
@@ -181,7 +181,7 @@ pub fn spelled(
 
 // Adds a header whose name is given as a text: by its code where the name is listed, else spelled out.
 pub fn named(building: Building, buffer: &mut [u8], name: &[u8], value: &[u8], null: bool) -> Added
-    ensures { λ r. ⌜ meaning r ≡ outcome (namedCall building (now (buffer .entry)) (now (name .entry)) null (now (value .entry))) (length (now (buffer .entry))) ⌝ }
+    ensures { λ r. ⌜ addedOutcome r ≡ outcome (namedCall building (now (buffer .entry)) (now (name .entry)) null (now (value .entry))) (length (now (buffer .entry))) ⌝ }
     ensures { λ _. ⌜ now (buffer .exit) ≡ bufferAfter (namedCall building (now (buffer .entry)) (now (name .entry)) null (now (value .entry))) (now (buffer .entry)) ⌝ }
 {
     let kind = building.kind;

@@ -2,20 +2,20 @@
 ghost use mathlib.Core.Path.{_≡_};
 ghost use lib.ListN.{length};
 ghost use Rattle.wire.specs.Bytes.{over};
-ghost use Rattle.fields.specs.Fault.{firstFault};
-ghost use Rattle.fields.specs.Field.{faultsOf, bytesOf, neededAt, Fits};
-ghost use Rattle.fields.specs.Call.{outcome, bufferAfter};
+ghost use Rattle.building.specs.Fault.{firstFault};
+ghost use Rattle.building.specs.Field.{faultsOf, fieldsBytes, neededAt, Fits};
+ghost use Rattle.building.specs.Call.{outcome, bufferAfter};
 ghost use Rattle.building_record.specs.declared.BuildingKind.{BuildingKind};
-ghost use Rattle.pieces.specs.Meaning.{meaning};
+ghost use Rattle.pieces.specs.Meaning.{addedOutcome};
 ghost use Rattle.pieces.specs.Fixed.{fixed, sendHeadersFields, sendHeadersCall};
 use crate::Added;
 use crate::COUNT_SIZE;
 use crate::opened;
+use building::fault;
+use building::put;
+use building::size;
 use building_record::BuildingKind;
 use connection::Kind;
-use fields::fault;
-use fields::put;
-use fields::size;
 use payload::AFTER_CODE;
 use payload::send_headers::GREATEST_STATUS;
 use payload::send_headers::LEAST_STATUS;
@@ -44,8 +44,8 @@ fn fields_fault(status: u16, message: &[u8], null: bool) -> u8
 
 // Writes the fixed fields.
 fn write(buffer: &mut [u8], status: u16, message: &[u8], null: bool)
-    requires { ⌜ Fits 0 (bytesOf (fixed BuildingKind.SendHeaders (sendHeadersFields status null (now message)))) (now buffer) ⌝ }
-    ensures { λ _. ⌜ now (buffer .exit) ≡ over (now (buffer .entry)) 0 (bytesOf (fixed BuildingKind.SendHeaders (sendHeadersFields status null (now (message .entry))))) ⌝ }
+    requires { ⌜ Fits 0 (fieldsBytes (fixed BuildingKind.SendHeaders (sendHeadersFields status null (now message)))) (now buffer) ⌝ }
+    ensures { λ _. ⌜ now (buffer .exit) ≡ over (now (buffer .entry)) 0 (fieldsBytes (fixed BuildingKind.SendHeaders (sendHeadersFields status null (now (message .entry))))) ⌝ }
 {
     let at = put::open(buffer, Kind::SendHeaders, 0);
     let at = put::integer(buffer, at, status);
@@ -55,7 +55,7 @@ fn write(buffer: &mut [u8], status: u16, message: &[u8], null: bool)
 
 // Begins a Send Headers: writes its fixed fields at the buffer's start, its length and its count as 0, and answers the building record.
 pub fn begin(buffer: &mut [u8], status: u16, message: &[u8], null: bool) -> Added
-    ensures { λ r. ⌜ meaning r ≡ outcome (sendHeadersCall status null (now (message .entry))) (length (now (buffer .entry))) ⌝ }
+    ensures { λ r. ⌜ addedOutcome r ≡ outcome (sendHeadersCall status null (now (message .entry))) (length (now (buffer .entry))) ⌝ }
     ensures { λ _. ⌜ now (buffer .exit) ≡ bufferAfter (sendHeadersCall status null (now (message .entry))) (now (buffer .entry)) ⌝ }
 {
     let end = needs(status, message, null);

@@ -7,7 +7,7 @@ use native.Mathlib.Omega.{arith}
 use lib.ListN.{length}
 use Rattle.places.specs.Entries.{maxPlaces}
 use Rattle.connection.specs.declared.Kind.{Kind}
-use Rattle.payload.specs.Kinds.{packetAt, kindIn}
+use Rattle.payload.specs.Kinds.{packetAt, packetKind}
 use Rattle.packet.specs.declared.Packet.{Packet}
 use Rattle.payload.specs.declared.found.PacketRead.{PacketRead}
 use Rattle.payload.proofs.Parsed.{forward-places, send-headers-places, parsed-kind}
@@ -20,8 +20,8 @@ PlacesFit many (PacketRead.Packet packet) = (many ≡ placesNeeded (told packet)
 
 module _ (s : List ℕ) where
   -- a packet that is read as its own kind
-  own-fit : (packet : Packet) → packetAt (kindIn packet) s .end ≡ PacketRead.Packet packet
-      → PlacesFit (length (packetAt (kindIn packet) s .places)) (PacketRead.Packet packet)
+  own-fit : (packet : Packet) → packetAt (packetKind packet) s .end ≡ PacketRead.Packet packet
+      → PlacesFit (length (packetAt (packetKind packet) s .places)) (PacketRead.Packet packet)
   own-fit Packet.CPing e = (refl, omega arith)
   own-fit Packet.CPong e = (refl, omega arith)
   own-fit (Packet.Forward forward) e =

@@ -11,7 +11,7 @@ use lib.Dec.{leb}
 use lib.ListN.{length, take, drop, length-take}
 use lib.Seq.{take-at}
 use Rattle.wire.specs.Pick.{pick}
-use Rattle.wire.specs.Refusal.{notNow, lentTooShort}
+use Rattle.wire.specs.Refusal.{notNow, bufferTooShort}
 use Rattle.wire.specs.Bytes.{part, over, put}
 use Rattle.wire.proofs.Bytes.{over-none, put-fits}
 use Rattle.packet.specs.declared.Direction.{Direction}
@@ -21,7 +21,7 @@ use Rattle.connection.specs.declared.Kind.{Kind}
 use Rattle.connection.specs.declared.Connection.{Connection}
 use Rattle.connection.specs.declared.Step.{Step}
 use Rattle.payload.specs.Code.{kindAt}
-use Rattle.payload.specs.Kinds.{packetAt, moveIn}
+use Rattle.payload.specs.Kinds.{packetAt, packetMove}
 use Rattle.payload.specs.declared.KindRead.{KindRead}
 use Rattle.packet.specs.declared.Packet.{Packet}
 use Rattle.payload.specs.declared.found.PacketRead.{PacketRead}
@@ -29,18 +29,18 @@ use Rattle.reader.specs.declared.frame.FrameRead.{FrameRead}
 use Rattle.reader.specs.Frame.{frameAt}
 use Rattle.reader.specs.Meaning.{Meaning, needs, refused, accepted, placesNeeded}
 use Rattle.reader.specs.Reading.{parseWhole, parse, readAsBody, stepped, accepting, withRoom, reading, filled, tableAfter}
-use Rattle.reader.specs.Private.{needed, tableGiven, fieldsOf, tableFields, wholeOf, tableWhole}
+use Rattle.reader.specs.Private.{needed, tableGiven, allowedReading, allowedTable, wholeOf, tableWhole}
 use Rattle.reader.proofs.Below.{PlacesFit, places-fit}
 
 -- a packet that was read, by the step
-pub accepting-is : (c : Connection) (taken : ℕ) (packet : Packet) (step : Step) → stepOf c (moveIn packet) ≡ step
+pub accepting-is : (c : Connection) (taken : ℕ) (packet : Packet) (step : Step) → stepOf c (packetMove packet) ≡ step
     → stepped packet taken step ≡ accepting c taken (PacketRead.Packet packet)
 unfolding accepting
 accepting-is c taken packet step e = ap (stepped packet taken) (sym e)
 
 -- too little room for the places that an answer asks for
 pub room-short : (m : Meaning) (places table : List ℕ) → leb (needed m) (length table) ≡ false
-    → (refused lentTooShort ≡ withRoom (length table) m) × (table ≡ tableGiven m places table)
+    → (refused bufferTooShort ≡ withRoom (length table) m) × (table ≡ tableGiven m places table)
 unfolding tableGiven
 room-short (needs n) places table e = absurd (false≢true (sym e ∙ le-leb 0 (length table) (omega arith)))
 room-short (refused n) places table e = absurd (false≢true (sym e ∙ le-leb 0 (length table) (omega arith)))
@@ -72,7 +72,7 @@ NeedsPlaces many (accepted t taken after) = many ≡ placesNeeded t
 pub accepting-places : (c : Connection) (taken many : ℕ) (end : PacketRead) → PlacesFit many end → NeedsPlaces many (accepting c taken end)
 unfolding accepting
 accepting-places c taken many (PacketRead.Refused n) h = tt
-accepting-places c taken many (PacketRead.Packet packet) h = go (stepOf c (moveIn packet))
+accepting-places c taken many (PacketRead.Packet packet) h = go (stepOf c (packetMove packet))
   where
     go : (step : Step) → NeedsPlaces many (stepped packet taken step)
     go (Step.Refused n) = tt
@@ -91,8 +91,8 @@ fill-own (refused n) room places blank table h = refl
 fill-own (accepted t taken after) room places blank table h = go (leb (placesNeeded t) room)
   where
     go : (enough : Bool)
-        → filled (pick enough (accepted t taken after) (refused lentTooShort)) (take (placesNeeded t) (over blank 0 places)) table
-        ≡ filled (pick enough (accepted t taken after) (refused lentTooShort)) places table
+        → filled (pick enough (accepted t taken after) (refused bufferTooShort)) (take (placesNeeded t) (over blank 0 places)) table
+        ≡ filled (pick enough (accepted t taken after) (refused bufferTooShort)) places table
     go true = ap (over table 0) (ap (λ (n : ℕ). take n (over blank 0 places)) (sym h) ∙ take-laid blank places)
     go false = refl
 
@@ -100,8 +100,8 @@ fill-own (accepted t taken after) room places blank table h = go (leb (placesNee
 pub listed-is : (c : Connection) (kind : Kind) (s blank table : List ℕ) (found : PacketRead) (answer r : Meaning) (places exit : List ℕ)
     → found ≡ packetAt kind s .end → places ≡ over blank 0 (packetAt kind s .places) → answer ≡ accepting c (length s) found
     → (r ≡ withRoom (length table) answer) × (exit ≡ tableGiven answer places table)
-    → (r ≡ fieldsOf c kind s (length table)) × (exit ≡ tableFields c kind s table)
-unfolding fieldsOf tableFields tableGiven
+    → (r ≡ allowedReading c kind s (length table)) × (exit ≡ allowedTable c kind s table)
+unfolding allowedReading allowedTable tableGiven
 listed-is c kind s blank table found answer r places exit p q e h =
     let own = accepting c (length s) (packetAt kind s .end) in
     let m : answer ≡ own = e ∙ ap (accepting c (length s)) p in
@@ -125,8 +125,8 @@ none-needed (accepted t taken after) table h =
 -- a packet without headers: it was stepped by, and the table is as it was
 pub plain-is : (c : Connection) (given kind : Kind) (s table : List ℕ) (end found : PacketRead) (r : Meaning)
     → given ≡ kind → packetAt kind s ≡ ended end → found ≡ end → r ≡ accepting c (length s) found
-    → (r ≡ fieldsOf c given s (length table)) × (table ≡ tableFields c given s table)
-unfolding fieldsOf tableFields
+    → (r ≡ allowedReading c given s (length table)) × (table ≡ allowedTable c given s table)
+unfolding allowedReading allowedTable
 plain-is c given kind s table end found r k p q e =
     let fit : PlacesFit 0 end = rw p at (places-fit s kind) in
     let kept = none-needed (accepting c (length s) end) table (accepting-places c (length s) 0 end fit) in
@@ -147,9 +147,9 @@ module _ (direction : Direction) (c : Connection) (s table : List ℕ) where
 
   -- a kind that is allowed
   pub whole-kind : (kind : Kind) (r : Meaning) (exit : List ℕ) → kindAt direction (readAsBody direction c) s ≡ KindRead.Kind kind
-      → inState c kind ≡ true → (r ≡ fieldsOf c kind s (length table)) × (exit ≡ tableFields c kind s table)
+      → inState c kind ≡ true → (r ≡ allowedReading c kind s (length table)) × (exit ≡ allowedTable c kind s table)
       → (r ≡ wholeOf direction c s (length table)) × (exit ≡ tableWhole direction c s table)
-  unfolding wholeOf tableWhole parseWhole fieldsOf tableFields
+  unfolding wholeOf tableWhole parseWhole allowedReading allowedTable
   whole-kind kind r exit e q h = rw (e, q) h
 
   -- more bytes are needed

@@ -88,7 +88,7 @@ pub data Meaning : Type 0 where
   accepted : Told → ℕ → Connection → Meaning
 
 -- what each case of the answer says
-abbrev pub meaning : Received → Meaning
-meaning (Received.Needs n) = needs n
-meaning (Received.Refused n) = refused n
-meaning (Received.Accepted packet taken connection) = accepted (told packet) taken connection
+abbrev pub receivedMeaning : Received → Meaning
+receivedMeaning (Received.Needs n) = needs n
+receivedMeaning (Received.Refused n) = refused n
+receivedMeaning (Received.Accepted packet taken connection) = accepted (told packet) taken connection

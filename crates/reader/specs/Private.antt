@@ -22,11 +22,11 @@ unfoldable pub tableGiven : Meaning → List ℕ → List ℕ → List ℕ
 tableGiven answer places table = filled (withRoom (length table) answer) (take (needed answer) places) table
 
 -- a packet of a kind that is allowed: the answer, and the table
-unfoldable pub fieldsOf : Connection → Kind → List ℕ → ℕ → Meaning
-fieldsOf c kind s room = withRoom room (accepting c (length s) (packetAt kind s .end))
+unfoldable pub allowedReading : Connection → Kind → List ℕ → ℕ → Meaning
+allowedReading c kind s room = withRoom room (accepting c (length s) (packetAt kind s .end))
 
-unfoldable pub tableFields : Connection → Kind → List ℕ → List ℕ → List ℕ
-tableFields c kind s table = filled (fieldsOf c kind s (length table)) (packetAt kind s .places) table
+unfoldable pub allowedTable : Connection → Kind → List ℕ → List ℕ → List ℕ
+allowedTable c kind s table = filled (allowedReading c kind s (length table)) (packetAt kind s .places) table
 
 -- a packet that is a list of its own bytes: the answer, and the table
 unfoldable pub wholeOf : Direction → Connection → List ℕ → ℕ → Meaning

@@ -8,7 +8,7 @@ use Prim.Native.Nat.{ℕ}
 use lib.Dec.{leb}
 use lib.ListN.{length}
 use Rattle.wire.specs.Pick.{pick}
-use Rattle.wire.specs.Refusal.{notNow, lentTooShort}
+use Rattle.wire.specs.Refusal.{notNow, bufferTooShort}
 use Rattle.wire.specs.Bytes.{part, over}
 use Rattle.packet.specs.declared.Direction.{Direction}
 use Rattle.places.specs.Entries.{Entries}
@@ -18,7 +18,7 @@ use Rattle.connection.specs.declared.Kind.{Kind}
 use Rattle.connection.specs.declared.Connection.{Connection}
 use Rattle.connection.specs.declared.Step.{Step}
 use Rattle.payload.specs.Code.{kindAt}
-use Rattle.payload.specs.Kinds.{packetAt, moveIn}
+use Rattle.payload.specs.Kinds.{packetAt, packetMove}
 use Rattle.payload.specs.declared.KindRead.{KindRead}
 use Rattle.packet.specs.declared.Packet.{Packet}
 use Rattle.payload.specs.declared.found.PacketRead.{PacketRead}
@@ -28,7 +28,7 @@ use Rattle.reader.specs.Meaning.{Meaning, needs, refused, accepted, told
 
 -- what bytes are, with no connection in it: too few, wrong, or a whole packet of a kind, with its length and what its fields say
 pub data Parsed : Type 0 where
-  short : ℕ → Parsed
+  unfinished : ℕ → Parsed
   wrong : ℕ → Parsed
   whole : Kind → ℕ → Entries PacketRead → Parsed
 
@@ -43,7 +43,7 @@ parseWhole direction body s = parsedOf s (kindAt direction body s)
 
 -- bytes, by the first packet's frame: what lies behind it is not looked at
 abbrev pub parseFrame : Direction → Bool → List ℕ → FrameRead → Parsed
-parseFrame direction body s (FrameRead.Needs n) = short n
+parseFrame direction body s (FrameRead.Needs n) = unfinished n
 parseFrame direction body s (FrameRead.Refused n) = wrong n
 parseFrame direction body s (FrameRead.Whole n) = parseWhole direction body (part s 0 n)
 
@@ -64,11 +64,11 @@ stepped packet taken (Step.Next after) = accepted (told packet) taken after
 -- a packet whose fields were read, 12 among them, and then the step
 unfoldable pub accepting : Connection → ℕ → PacketRead → Meaning
 accepting c taken (PacketRead.Refused n) = refused n
-accepting c taken (PacketRead.Packet packet) = stepped packet taken (stepOf c (moveIn packet))
+accepting c taken (PacketRead.Packet packet) = stepped packet taken (stepOf c (packetMove packet))
 
 -- what bytes are answered with, the table aside: 13 comes behind the code and before the fields
 abbrev pub judging : Connection → Parsed → Meaning
-judging c (short n) = needs n
+judging c (unfinished n) = needs n
 judging c (wrong n) = refused n
 judging c (whole kind taken found) = pick (inState c kind) (accepting c taken (found .end)) (refused notNow)
 
@@ -76,7 +76,7 @@ judging c (whole kind taken found) = pick (inState c kind) (accepting c taken (f
 abbrev pub withRoom : ℕ → Meaning → Meaning
 withRoom room (needs n) = needs n
 withRoom room (refused n) = refused n
-withRoom room (accepted t taken after) = pick (leb (placesNeeded t) room) (accepted t taken after) (refused lentTooShort)
+withRoom room (accepted t taken after) = pick (leb (placesNeeded t) room) (accepted t taken after) (refused bufferTooShort)
 
 -- the answer of reading, at the end to which packets of this direction go
 unfoldable pub reading : Direction → Connection → List ℕ → ℕ → Meaning
@@ -85,7 +85,7 @@ reading direction c s room = withRoom room (judging c (parse direction (readAsBo
 -- the places that a packet has for the table: for each header its name's and its value's, then for each attribute its code's and its
 -- value's
 abbrev pub placesOf : Parsed → List ℕ
-placesOf (short n) = []
+placesOf (unfinished n) = []
 placesOf (wrong n) = []
 placesOf (whole kind taken found) = found .places
 

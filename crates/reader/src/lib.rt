@@ -4,10 +4,10 @@ ghost use mathlib.Core.Path.{_≡_};
 ghost use Prim.Native.Nat.{_≤_};
 ghost use lib.ListN.{length};
 ghost use Rattle.connection.specs.Connection.{maxPacket};
-ghost use Rattle.payload.specs.Kinds.{moveIn};
-ghost use Rattle.reader.specs.Meaning.{meaning, told, placesNeeded};
+ghost use Rattle.payload.specs.Kinds.{packetMove};
+ghost use Rattle.reader.specs.Meaning.{receivedMeaning, told, placesNeeded};
 ghost use Rattle.reader.specs.Reading.{readAsBody, stepped, accepting, withRoom, reading, tableAfter};
-ghost use Rattle.reader.specs.Private.{needed, tableGiven, fieldsOf, tableFields, wholeOf, tableWhole};
+ghost use Rattle.reader.specs.Private.{needed, tableGiven, allowedReading, allowedTable, wholeOf, tableWhole};
 use connection::Connection;
 use connection::Kind;
 use connection::Move;
@@ -44,7 +44,7 @@ pub enum Received {
 // The container's end reads the first packet of the bytes. Where it is accepted, the table has the places of its headers and attributes;
 // else the table is as it was, and the connection given still counts.
 pub fn read_at_container(connection: Connection, bytes: &[u8], table: &mut [u16]) -> Received
-    ensures { λ r. ⌜ meaning r ≡ reading Direction.ToContainer connection (now (bytes .entry)) (length (now (table .entry))) ⌝ }
+    ensures { λ r. ⌜ receivedMeaning r ≡ reading Direction.ToContainer connection (now (bytes .entry)) (length (now (table .entry))) ⌝ }
     ensures { λ r. ⌜ now (table .exit) ≡ tableAfter Direction.ToContainer connection (now (bytes .entry)) (now (table .entry)) ⌝ }
 {
     read(Direction::ToContainer, connection, bytes, table)
@@ -52,7 +52,7 @@ pub fn read_at_container(connection: Connection, bytes: &[u8], table: &mut [u16]
 
 // The server's end reads the first packet of the bytes, in the same way.
 pub fn read_at_server(connection: Connection, bytes: &[u8], table: &mut [u16]) -> Received
-    ensures { λ r. ⌜ meaning r ≡ reading Direction.ToServer connection (now (bytes .entry)) (length (now (table .entry))) ⌝ }
+    ensures { λ r. ⌜ receivedMeaning r ≡ reading Direction.ToServer connection (now (bytes .entry)) (length (now (table .entry))) ⌝ }
     ensures { λ r. ⌜ now (table .exit) ≡ tableAfter Direction.ToServer connection (now (bytes .entry)) (now (table .entry)) ⌝ }
 {
     read(Direction::ToServer, connection, bytes, table)
@@ -65,7 +65,7 @@ pub fn read(
     bytes: &[u8],
     table: &mut [u16],
 ) -> Received
-    ensures { λ r. ⌜ meaning r ≡ reading direction connection (now (bytes .entry)) (length (now (table .entry))) ⌝ }
+    ensures { λ r. ⌜ receivedMeaning r ≡ reading direction connection (now (bytes .entry)) (length (now (table .entry))) ⌝ }
     ensures { λ r. ⌜ now (table .exit) ≡ tableAfter direction connection (now (bytes .entry)) (now (table .entry)) ⌝ }
 {
     match frame::frame(bytes, direction) {
@@ -88,7 +88,7 @@ fn reads_body(direction: Direction, connection: Connection) -> bool
 // A whole packet: its kind, whether that is allowed now, then its fields.
 fn whole(direction: Direction, connection: Connection, packet: &[u8], table: &mut [u16]) -> Received
     requires { ⌜ length (now packet) ≤ maxPacket ⌝ }
-    ensures { λ r. ⌜ meaning r ≡ wholeOf direction connection (now (packet .entry)) (length (now (table .entry))) ⌝ }
+    ensures { λ r. ⌜ receivedMeaning r ≡ wholeOf direction connection (now (packet .entry)) (length (now (table .entry))) ⌝ }
     ensures { λ r. ⌜ now (table .exit) ≡ tableWhole direction connection (now (packet .entry)) (now (table .entry)) ⌝ }
 {
     match payload::kind_of(packet, direction, reads_body(direction, connection)) {
@@ -105,8 +105,8 @@ fn whole(direction: Direction, connection: Connection, packet: &[u8], table: &mu
 // A packet of a kind: its fields, then the step, then the table.
 fn fields(connection: Connection, kind: Kind, packet: &[u8], table: &mut [u16]) -> Received
     requires { ⌜ length (now packet) ≤ maxPacket ⌝ }
-    ensures { λ r. ⌜ meaning r ≡ fieldsOf connection kind (now (packet .entry)) (length (now (table .entry))) ⌝ }
-    ensures { λ r. ⌜ now (table .exit) ≡ tableFields connection kind (now (packet .entry)) (now (table .entry)) ⌝ }
+    ensures { λ r. ⌜ receivedMeaning r ≡ allowedReading connection kind (now (packet .entry)) (length (now (table .entry))) ⌝ }
+    ensures { λ r. ⌜ now (table .exit) ≡ allowedTable connection kind (now (packet .entry)) (now (table .entry)) ⌝ }
 {
     let size = packet.len();
     match kind {
@@ -124,8 +124,8 @@ fn fields(connection: Connection, kind: Kind, packet: &[u8], table: &mut [u16]) 
 // A Forward; the table is filled from a list of our own at the very end, so that a refusal leaves it.
 fn forward(connection: Connection, packet: &[u8], table: &mut [u16]) -> Received
     requires { ⌜ length (now packet) ≤ maxPacket ⌝ }
-    ensures { λ r. ⌜ meaning r ≡ fieldsOf connection Kind.Forward (now (packet .entry)) (length (now (table .entry))) ⌝ }
-    ensures { λ r. ⌜ now (table .exit) ≡ tableFields connection Kind.Forward (now (packet .entry)) (now (table .entry)) ⌝ }
+    ensures { λ r. ⌜ receivedMeaning r ≡ allowedReading connection Kind.Forward (now (packet .entry)) (length (now (table .entry))) ⌝ }
+    ensures { λ r. ⌜ now (table .exit) ≡ allowedTable connection Kind.Forward (now (packet .entry)) (now (table .entry)) ⌝ }
 {
     let mut places = [0u16; MAX_PLACES];
     let found = payload::forward::read(packet, &mut places);
@@ -135,8 +135,8 @@ fn forward(connection: Connection, packet: &[u8], table: &mut [u16]) -> Received
 // Send Headers, in the same way.
 fn send_headers(connection: Connection, packet: &[u8], table: &mut [u16]) -> Received
     requires { ⌜ length (now packet) ≤ maxPacket ⌝ }
-    ensures { λ r. ⌜ meaning r ≡ fieldsOf connection Kind.SendHeaders (now (packet .entry)) (length (now (table .entry))) ⌝ }
-    ensures { λ r. ⌜ now (table .exit) ≡ tableFields connection Kind.SendHeaders (now (packet .entry)) (now (table .entry)) ⌝ }
+    ensures { λ r. ⌜ receivedMeaning r ≡ allowedReading connection Kind.SendHeaders (now (packet .entry)) (length (now (table .entry))) ⌝ }
+    ensures { λ r. ⌜ now (table .exit) ≡ allowedTable connection Kind.SendHeaders (now (packet .entry)) (now (table .entry)) ⌝ }
 {
     let mut places = [0u16; MAX_PLACES];
     let found = payload::send_headers::read(packet, &mut places);
@@ -145,7 +145,7 @@ fn send_headers(connection: Connection, packet: &[u8], table: &mut [u16]) -> Rec
 
 // The move that a packet makes in the cycle.
 pub fn move_of(packet: Packet) -> Move
-    ensures { λ r. ⌜ r ≡ moveIn packet ⌝ }
+    ensures { λ r. ⌜ r ≡ packetMove packet ⌝ }
 {
     match packet {
         Packet::CPing => Move::CPing,
@@ -164,7 +164,7 @@ pub fn move_of(packet: Packet) -> Move
 
 // Steps the connection by a packet that was read; the table aside.
 fn accept(connection: Connection, found: PacketRead, taken: usize) -> Received
-    ensures { λ r. ⌜ meaning r ≡ accepting connection taken found ⌝ }
+    ensures { λ r. ⌜ receivedMeaning r ≡ accepting connection taken found ⌝ }
 {
     match found {
         PacketRead::Refused(n) => Received::Refused(n),
@@ -174,7 +174,7 @@ fn accept(connection: Connection, found: PacketRead, taken: usize) -> Received
 
 // A packet that was read, by the step that it makes.
 fn stepped(packet: Packet, taken: usize, step: Step) -> Received
-    ensures { λ r. ⌜ meaning r ≡ stepped packet taken step ⌝ }
+    ensures { λ r. ⌜ receivedMeaning r ≡ stepped packet taken step ⌝ }
 {
     match step {
         Step::Refused(n) => Received::Refused(n),
@@ -204,7 +204,7 @@ pub fn places_needed(packet: Packet) -> usize
 
 // How many places an answer asks of the table: none unless the packet is accepted.
 fn needed_by(answer: Received) -> usize
-    ensures { λ r. ⌜ r ≡ needed (meaning answer) ⌝ }
+    ensures { λ r. ⌜ r ≡ needed (receivedMeaning answer) ⌝ }
 {
     match answer {
         Received::Needs(n) => 0,
@@ -219,12 +219,12 @@ fn needed_by(answer: Received) -> usize
 
 // Fills the table from a list of places where the packet is accepted and the table is long enough.
 fn fill_table(answer: Received, places: &[u16], table: &mut [u16]) -> Received
-    ensures { λ r. ⌜ meaning r ≡ withRoom (length (now (table .entry))) (meaning answer) ⌝ }
-    ensures { λ r. ⌜ now (table .exit) ≡ tableGiven (meaning answer) (now (places .entry)) (now (table .entry)) ⌝ }
+    ensures { λ r. ⌜ receivedMeaning r ≡ withRoom (length (now (table .entry))) (receivedMeaning answer) ⌝ }
+    ensures { λ r. ⌜ now (table .exit) ≡ tableGiven (receivedMeaning answer) (now (places .entry)) (now (table .entry)) ⌝ }
 {
     let count = needed_by(answer);
     if table.len() < count {
-        return Received::Refused(refusal::LENT_TOO_SHORT);
+        return Received::Refused(refusal::BUFFER_TOO_SHORT);
     }
     fill(table, first(places, count));
     answer

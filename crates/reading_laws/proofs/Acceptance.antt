@@ -10,19 +10,19 @@ use borrow.Author.Tests.{leb-true, le-leb}
 use lib.Dec.{leb}
 use lib.ListN.{length}
 use Rattle.wire.specs.Pick.{pick}
-use Rattle.wire.specs.Refusal.{notNow, sizeWrong, lentTooShort}
+use Rattle.wire.specs.Refusal.{notNow, bodySizeWrong, bufferTooShort}
 use Rattle.wire.specs.Bytes.{part, over}
 use Rattle.packet.specs.declared.Direction.{Direction}
 use Rattle.wire.proofs.Tests.{both-first, both-second}
 use Rattle.wire.proofs.Bytes.{length-part}
-use Rattle.connection.specs.Cycle.{kindOf, inState, inSize, allowed, after, stepOf}
+use Rattle.connection.specs.Cycle.{moveKind, inState, inSize, allowed, after, stepOf}
 use Rattle.connection.specs.declared.Kind.{Kind}
 use Rattle.connection.specs.declared.Connection.{Connection}
 use Rattle.connection.specs.declared.Step.{Step}
 use Rattle.connection.proofs.Laws.{step-by}
 use Rattle.places.specs.Entries.{maxPlaces}
 use Rattle.payload.specs.Code.{kindAt}
-use Rattle.payload.specs.Kinds.{packetAt, moveIn}
+use Rattle.payload.specs.Kinds.{packetAt, packetMove}
 use Rattle.payload.specs.declared.KindRead.{KindRead}
 use Rattle.packet.specs.declared.Packet.{Packet}
 use Rattle.payload.specs.declared.found.PacketRead.{PacketRead}
@@ -42,7 +42,7 @@ Accepts direction c s room (refused n) = Unit
 Accepts direction c s room (accepted t taken next) = Acceptance direction c s room t taken next
 
 -- the kind of a packet's move is the kind that it was read as
-move-is : (kind : Kind) (s : List ℕ) (packet : Packet) → packetAt kind s .end ≡ PacketRead.Packet packet → kindOf (moveIn packet) ≡ kind
+move-is : (kind : Kind) (s : List ℕ) (packet : Packet) → packetAt kind s .end ≡ PacketRead.Packet packet → moveKind (packetMove packet) ≡ kind
 move-is kind s packet e = move-kind packet ∙ parsed-kind kind s packet e
 
 module _ (direction : Direction) (c : Connection) (s : List ℕ) where
@@ -56,14 +56,14 @@ module _ (direction : Direction) (c : Connection) (s : List ℕ) where
     -- from what is read to the answer
     pub accepted-by : (kind : Kind) (packet : Packet) (taken : ℕ) → frameAt direction s ≡ FrameRead.Whole taken
         → kindAt direction (readAsBody direction c) (part s 0 taken) ≡ KindRead.Kind kind
-        → packetAt kind (part s 0 taken) .end ≡ PacketRead.Packet packet → allowed c (moveIn packet) ≡ true → placesNeeded (told packet) ≤ room
-        → reading direction c s room ≡ accepted (told packet) taken (after c (moveIn packet))
+        → packetAt kind (part s 0 taken) .end ≡ PacketRead.Packet packet → allowed c (packetMove packet) ≡ true → placesNeeded (told packet) ≤ room
+        → reading direction c s room ≡ accepted (told packet) taken (after c (packetMove packet))
     unfolding reading parse parseWhole accepting
     accepted-by kind packet taken w k f a h =
-        let m = moveIn packet in
-        let in-state : inState c (kindOf m) ≡ true = both-first (inState c (kindOf m)) (inSize c m) a in
+        let m = packetMove packet in
+        let in-state : inState c (moveKind m) ≡ true = both-first (inState c (moveKind m)) (inSize c m) a in
         let in-kind : inState c kind ≡ true = ap (inState c) (sym (move-is kind (part s 0 taken) packet f)) ∙ in-state in
-        let step : stepOf c m ≡ Step.Next (after c m) = step-by c m true true in-state (both-second (inState c (kindOf m)) (inSize c m) a) in
+        let step : stepOf c m ≡ Step.Next (after c m) = step-by c m true true in-state (both-second (inState c (moveKind m)) (inSize c m) a) in
         rw (w, k, in-kind, f, step, le-leb (placesNeeded (told packet)) room h, taken-is taken w)
 
     accepts : Accepts direction c s room (reading direction c s room)
@@ -72,13 +72,13 @@ module _ (direction : Direction) (c : Connection) (s : List ℕ) where
       where
         by-room : (n : ℕ) (kind : Kind) (packet : Packet) → frameAt direction s ≡ FrameRead.Whole n
             → kindAt direction (readAsBody direction c) (part s 0 n) ≡ KindRead.Kind kind
-            → packetAt kind (part s 0 n) .end ≡ PacketRead.Packet packet → allowed c (moveIn packet) ≡ true
+            → packetAt kind (part s 0 n) .end ≡ PacketRead.Packet packet → allowed c (packetMove packet) ≡ true
             → (enough : Bool) → leb (placesNeeded (told packet)) room ≡ enough
             → Accepts direction c s room
-            (pick enough (accepted (told packet) (length (part s 0 n)) (after c (moveIn packet))) (refused lentTooShort))
+            (pick enough (accepted (told packet) (length (part s 0 n)) (after c (packetMove packet))) (refused bufferTooShort))
         by-room n kind packet w k f a false e = tt
         by-room n kind packet w k f a true e =
-            subst (λ (taken : ℕ). Acceptance direction c s room (told packet) taken (after c (moveIn packet))) (sym (taken-is n w))
+            subst (λ (taken : ℕ). Acceptance direction c s room (told packet) taken (after c (packetMove packet))) (sym (taken-is n w))
             (record {
               kind = kind;
               packet = packet;
@@ -93,10 +93,10 @@ module _ (direction : Direction) (c : Connection) (s : List ℕ) where
 
         by-size : (n : ℕ) (kind : Kind) (packet : Packet) → frameAt direction s ≡ FrameRead.Whole n
             → kindAt direction (readAsBody direction c) (part s 0 n) ≡ KindRead.Kind kind
-            → packetAt kind (part s 0 n) .end ≡ PacketRead.Packet packet → inState c (kindOf (moveIn packet)) ≡ true
-            → (size : Bool) → inSize c (moveIn packet) ≡ size
+            → packetAt kind (part s 0 n) .end ≡ PacketRead.Packet packet → inState c (moveKind (packetMove packet)) ≡ true
+            → (size : Bool) → inSize c (packetMove packet) ≡ size
             → Accepts direction c s room
-            (withRoom room (stepped packet (length (part s 0 n)) (pick size (Step.Next (after c (moveIn packet))) (Step.Refused sizeWrong))))
+            (withRoom room (stepped packet (length (part s 0 n)) (pick size (Step.Next (after c (packetMove packet))) (Step.Refused bodySizeWrong))))
         by-size n kind packet w k f a false e = tt
         by-size n kind packet w k f a true e =
             by-room n kind packet w k f (rw (a, e)) (leb (placesNeeded (told packet)) room) refl
@@ -106,8 +106,8 @@ module _ (direction : Direction) (c : Connection) (s : List ℕ) where
             → (r : PacketRead) → packetAt kind (part s 0 n) .end ≡ r → Accepts direction c s room (withRoom room (accepting c (length (part s 0 n)) r))
         by-fields n kind w k a (PacketRead.Refused number) e = tt
         by-fields n kind w k a (PacketRead.Packet packet) e =
-            let m = moveIn packet in
-            let in-state : inState c (kindOf m) ≡ true = ap (inState c) (move-is kind (part s 0 n) packet e) ∙ a in
+            let m = packetMove packet in
+            let in-state : inState c (moveKind m) ≡ true = ap (inState c) (move-is kind (part s 0 n) packet e) ∙ a in
             subst (λ (step : Step). Accepts direction c s room (withRoom room (stepped packet (length (part s 0 n)) step)))
             (sym (step-by c m true (inSize c m) in-state refl))
             (by-size n kind packet w k e in-state (inSize c m) refl)
@@ -187,7 +187,7 @@ Asks size (accepted t taken next) = Unit
 pub accepting-answers : (c : Connection) (taken : ℕ) (r : PacketRead) → Answered (accepting c taken r)
 unfolding accepting
 accepting-answers c taken (PacketRead.Refused n) = tt
-accepting-answers c taken (PacketRead.Packet packet) = go (stepOf c (moveIn packet))
+accepting-answers c taken (PacketRead.Packet packet) = go (stepOf c (packetMove packet))
   where
     go : (step : Step) → Answered (stepped packet taken step)
     go (Step.Refused n) = tt
@@ -204,7 +204,7 @@ needs-more direction c s room n e = subst (Asks (length s)) e (by-frame (frameAt
     lent (refused k) h = tt
     lent (accepted t taken next) h = go (leb (placesNeeded t) room)
       where
-        go : (enough : Bool) → Asks (length s) (pick enough (accepted t taken next) (refused lentTooShort))
+        go : (enough : Bool) → Asks (length s) (pick enough (accepted t taken next) (refused bufferTooShort))
         go true = tt
         go false = tt
 

@@ -7,7 +7,7 @@ use mathlib.Core.Bool.{Bool}
 use mathlib.Core.List.{List}
 use Prim.Native.Nat.{ℕ, _≤_}
 use Rattle.wire.specs.Pick.{pick}
-use Rattle.wire.specs.Refusal.{lentTooShort}
+use Rattle.wire.specs.Refusal.{bufferTooShort}
 use Rattle.wire.specs.Bytes.{part}
 use Rattle.packet.specs.declared.Direction.{Direction}
 use Rattle.connection.specs.declared.Connection.{Connection}
@@ -22,7 +22,7 @@ use Rattle.reading_laws.proofs.Inside.{told-inside}
 room-enough : (t : Told) (taken : ℕ) (next : Connection) (room : ℕ) → placesNeeded t ≤ room
     → withRoom room (accepted t taken next) ≡ accepted t taken next
 room-enough t taken next room h =
-    ap (λ (enough : Bool). pick enough (accepted t taken next) (refused lentTooShort)) (le-leb (placesNeeded t) room h)
+    ap (λ (enough : Bool). pick enough (accepted t taken next) (refused bufferTooShort)) (le-leb (placesNeeded t) room h)
 
 module _ (d : Direction) (c : Connection) (s : List ℕ) where
   -- what bytes are judged to be

@@ -13,7 +13,7 @@ use Rattle.packet.specs.declared.Packet.{Packet}
 use Rattle.connection.specs.declared.Connection.{Connection}
 use Rattle.connection.specs.declared.Kind.{Kind}
 use Rattle.payload.specs.Sequence.{booleanNumber}
-use Rattle.payload.specs.Kinds.{kindIn}
+use Rattle.payload.specs.Kinds.{packetKind}
 use Rattle.payload.specs.Handed.{ForwardHanded, EndHanded, PacketHanded}
 use Rattle.payload.proofs.Handed.{packet-handed}
 use Rattle.reader.specs.Meaning.{Told, accepted, told}
@@ -22,7 +22,7 @@ use Rattle.reading_laws.specs.Handed.{numberTold, placeTold, ToldHanded}
 use Rattle.reading_laws.proofs.Acceptance.{accepted-is}
 
 -- what is told of a packet is of its own kind
-pub told-kind : (p : Packet) → told p .kind ≡ kindIn p
+pub told-kind : (p : Packet) → told p .kind ≡ packetKind p
 told-kind Packet.CPing = refl
 told-kind Packet.CPong = refl
 told-kind (Packet.Forward forward) = refl

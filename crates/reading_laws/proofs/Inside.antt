@@ -20,11 +20,11 @@ use Rattle.headers.specs.declared.HeadersRead.{HeadersRead}
 use Rattle.headers.proofs.Laws.{headers-within}
 use Rattle.attributes.proofs.Laws.{attributes-inside}
 use Rattle.connection.specs.declared.Kind.{Kind}
-use Rattle.payload.specs.Sequence.{afterCode, stringAfter, booleanAfter, byteAfter, anyIntegerAfter, integerAfter, placeOf}
+use Rattle.payload.specs.Sequence.{afterCode, stringAfter, booleanAfter, byteAfter, anyIntegerAfter, integerAfter, fieldPlace}
 use Rattle.payload.specs.Lists.{headersAfter, attributesBehind, behindHeaders, listsAt}
 use Rattle.payload.specs.Forward.{firstMethod, lastMethod, forwardOf, forwardAt}
 use Rattle.payload.specs.SendHeaders.{leastStatus, greatestStatus, sendHeadersOf, sendHeadersAt}
-use Rattle.payload.specs.Kinds.{packetAt, kindIn}
+use Rattle.payload.specs.Kinds.{packetAt, packetKind}
 use Rattle.payload.specs.declared.field.FieldRead.{FieldRead}
 use Rattle.payload.specs.declared.lists.ListsRead.{ListsRead}
 use Rattle.packet.specs.declared.SendHeaders.{SendHeaders}
@@ -97,7 +97,7 @@ StringsIn size (PacketRead.Refused n) = Unit
 StringsIn size (PacketRead.Packet packet) = AllBelow size (told packet .strings)
 
 -- a field's place is inside a packet that has a byte, also where it is told as 0 because the field is refused
-place-below : (size : ℕ) (f : FieldRead) → 0 < size → FieldInside size f → ltb (placeOf f .0) size ≡ true
+place-below : (size : ℕ) (f : FieldRead) → 0 < size → FieldInside size f → ltb (fieldPlace f .0) size ≡ true
 place-below size (FieldRead.Refused n) some h = lt-ltb 0 size some
 place-below size (FieldRead.Field at value next) some h = lt-ltb at size (h .0)
 
@@ -172,7 +172,7 @@ plain-told size t strings headers attributes part =
     }
 
 -- a packet that was read as its own kind
-told-by : (s : List ℕ) (packet : Packet) → packetAt (kindIn packet) s .end ≡ PacketRead.Packet packet → ToldInside (length s) (told packet)
+told-by : (s : List ℕ) (packet : Packet) → packetAt (packetKind packet) s .end ≡ PacketRead.Packet packet → ToldInside (length s) (told packet)
 told-by s Packet.CPing e = plain-told (length s) (told Packet.CPing) refl refl refl (omega arith)
 told-by s Packet.CPong e = plain-told (length s) (told Packet.CPong) refl refl refl (omega arith)
 told-by s (Packet.Forward forward) e =

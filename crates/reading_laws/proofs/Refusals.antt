@@ -7,7 +7,7 @@ use Prim.Native.Nat.{ℕ, _+_}
 use lib.Dec.{leb, ltb}
 use lib.ListN.{length}
 use Rattle.wire.specs.Pick.{pick}
-use Rattle.wire.specs.Refusal.{leadingWrong, tooLong, notNow, lentTooShort, isRefusal}
+use Rattle.wire.specs.Refusal.{leadingWrong, tooLong, notNow, bufferTooShort, isRefusal}
 use Rattle.wire.specs.Bytes.{part}
 use Rattle.wire.specs.Field.{integerAt}
 use Rattle.wire.specs.declared.read.NumberRead.{NumberRead}
@@ -20,7 +20,7 @@ use Rattle.connection.specs.declared.Connection.{Connection}
 use Rattle.connection.specs.declared.Step.{Step}
 use Rattle.connection.proofs.Refusals.{step-refusal}
 use Rattle.payload.specs.Code.{kindAt}
-use Rattle.payload.specs.Kinds.{packetAt, moveIn}
+use Rattle.payload.specs.Kinds.{packetAt, packetMove}
 use Rattle.payload.specs.declared.KindRead.{KindRead}
 use Rattle.payload.specs.declared.found.PacketRead.{PacketRead}
 use Rattle.payload.proofs.Refusals.{kind-refusal, packet-refusal}
@@ -63,7 +63,7 @@ room-numbered room (needs n) h = tt
 room-numbered room (refused n) h = h
 room-numbered room (accepted t taken next) h = go (leb (placesNeeded t) room)
   where
-    go : (t′ : Bool) → Numbered (pick t′ (accepted t taken next) (refused lentTooShort))
+    go : (t′ : Bool) → Numbered (pick t′ (accepted t taken next) (refused bufferTooShort))
     go true = tt
     go false = refl
 
@@ -72,13 +72,13 @@ accepting-numbered : (c : Connection) (kind : Kind) (s : List ℕ) → Numbered 
 unfolding accepting
 accepting-numbered c kind s = go (packetAt kind s .end) refl
   where
-    by : (packet : Packet) (r : Step) → stepOf c (moveIn packet) ≡ r → Numbered (stepped packet (length s) r)
-    by packet (Step.Refused n) e = step-refusal c (moveIn packet) n e
+    by : (packet : Packet) (r : Step) → stepOf c (packetMove packet) ≡ r → Numbered (stepped packet (length s) r)
+    by packet (Step.Refused n) e = step-refusal c (packetMove packet) n e
     by packet (Step.Next after) e = tt
 
     go : (r : PacketRead) → packetAt kind s .end ≡ r → Numbered (accepting c (length s) r)
     go (PacketRead.Refused n) e = packet-refusal kind s n e
-    go (PacketRead.Packet packet) e = by packet (stepOf c (moveIn packet)) refl
+    go (PacketRead.Packet packet) e = by packet (stepOf c (packetMove packet)) refl
 
 -- a packet by its kind
 kind-numbered : (direction : Direction) (body : Bool) (c : Connection) (s : List ℕ) → Numbered (judging c (parsedOf s (kindAt direction body s)))

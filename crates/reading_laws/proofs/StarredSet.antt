@@ -1,4 +1,4 @@
--- The starred packets are answered as document 01 says: one statement over the listed set.
+-- The starred packets are observed as document 01 says: one statement over the listed set.
 -- Assumes nothing.
 use mathlib.Core.Path.{_≡_, refl}
 use mathlib.Core.List.{map}
@@ -21,8 +21,8 @@ use Rattle.payload.specs.SendHeaders.{sendHeadersAt}
 use Rattle.reader.specs.Frame.{leadingDiffers, lengthAt, frameAt}
 use Rattle.reader.specs.Reading.{parseWhole, parse, accepting, reading}
 use Rattle.views.specs.View.{integerView, nullView, textView}
-use Rattle.reading_laws.specs.Starred.{answered, expected, starred}
+use Rattle.reading_laws.specs.Starred.{observed, expected, starred}
 
-pub starred-set : map answered starred ≡ map expected starred
+pub starred-set : map observed starred ≡ map expected starred
 unfolding all any part integerIn byteAt integerAt booleanAt textAt afterLength stringAt largestBody stepOf headersAt attributeAt attributesAt codeKind kindAt stringFieldAt stringAfter booleanFieldAt booleanAfter byteAfter anyIntegerAfter integerAfter endAt getAt sizedAt bodyAt chunkOf chunkAt headersAfter attributesBehind listsAt forwardAt sendHeadersAt leadingDiffers lengthAt frameAt parseWhole parse accepting reading integerView nullView textView methodNames nameFor
 starred-set = refl

@@ -13,7 +13,7 @@ use Rattle.connection.specs.Cycle.{allowed, after}
 use Rattle.connection.specs.declared.Kind.{Kind}
 use Rattle.connection.specs.declared.Connection.{Connection}
 use Rattle.payload.specs.Code.{kindAt}
-use Rattle.payload.specs.Kinds.{packetAt, moveIn}
+use Rattle.payload.specs.Kinds.{packetAt, packetMove}
 use Rattle.payload.specs.declared.KindRead.{KindRead}
 use Rattle.payload.specs.declared.found.PacketRead.{PacketRead}
 use Rattle.reader.specs.declared.frame.FrameRead.{FrameRead}
@@ -29,9 +29,9 @@ pub record Acceptance (direction : Direction) (c : Connection) (s : List ℕ) (r
   pub whole-is : frameAt direction s ≡ FrameRead.Whole taken
   pub kind-is : kindAt direction (readAsBody direction c) (part s 0 taken) ≡ KindRead.Kind kind
   pub fields-are : packetAt kind (part s 0 taken) .end ≡ PacketRead.Packet packet
-  pub allows : allowed c (moveIn packet) ≡ true
+  pub allows : allowed c (packetMove packet) ≡ true
   pub tells : t ≡ told packet
-  pub steps : next ≡ after c (moveIn packet)
+  pub steps : next ≡ after c (packetMove packet)
   pub has-room : placesNeeded t ≤ room
 
 -- an answer that is not "needs"

@@ -8,7 +8,7 @@ use Prim.Native.Nat.{ℕ}
 use lib.Dec.{eqb}
 use lib.ListN.{getD}
 use Rattle.connection.specs.declared.Kind.{Kind}
-use Rattle.payload.specs.Handed.{ForwardHanded, HeadHanded, BodyHanded, ChunkHanded, GetHanded, EndHanded, BareHanded}
+use Rattle.payload.specs.Handed.{ForwardHanded, SendHeadersHanded, BodyHanded, ChunkHanded, GetHanded, EndHanded, BareHanded}
 use Rattle.reader.specs.Meaning.{Told}
 
 -- the number that is told at an index, and the place of the string that is told at one
@@ -29,7 +29,7 @@ HandedBy s t places Kind.Forward =
     (eqb (numberTold t 2) 1) (t .headers) (t .attributes) places
 HandedBy s t places Kind.Body = BodyHanded s (t .start) (t .len) places
 HandedBy s t places Kind.GetBody = GetHanded s (numberTold t 0) places
-HandedBy s t places Kind.SendHeaders = HeadHanded s (numberTold t 0) (placeTold t 0) (t .headers) places
+HandedBy s t places Kind.SendHeaders = SendHeadersHanded s (numberTold t 0) (placeTold t 0) (t .headers) places
 HandedBy s t places Kind.BodyChunk = ChunkHanded s (t .start) (t .len) places
 HandedBy s t places Kind.End = EndHanded s (eqb (numberTold t 0) 1) places
 

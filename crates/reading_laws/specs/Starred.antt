@@ -8,7 +8,7 @@ use Rattle.wire.specs.Bytes.{part}
 use Rattle.packet.specs.declared.Direction.{Direction}
 use Rattle.names.specs.Names.{ascii, nameFor}
 use Rattle.names.specs.declared.NameList.{NameList}
-use Rattle.connection.specs.Connection.{fields, bare, fresh}
+use Rattle.connection.specs.Connection.{connectionFields, rest, fresh}
 use Rattle.connection.specs.declared.State.{State}
 use Rattle.connection.specs.declared.Kind.{Kind}
 use Rattle.connection.specs.declared.Connection.{Connection}
@@ -44,8 +44,8 @@ textsShown s (refused n) = []
 textsShown s (accepted t taken after) = textsBy s t (t .kind)
 
 -- what reading answers, and shows
-abbrev pub answered : Case → Meaning × List (List ℕ)
-answered c =
+abbrev pub observed : Case → Meaning × List (List ℕ)
+observed c =
     let answer = reading (c .direction) (c .connection) (c .bytes) 0 in
     (answer, textsShown (c .bytes) answer)
 
@@ -65,15 +65,15 @@ toServer connection bytes answer texts =
 
 -- a connection with a body packet due: bytes left, bytes asked for
 abbrev due : ℕ → ℕ → Connection
-due left asked = fields State.Busy left true asked false
+due left asked = connectionFields State.Busy left true asked false
 
 -- a connection with a request and no body packet due, before its headers
 abbrev unanswered : Connection
-unanswered = fields State.Busy 0 false 0 false
+unanswered = connectionFields State.Busy 0 false 0 false
 
 -- the same after its headers
 abbrev answering : Connection
-answering = fields State.Busy 0 false 0 true
+answering = connectionFields State.Busy 0 false 0 true
 
 -- CPing
 abbrev cping : List ℕ
@@ -159,8 +159,8 @@ getTold = record {
 -- the starred set
 abbrev pub starred : List Case
 starred =
-    toContainer fresh cping (accepted (numbered Kind.CPing []) 5 (bare State.Pinged)) []
-    ∷ toServer (bare State.Pinged) cpong (accepted (numbered Kind.CPong []) 5 fresh) []
+    toContainer fresh cping (accepted (numbered Kind.CPing []) 5 (rest State.Pinged)) []
+    ∷ toServer (rest State.Pinged) cpong (accepted (numbered Kind.CPong []) 5 fresh) []
     ∷ toContainer (due 0 8186) emptyBody (accepted (parted Kind.Body 4 0) 4 unanswered) (ascii "" ∷ [])
     ∷ toContainer (due 1 1) emptyBody (refused 14) []
     ∷ toContainer fresh emptyBody (refused 3) []

@@ -21,7 +21,7 @@ use Rattle.connection.specs.declared.Move.{Move}
 use Rattle.connection.specs.declared.Connection.{Connection}
 use Rattle.connection.specs.declared.Step.{Step}
 use Rattle.payload.specs.Code.{codePlace, codeKind, kindOfCode, kindAt}
-use Rattle.payload.specs.Kinds.{packetAt, kindIn, moveIn}
+use Rattle.payload.specs.Kinds.{packetAt, packetKind, packetMove}
 use Rattle.payload.specs.declared.KindRead.{KindRead}
 use Rattle.packet.specs.declared.Part.{Part}
 use Rattle.packet.specs.declared.Packet.{Packet}
@@ -135,7 +135,7 @@ toldBy Kind.BodyChunk t p = parted Kind.BodyChunk (p .start .0) (p .len)
 toldBy Kind.End t p = t
 
 -- every packet moves and tells so by its own kind
-own : (p : Packet) → (moveIn p ≡ movedBy (kindIn p) (moveIn p) (partIn p .len)) × (told p ≡ toldBy (kindIn p) (told p) (partIn p))
+own : (p : Packet) → (packetMove p ≡ movedBy (packetKind p) (packetMove p) (partIn p .len)) × (told p ≡ toldBy (packetKind p) (told p) (partIn p))
 own Packet.CPing = (refl, refl)
 own Packet.CPong = (refl, refl)
 own (Packet.Forward forward) = (refl, refl)
@@ -154,14 +154,14 @@ part-step kind packet part taken (Step.Next after) m t e = ap answered (ap (λ (
 -- a packet that was read as of a kind with a part, and stepped by the move of that kind with the part's size
 pub part-stepped : (kind : Kind) (c : Connection) (s : List ℕ) (taken : ℕ) (packet : Packet) (part : Part) (step : Step) (r : PartRead)
     → ((t : Told) → toldBy kind t part ≡ parted kind (part .start .0) (part .len))
-    → packetAt kind s .end ≡ PacketRead.Packet packet → part ≡ partIn packet → step ≡ stepOf c (movedBy kind (moveIn packet) (part .len))
+    → packetAt kind s .end ≡ PacketRead.Packet packet → part ≡ partIn packet → step ≡ stepOf c (movedBy kind (packetMove packet) (part .len))
     → r ≡ steppedPart part taken step → partMeaning kind r ≡ answered (accepting c taken (packetAt kind s .end))
 part-stepped kind c s taken packet part step r tells e q f is =
-    let is-kind : kindIn packet ≡ kind = parsed-kind kind s packet e in
-    let moves : moveIn packet ≡ movedBy kind (moveIn packet) (part .len) =
+    let is-kind : packetKind packet ≡ kind = parsed-kind kind s packet e in
+    let moves : packetMove packet ≡ movedBy kind (packetMove packet) (part .len) =
     own packet .0
-    ∙ ap (λ (k : Kind). movedBy k (moveIn packet) (partIn packet .len)) is-kind
-    ∙ ap (λ (p : Part). movedBy kind (moveIn packet) (p .len)) (sym q) in
+    ∙ ap (λ (k : Kind). movedBy k (packetMove packet) (partIn packet .len)) is-kind
+    ∙ ap (λ (p : Part). movedBy kind (packetMove packet) (p .len)) (sym q) in
     let says : told packet ≡ parted kind (part .start .0) (part .len) =
     own packet .1
     ∙ ap (λ (k : Kind). toldBy k (told packet) (partIn packet)) is-kind

@@ -2,10 +2,10 @@
 use crate::name;
 use crate::print;
 use crate::read;
-use cases::commands;
-use cases::form;
-use cases::text;
 use packet::Direction;
+use vectors_text::commands;
+use vectors_text::form;
+use vectors_text::text;
 
 // The command whose form a case has.
 pub fn of(case: &[u8]) -> usize {

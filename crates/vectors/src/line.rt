@@ -2,9 +2,9 @@
 use crate::command;
 use crate::print;
 use crate::tally::Tallies;
-use cases::commands;
-use cases::expand;
-use cases::text;
+use vectors_text::commands;
+use vectors_text::expand;
+use vectors_text::text;
 use wire::part_of;
 
 // The tallies with the case of a line. A comment and an empty line have none.

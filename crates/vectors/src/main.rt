@@ -8,9 +8,9 @@ mod read;
 mod tally;
 
 use crate::tally::Tallies;
-use cases::commands;
-use cases::text;
 use libc::STDIN_FILENO;
+use vectors_text::commands;
+use vectors_text::text;
 use wire::part_of;
 
 // The list is shorter than this.

@@ -1,14 +1,14 @@
 // The command `read`: what reading at one of the ends answers.
-use cases::answer;
-use cases::answer::Answer;
-use cases::commands;
-use cases::parse;
-use cases::put;
-use cases::text;
 use packet::Direction;
 use packet::Forward;
 use packet::Packet;
 use reader::Received;
+use vectors_text::answer;
+use vectors_text::answer::Answer;
+use vectors_text::commands;
+use vectors_text::parse;
+use vectors_text::put;
+use vectors_text::text;
 use wire::part_of;
 
 // The words of a case: the connection's first, the table and the bytes.

@@ -1,7 +1,7 @@
 // How many cases there were, and how many differ: a row for each command, and one for all.
 use crate::command;
 use crate::print;
-use cases::commands;
+use vectors_text::commands;
 
 // The row for all, behind those of the commands, and how many rows there are. A case that is not understood counts in that row alone.
 const ALL: usize = commands::UNKNOWN;

@@ -12,7 +12,7 @@ use Rattle.wire.specs.Pick.{pick, both, either}
 use Rattle.wire.specs.Refusal.{cutShort, stringWrong, outOfRange}
 use Rattle.wire.specs.Bytes.{part, put, integerIn, integerBytes}
 use Rattle.wire.specs.Field.{numberAt, byteAt, integerAt, booleanOf, booleanAt, nullLength, lacks, holdsBarred, textAt, afterLength, stringOf, stringAt, stringBytes, stringAllowed, putString}
-use Rattle.wire.specs.Packet.{leading, head}
+use Rattle.wire.specs.Packet.{leading, packetHead}
 use Rattle.wire.specs.Facts.{NumberInside, BooleanInside, StringInside, TextRead, NullRead}
 use Rattle.packet.specs.declared.Direction.{Direction}
 use Rattle.wire.specs.declared.read.NumberRead.{NumberRead}
@@ -95,12 +95,12 @@ module _ (l : List ℕ) (at : ℕ) (null : Bool) (text : List ℕ) where
   unfolding putString stringBytes
   string-text e h = rw (e, lt-ltb (length text) nullLength h)
 
--- a packet's leading bytes are two, and its head four
+-- a packet's leading bytes are two, and its packetHead four
 pub length-leading : (d : Direction) → length (leading d) ≡ 2
 length-leading Direction.ToContainer = refl
 length-leading Direction.ToServer = refl
 
-pub head-four : (d : Direction) (n : ℕ) → length (head d n) ≡ 4
+pub head-four : (d : Direction) (n : ℕ) → length (packetHead d n) ≡ 4
 head-four Direction.ToContainer n = refl
 head-four Direction.ToServer n = refl
 

@@ -13,9 +13,9 @@ leading Direction.ToContainer = 0x12 ∷ 0x34 ∷ []
 leading Direction.ToServer = 0x41 ∷ 0x42 ∷ []
 
 -- a packet's first four bytes
-abbrev pub head : Direction → ℕ → List ℕ
-head direction payloadLength = leading direction ++ integerBytes payloadLength
+abbrev pub packetHead : Direction → ℕ → List ℕ
+packetHead direction payloadLength = leading direction ++ integerBytes payloadLength
 
 -- a whole packet
 abbrev pub packet : Direction → List ℕ → List ℕ
-packet direction payload = head direction (length payload) ++ payload
+packet direction payload = packetHead direction (length payload) ++ payload

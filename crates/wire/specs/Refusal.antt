@@ -48,8 +48,8 @@ abbrev pub attributeWrong : ℕ
 attributeWrong = 9
 
 -- content-length with a bad value, null, or for the second time; transfer-encoding
-abbrev pub lengthWrong : ℕ
-lengthWrong = 10
+abbrev pub contentLengthWrong : ℕ
+contentLengthWrong = 10
 
 -- more than 100 headers, or than 64 attributes
 abbrev pub tooMany : ℕ
@@ -64,12 +64,12 @@ abbrev pub notNow : ℕ
 notNow = 13
 
 -- a body packet of a size that the cycle does not allow
-abbrev pub sizeWrong : ℕ
-sizeWrong = 14
+abbrev pub bodySizeWrong : ℕ
+bodySizeWrong = 14
 
 -- too little room in the table or the buffer that the caller lent
-abbrev pub lentTooShort : ℕ
-lentTooShort = 15
+abbrev pub bufferTooShort : ℕ
+bufferTooShort = 15
 
 -- a header behind an attribute, an attribute on Send Headers, or a building record that cannot be
 abbrev pub recordWrong : ℕ
@@ -87,12 +87,12 @@ refusals =
     ∷ outOfRange
     ∷ nameWrong
     ∷ attributeWrong
-    ∷ lengthWrong
+    ∷ contentLengthWrong
     ∷ tooMany
     ∷ leftOver
     ∷ notNow
-    ∷ sizeWrong
-    ∷ lentTooShort
+    ∷ bodySizeWrong
+    ∷ bufferTooShort
     ∷ recordWrong
     ∷ []
 

@@ -22,7 +22,7 @@ pub const NAME_WRONG: u8 = 8;
 
 pub const ATTRIBUTE_WRONG: u8 = 9;
 
-pub const LENGTH_WRONG: u8 = 10;
+pub const CONTENT_LENGTH_WRONG: u8 = 10;
 
 pub const TOO_MANY: u8 = 11;
 
@@ -30,9 +30,9 @@ pub const LEFT_OVER: u8 = 12;
 
 pub const NOT_NOW: u8 = 13;
 
-pub const SIZE_WRONG: u8 = 14;
+pub const BODY_SIZE_WRONG: u8 = 14;
 
-pub const LENT_TOO_SHORT: u8 = 15;
+pub const BUFFER_TOO_SHORT: u8 = 15;
 
 pub const RECORD_WRONG: u8 = 16;
 
@@ -51,12 +51,12 @@ pub fn all() -> [u8; 17]
         OUT_OF_RANGE,
         NAME_WRONG,
         ATTRIBUTE_WRONG,
-        LENGTH_WRONG,
+        CONTENT_LENGTH_WRONG,
         TOO_MANY,
         LEFT_OVER,
         NOT_NOW,
-        SIZE_WRONG,
-        LENT_TOO_SHORT,
+        BODY_SIZE_WRONG,
+        BUFFER_TOO_SHORT,
         RECORD_WRONG,
     ]
 }

@@ -4,7 +4,7 @@ ghost use mathlib.Core.List.{[], _∷_};
 ghost use lib.ListN.{length};
 ghost use Rattle.wire.specs.Bytes.{put, integerBytes};
 ghost use Rattle.wire.specs.Field.{booleanBytes, stringBytes, putString};
-ghost use Rattle.wire.specs.Packet.{head};
+ghost use Rattle.wire.specs.Packet.{packetHead};
 use crate::NULL_LENGTH;
 use crate::has_room;
 use crate::leading_bytes;
@@ -112,7 +112,7 @@ pub fn string(buffer: &mut [u8], at: usize, text: &[u8], null: bool)
 
 // Writes a packet's first four bytes: its leading bytes and how long its payload is.
 pub fn packet_head(buffer: &mut [u8], direction: Direction, payload: u16)
-    ensures { λ _. ⌜ now (buffer .exit) ≡ put (now (buffer .entry)) 0 (head direction payload) ⌝ }
+    ensures { λ _. ⌜ now (buffer .exit) ≡ put (now (buffer .entry)) 0 (packetHead direction payload) ⌝ }
 {
     if has_room(buffer.len(), 0, 4) {
         let first = leading_bytes(direction);

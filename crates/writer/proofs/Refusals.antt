@@ -5,19 +5,19 @@ use mathlib.Core.Bool.{Bool}
 use mathlib.Core.List.{List}
 use Prim.Native.Nat.{ℕ}
 use lib.ListN.{length}
-use Rattle.wire.specs.Refusal.{notNow, sizeWrong}
-use Rattle.connection.specs.Cycle.{kindOf, inState, inSize}
+use Rattle.wire.specs.Refusal.{notNow, bodySizeWrong}
+use Rattle.connection.specs.Cycle.{moveKind, inState, inSize}
 use Rattle.connection.specs.declared.Connection.{Connection}
 use Rattle.connection.specs.declared.Move.{Move}
-use Rattle.fields.specs.Call.{Numbered}
-use Rattle.fields.proofs.Refusals.{unless-fault, outcome-refusal}
+use Rattle.building.specs.Call.{Numbered}
+use Rattle.building.proofs.Refusals.{unless-fault, outcome-refusal}
 use Rattle.writer.specs.Sending.{sending, barePayload, bodyPayload, chunkPayload, getPayload, endPayload, bareCall, cpingCall, cpongCall, bodyCall, chunkCall, getCall, endCall}
 
 -- 13 and 14 are looked for, whatever the move
 sending-refusal : (c : Connection) (m : Move) (payload : List ℕ) → Numbered (sending c m payload)
 sending-refusal c m payload =
     outcome-refusal (sending c m payload)
-    (unless-fault (inState c (kindOf m)) notNow refl, (unless-fault (inSize c m) sizeWrong refl, tt))
+    (unless-fault (inState c (moveKind m)) notNow refl, (unless-fault (inSize c m) bodySizeWrong refl, tt))
 
 -- the calls, one by one
 pub sent-refusals : (c : Connection)

@@ -5,7 +5,7 @@
 use mathlib.Core.Bool.{Bool, true, false}
 use Prim.Native.Nat.{ℕ}
 use Rattle.connection.specs.declared.Connection.{Connection}
-use Rattle.fields.specs.Call.{Outcome, refused, done}
+use Rattle.building.specs.Call.{Outcome, refused, done}
 use Rattle.writer.specs.declared.Sent.{Sent}
 
 -- a packet that stands in the buffer from its first byte on: how long it is, and the connection after it
@@ -14,9 +14,9 @@ pub record Written : Type 0 where
   pub connection : Connection
 
 -- what each case of the answer says
-abbrev pub meaning : Sent → Outcome Written
-meaning (Sent.Refused n) = refused n
-meaning (Sent.Written size connection) = done (record { size = size; connection = connection })
+abbrev pub sentOutcome : Sent → Outcome Written
+sentOutcome (Sent.Refused n) = refused n
+sentOutcome (Sent.Written size connection) = done (record { size = size; connection = connection })
 
 -- an answer that says the packet is written
 abbrev pub isWritten : Sent → Bool

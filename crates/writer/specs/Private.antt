@@ -2,11 +2,11 @@
 -- Assumes nothing.
 use Prim.Native.Nat.{ℕ}
 use Rattle.connection.specs.declared.Step.{Step}
-use Rattle.fields.specs.Fault.{fitFault}
-use Rattle.fields.specs.Call.{Outcome, refused, answered}
+use Rattle.building.specs.Fault.{fitFault}
+use Rattle.building.specs.Call.{Outcome, refused, outcomeBy}
 use Rattle.writer.specs.Meaning.{Written}
 
 -- what a packet of so many bytes that makes a step comes to on a buffer with so much room
 abbrev pub readyOf : ℕ → ℕ → Step → Outcome Written
 readyOf size room (Step.Refused n) = refused n
-readyOf size room (Step.Next c) = answered (fitFault size room) (record { size = size; connection = c })
+readyOf size room (Step.Next c) = outcomeBy (fitFault size room) (record { size = size; connection = c })

@@ -8,30 +8,30 @@ use Prim.Native.Nat.{ℕ}
 use lib.Dec.{eqb}
 use lib.ListN.{length}
 use Rattle.wire.specs.Pick.{pick}
-use Rattle.wire.specs.Refusal.{notNow, sizeWrong}
+use Rattle.wire.specs.Refusal.{notNow, bodySizeWrong}
 use Rattle.wire.specs.Bytes.{integerBytes}
 use Rattle.wire.specs.Field.{booleanBytes}
 use Rattle.wire.specs.Packet.{packet}
-use Rattle.connection.specs.Cycle.{kindOf, directionOf, inState, inSize, after}
+use Rattle.connection.specs.Cycle.{moveKind, directionOf, inState, inSize, after}
 use Rattle.connection.specs.declared.Connection.{Connection}
 use Rattle.connection.specs.declared.Kind.{Kind}
 use Rattle.connection.specs.declared.Move.{Move}
 use Rattle.payload.specs.Code.{codeOf}
-use Rattle.fields.specs.Fault.{unless}
-use Rattle.fields.specs.Call.{Call}
+use Rattle.building.specs.Fault.{unless}
+use Rattle.building.specs.Call.{Call}
 use Rattle.writer.specs.Meaning.{Written}
 
 -- the packet that makes a move, with this payload
 abbrev pub packetOf : Move → List ℕ → List ℕ
-packetOf m payload = packet (directionOf (kindOf m)) payload
+packetOf m payload = packet (directionOf (moveKind m)) payload
 
 -- a kind of packet that the state does not allow is 13
 abbrev pub stateFault : Connection → Move → ℕ
-stateFault c m = unless (inState c (kindOf m)) notNow
+stateFault c m = unless (inState c (moveKind m)) notNow
 
 -- a body packet of a size that is not allowed is 14
 abbrev pub sizeFault : Connection → Move → ℕ
-sizeFault c m = unless (inSize c m) sizeWrong
+sizeFault c m = unless (inSize c m) bodySizeWrong
 
 -- what is looked for before 2 and 15
 abbrev pub sendingFaults : Connection → Move → List ℕ
@@ -48,7 +48,7 @@ sending c m payload = record {
 
 -- CPing and CPong: the code alone
 abbrev pub barePayload : Move → List ℕ
-barePayload m = codeOf (kindOf m) ∷ []
+barePayload m = codeOf (moveKind m) ∷ []
 
 -- a body packet: no payload where it is empty, else a size and so many bytes
 abbrev pub bodyPayload : List ℕ → List ℕ

@@ -7,18 +7,18 @@ ghost use mathlib.Core.Path.{_≡_};
 ghost use lib.ListN.{length};
 ghost use Rattle.wire.specs.Bytes.{over};
 ghost use Rattle.connection.specs.declared.Move.{Move};
-ghost use Rattle.fields.specs.Field.{sizeTold, Fits};
-ghost use Rattle.fields.specs.Call.{outcome, bufferAfter};
-ghost use Rattle.writer.specs.Meaning.{meaning, isWritten};
+ghost use Rattle.building.specs.Field.{sizeTold, Fits};
+ghost use Rattle.building.specs.Call.{outcome, bufferAfter};
+ghost use Rattle.writer.specs.Meaning.{sentOutcome, isWritten};
 ghost use Rattle.writer.specs.Private.{readyOf};
 ghost use Rattle.writer.specs.Sending.{packetOf, bodyPayload, chunkPayload, getPayload, endPayload, bareCall, cpingCall, cpongCall, bodyCall, chunkCall, getCall, endCall};
+use building::fault;
+use building::put;
+use building::size;
 use connection::Connection;
 use connection::Kind;
 use connection::Move;
 use connection::Step;
-use fields::fault;
-use fields::put;
-use fields::size;
 use packet::Direction;
 use payload::AFTER_CODE;
 use payload::PAYLOAD_PLACE;
@@ -73,7 +73,7 @@ pub fn is_written(sent: Sent) -> bool
 
 // What a packet of so many bytes that makes a step comes to on a buffer with so much room: the step, then whether it fits.
 fn ready(step: Step, size: usize, room: usize) -> Sent
-    ensures { λ r. ⌜ meaning r ≡ readyOf size room step ⌝ }
+    ensures { λ r. ⌜ sentOutcome r ≡ readyOf size room step ⌝ }
 {
     match step {
         Step::Refused(n) => Sent::Refused(n),
@@ -137,7 +137,7 @@ fn write_end(buffer: &mut [u8], reuse: bool)
 
 // Sends a packet whose code is all.
 fn bare(connection: Connection, buffer: &mut [u8], m: Move) -> Sent
-    ensures { λ r. ⌜ meaning r ≡ outcome (bareCall connection m) (length (now (buffer .entry))) ⌝ }
+    ensures { λ r. ⌜ sentOutcome r ≡ outcome (bareCall connection m) (length (now (buffer .entry))) ⌝ }
     ensures { λ _. ⌜ now (buffer .exit) ≡ bufferAfter (bareCall connection m) (now (buffer .entry)) ⌝ }
 {
     let answer = ready(
@@ -153,7 +153,7 @@ fn bare(connection: Connection, buffer: &mut [u8], m: Move) -> Sent
 
 // Sends a CPing: the container is asked whether it is there.
 pub fn cping(connection: Connection, buffer: &mut [u8]) -> Sent
-    ensures { λ r. ⌜ meaning r ≡ outcome (cpingCall connection) (length (now (buffer .entry))) ⌝ }
+    ensures { λ r. ⌜ sentOutcome r ≡ outcome (cpingCall connection) (length (now (buffer .entry))) ⌝ }
     ensures { λ _. ⌜ now (buffer .exit) ≡ bufferAfter (cpingCall connection) (now (buffer .entry)) ⌝ }
 {
     bare(connection, buffer, Move::CPing)
@@ -161,7 +161,7 @@ pub fn cping(connection: Connection, buffer: &mut [u8]) -> Sent
 
 // Sends a CPong: the answer to a CPing.
 pub fn cpong(connection: Connection, buffer: &mut [u8]) -> Sent
-    ensures { λ r. ⌜ meaning r ≡ outcome (cpongCall connection) (length (now (buffer .entry))) ⌝ }
+    ensures { λ r. ⌜ sentOutcome r ≡ outcome (cpongCall connection) (length (now (buffer .entry))) ⌝ }
     ensures { λ _. ⌜ now (buffer .exit) ≡ bufferAfter (cpongCall connection) (now (buffer .entry)) ⌝ }
 {
     bare(connection, buffer, Move::CPong)
@@ -169,7 +169,7 @@ pub fn cpong(connection: Connection, buffer: &mut [u8]) -> Sent
 
 // Sends a body packet with these bytes. Without any it is the empty body packet.
 pub fn body(connection: Connection, buffer: &mut [u8], bytes: &[u8]) -> Sent
-    ensures { λ r. ⌜ meaning r ≡ outcome (bodyCall connection (now (bytes .entry))) (length (now (buffer .entry))) ⌝ }
+    ensures { λ r. ⌜ sentOutcome r ≡ outcome (bodyCall connection (now (bytes .entry))) (length (now (buffer .entry))) ⌝ }
     ensures { λ _. ⌜ now (buffer .exit) ≡ bufferAfter (bodyCall connection (now (bytes .entry))) (now (buffer .entry)) ⌝ }
 {
     let sent = ready(
@@ -185,7 +185,7 @@ pub fn body(connection: Connection, buffer: &mut [u8], bytes: &[u8]) -> Sent
 
 // Sends a Send Body Chunk with these bytes, which may be none and of any value.
 pub fn body_chunk(connection: Connection, buffer: &mut [u8], bytes: &[u8]) -> Sent
-    ensures { λ r. ⌜ meaning r ≡ outcome (chunkCall connection (now (bytes .entry))) (length (now (buffer .entry))) ⌝ }
+    ensures { λ r. ⌜ sentOutcome r ≡ outcome (chunkCall connection (now (bytes .entry))) (length (now (buffer .entry))) ⌝ }
     ensures { λ _. ⌜ now (buffer .exit) ≡ bufferAfter (chunkCall connection (now (bytes .entry))) (now (buffer .entry)) ⌝ }
 {
     let sent = ready(
@@ -201,7 +201,7 @@ pub fn body_chunk(connection: Connection, buffer: &mut [u8], bytes: &[u8]) -> Se
 
 // Sends a Get Body Chunk that asks for so many bytes.
 pub fn get_body(connection: Connection, buffer: &mut [u8], asked: u16) -> Sent
-    ensures { λ r. ⌜ meaning r ≡ outcome (getCall connection asked) (length (now (buffer .entry))) ⌝ }
+    ensures { λ r. ⌜ sentOutcome r ≡ outcome (getCall connection asked) (length (now (buffer .entry))) ⌝ }
     ensures { λ _. ⌜ now (buffer .exit) ≡ bufferAfter (getCall connection asked) (now (buffer .entry)) ⌝ }
 {
     let sent = ready(
@@ -217,7 +217,7 @@ pub fn get_body(connection: Connection, buffer: &mut [u8], asked: u16) -> Sent
 
 // Sends an End; `reuse` says whether the connection is used again.
 pub fn end(connection: Connection, buffer: &mut [u8], reuse: bool) -> Sent
-    ensures { λ r. ⌜ meaning r ≡ outcome (endCall connection reuse) (length (now (buffer .entry))) ⌝ }
+    ensures { λ r. ⌜ sentOutcome r ≡ outcome (endCall connection reuse) (length (now (buffer .entry))) ⌝ }
     ensures { λ _. ⌜ now (buffer .exit) ≡ bufferAfter (endCall connection reuse) (now (buffer .entry)) ⌝ }
 {
     let sent = ready(

@@ -5,7 +5,7 @@ use borrow.Author.Tests.{eq-eqb, ne-eqb}
 use mathlib.Core.Path.{_≡_, refl, sym, ap, _∙_}
 use mathlib.Core.Bool.{true, false}
 use Rattle.names.specs.Attribute.{attributeKind}
-use Rattle.attributes.specs.Attributes.{valueAt}
+use Rattle.attributes.specs.Attributes.{attributeValueAt}
 use Rattle.attributes.proofs.Laws.{coded-by}
 use Rattle.attributes.proofs.coded.Statement.{statement}
 use Rattle.attributes.proofs.coded.Tie as tie
@@ -32,10 +32,10 @@ enum-known-value c = search needs
 
 -- the value that is read
 read : (c : tie.After-value-at) → let a = c .before .before .before .before .before .args in
-    valueAt (a .packet .now) (a .at) (attributeKind (a .code)) ≡ c .value-at .result
+    attributeValueAt (a .packet .now) (a .at) (attributeKind (a .code)) ≡ c .value-at .result
 read c =
     let a = c .before .before .before .before .before .args in
-    sym (c .value-at .ensures ∙ ap (valueAt (a .packet .now) (a .at)) (c .before .kind-of .ensures))
+    sym (c .value-at .ensures ∙ ap (attributeValueAt (a .packet .now) (a .at)) (c .before .kind-of .ensures))
 
 returns-2 : tie.Need-returns-2
 returns-2 c =

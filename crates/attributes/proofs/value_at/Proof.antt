@@ -2,7 +2,7 @@
 -- Assumes nothing.
 use borrow.Author.Needs.{needs}
 use mathlib.Core.Path.{sym, ap, _∙_}
-use Rattle.attributes.specs.Attributes.{valueAt}
+use Rattle.attributes.specs.Attributes.{attributeValueAt}
 use Rattle.attributes.proofs.value_at.Statement.{statement}
 use Rattle.attributes.proofs.value_at.Tie as tie
 
@@ -28,16 +28,16 @@ pair-value-requires : tie.Need-pair-value-requires
 pair-value-requires c κs = search needs
 
 returns : tie.Need-returns
-returns c = sym (ap (valueAt _ _) (c .enum-told .given .1))
+returns c = sym (ap (attributeValueAt _ _) (c .enum-told .given .1))
 
 returns-2 : tie.Need-returns-2
-returns-2 c = c .text-value .ensures ∙ sym (ap (valueAt _ _) (c .before .enum-told2 .given .1))
+returns-2 c = c .text-value .ensures ∙ sym (ap (attributeValueAt _ _) (c .before .enum-told2 .given .1))
 
 returns-3 : tie.Need-returns-3
-returns-3 c = c .integer-value .ensures ∙ sym (ap (valueAt _ _) (c .before .enum-told3 .given .1))
+returns-3 c = c .integer-value .ensures ∙ sym (ap (attributeValueAt _ _) (c .before .enum-told3 .given .1))
 
 returns-4 : tie.Need-returns-4
-returns-4 c = c .pair-value .ensures ∙ sym (ap (valueAt _ _) (c .before .enum-told4 .given .1))
+returns-4 c = c .pair-value .ensures ∙ sym (ap (attributeValueAt _ _) (c .before .enum-told4 .given .1))
 
 pub value-at-spec : {M : Type 1} → statement M
 value-at-spec =

@@ -1,7 +1,7 @@
 -- `closing::close` meets its contract: what is found is told before anything is set, and what is set stays only where the judge accepts.
 -- Assumes nothing.
 use mathlib.Core.Path.{sym, ap, _∙_}
-use Rattle.fields.specs.Call.{refused}
+use Rattle.building.specs.Call.{refused}
 use Rattle.closing.specs.Private.{Closable, putBack}
 use Rattle.closing.proofs.Setting.{set-closable}
 use Rattle.closing.proofs.Laws.{fault-ready, ready-closable, found-refused, outcome-buffer, Closes, closes}

@@ -6,8 +6,8 @@ use Prim.Native.Nat.{ℕ}
 use lib.ListN.{length}
 use Rattle.wire.specs.Refusal.{notNow, recordWrong}
 use Rattle.connection.specs.Cycle.{inState}
-use Rattle.fields.specs.Fault.{unless, fitFault}
-use Rattle.building_record.specs.Record.{kindIn}
+use Rattle.building.specs.Fault.{unless, fitFault}
+use Rattle.building_record.specs.Record.{builtKind}
 use Rattle.closing.proofs.Laws.{fault-by}
 use borrow.Author.Needs.{needs}
 use Rattle.closing.proofs.closing_fault.Statement.{statement}
@@ -55,7 +55,7 @@ returns c =
     (possible .unless .ensures ∙ ap (λ (t : Bool). unless t recordWrong) (possible .before .is-possible .ensures))
     (state .unless2 .ensures
     ∙ ap (λ (t : Bool). unless t notNow)
-    (state .before .allows .ensures ∙ ap (inState (a .connection)) (state .before .before .kind2 .ensures ∙ ap kindIn (kind .kind .ensures))))
+    (state .before .allows .ensures ∙ ap (inState (a .connection)) (state .before .before .kind2 .ensures ∙ ap builtKind (kind .kind .ensures))))
     (fit .fit .ensures ∙ ap (λ (n : ℕ). fitFault n (length (a .buffer .now))) (fit .before .needs .ensures))
     (c .before .or-else .ensures)
 

@@ -3,7 +3,7 @@
 use mathlib.Core.Path.{sym, ap, _∙_}
 use lib.ListN.{length}
 use Rattle.reader.specs.declared.Received.{Received}
-use Rattle.reader.specs.Meaning.{meaning}
+use Rattle.reader.specs.Meaning.{receivedMeaning}
 use Rattle.closing.specs.Closing.{verdict}
 use borrow.Author.Needs.{needs}
 use Rattle.closing.proofs.judge.Statement.{statement}
@@ -24,19 +24,19 @@ enum-known-packet c = search needs
 returns : tie.Need-returns
 returns c =
     let a = c .before .before .before .before .args in
-    ap (λ (r : Received). verdict (length (a .packet .now)) (meaning r)) (sym (c .enum-told .given .1))
+    ap (λ (r : Received). verdict (length (a .packet .now)) (receivedMeaning r)) (sym (c .enum-told .given .1))
     ∙ ap (verdict (length (a .packet .now))) (c .before .before .read-there .ensures)
 
 returns-2 : tie.Need-returns-2
 returns-2 c =
     let a = c .before .before .before .before .before .args in
-    ap (λ (r : Received). verdict (length (a .packet .now)) (meaning r)) (sym (c .before .n .given .1))
+    ap (λ (r : Received). verdict (length (a .packet .now)) (receivedMeaning r)) (sym (c .before .n .given .1))
     ∙ ap (verdict (length (a .packet .now))) (c .before .before .before .read-there .ensures)
 
 returns-3 : tie.Need-returns-3
 returns-3 c =
     let a = c .before .before .before .before .before .args in
-    ap (λ (r : Received). verdict (length (a .packet .now)) (meaning r)) (sym (c .before .packet .given .1))
+    ap (λ (r : Received). verdict (length (a .packet .now)) (receivedMeaning r)) (sym (c .before .packet .given .1))
     ∙ ap (verdict (length (a .packet .now))) (c .before .before .before .read-there .ensures)
 
 pub judge-spec : {M : Type 1} → statement M

@@ -3,7 +3,7 @@
 use native.Mathlib.Omega.{arith}
 use mathlib.Core.Path.{_≡_, ap, _∙_}
 use Rattle.connection.specs.Cycle.{directionOf}
-use Rattle.building_record.specs.Record.{kindIn, directionIn}
+use Rattle.building_record.specs.Record.{builtKind, directionIn}
 use Rattle.closing.proofs.Laws.{read-there}
 use borrow.Author.Needs.{needs}
 use Rattle.closing.proofs.read_there.Statement.{statement}
@@ -31,7 +31,7 @@ returns c =
     let kind = direction .before .before in
     let a = kind .before .before .args in
     let goes : direction .direction .result ≡ directionIn (a .building) =
-    direction .direction .ensures ∙ ap directionOf (direction .before .kind2 .ensures ∙ ap kindIn (kind .kind .ensures)) in
+    direction .direction .ensures ∙ ap directionOf (direction .before .kind2 .ensures ∙ ap builtKind (kind .kind .ensures)) in
     read .read .ensures .0 ∙ read-there (a .connection) (a .building) (a .packet .now) _ _ goes (omega arith)
 
 pub read-there-spec : {M : Type 1} → statement M

@@ -4,7 +4,7 @@ use borrow.Author.Needs.{needs}
 use mathlib.Core.Path.{_≡_, sym, ap, _∙_}
 use mathlib.Core.Bool.{Bool}
 use Rattle.headers.specs.declared.NameRead.{NameRead}
-use Rattle.headers.specs.Headers.{valueAt, headerOf, headerAt}
+use Rattle.headers.specs.Headers.{headerValueAt, headerOf, headerAt}
 use Rattle.headers.proofs.Laws.{header-is}
 use Rattle.headers.proofs.header_at.Statement.{statement}
 use Rattle.headers.proofs.header_at.Tie as tie
@@ -44,7 +44,7 @@ returns-2 c =
     let a = call .before .before .args in
     let name = c .before .before .before .code in
     c .value-at .ensures
-    ∙ ap (λ (t : Bool). valueAt (a .packet .now) (name .given .0 .1 .0) t (a .before)) (c .before .declares-length .ensures)
+    ∙ ap (λ (t : Bool). headerValueAt (a .packet .now) (name .given .0 .1 .0) t (a .before)) (c .before .declares-length .ensures)
     ∙ named call (NameRead.Code _ _) (name .given .1)
 
 returns-3 : tie.Need-returns-3

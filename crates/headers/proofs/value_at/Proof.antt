@@ -4,7 +4,7 @@ use borrow.Author.Needs.{needs}
 use mathlib.Core.Path.{_≡_, sym, ap, _∙_}
 use mathlib.Core.Bool.{true, false}
 use Rattle.wire.specs.declared.read.StringRead.{StringRead}
-use Rattle.headers.specs.Headers.{declaredBy, valued, valueOf, valueAt}
+use Rattle.headers.specs.Headers.{declaredAfter, headerValued, headerValueOf, headerValueAt}
 use Rattle.headers.proofs.Laws.{value-is, part-none}
 use Rattle.headers.proofs.value_at.Statement.{statement}
 use Rattle.headers.proofs.value_at.Tie as tie
@@ -44,7 +44,7 @@ valued-requires-2 c κs = search needs
 
 -- the value, by what its string reads as
 read : (c : tie.After-string) (r : StringRead) → c .string .result ≡ r → let a = c .before .before .before .args in
-    valueOf (a .packet .now) (a .at) (a .declares) (a .before) r ≡ valueAt (a .packet .now) (a .at) (a .declares) (a .before)
+    headerValueOf (a .packet .now) (a .at) (a .declares) (a .before) r ≡ headerValueAt (a .packet .now) (a .at) (a .declares) (a .before)
 read c r e = value-is _ _ _ _ _ r (c .before .is-optional .ensures) (sym (c .string .ensures) ∙ e)
 
 returns : tie.Need-returns
@@ -55,9 +55,9 @@ returns-2 c =
     let call = c .before .before .before .before .before .before in
     let a = call .before .before .before .args in
     c .valued .ensures
-    ∙ ap (valued (a .at) _)
+    ∙ ap (headerValued (a .at) _)
     (c .before .declared-by .ensures
-    ∙ ap (declaredBy (a .declares) (a .before) true) (c .before .before .part-of .ensures ∙ part-none (a .packet .now)))
+    ∙ ap (declaredAfter (a .declares) (a .before) true) (c .before .before .part-of .ensures ∙ part-none (a .packet .now)))
     ∙ read call (StringRead.Null _) (c .before .before .before .before .next .given .1)
 
 returns-3 : tie.Need-returns-3
@@ -65,8 +65,8 @@ returns-3 c =
     let call = c .before .before .before .before .before .before in
     let a = call .before .before .before .args in
     c .valued2 .ensures
-    ∙ ap (valued (a .at) _)
-    (c .before .declared-by2 .ensures ∙ ap (declaredBy (a .declares) (a .before) false) (c .before .before .part-of2 .ensures))
+    ∙ ap (headerValued (a .at) _)
+    (c .before .declared-by2 .ensures ∙ ap (declaredAfter (a .declares) (a .before) false) (c .before .before .part-of2 .ensures))
     ∙ read call (StringRead.Text _ _ _) (c .before .before .before .before .start .given .1)
 
 pub value-at-spec : {M : Type 1} → statement M

@@ -1,8 +1,8 @@
--- `headers::valued` meets its contract: each arm is a case of the definition.
+-- `headers::headerValued` meets its contract: each arm is a case of the definition.
 -- Assumes nothing.
 use borrow.Author.Needs.{needs}
 use mathlib.Core.Path.{sym, ap}
-use Rattle.headers.specs.Headers.{valued}
+use Rattle.headers.specs.Headers.{headerValued}
 use Rattle.headers.proofs.valued.Statement.{statement}
 use Rattle.headers.proofs.valued.Tie as tie
 
@@ -15,12 +15,12 @@ enum-known-declaring-2 c = search needs
 returns : tie.Need-returns
 returns c =
     let a = c .before .before .before .args in
-    sym (ap (valued (a .at) (a .next)) (c .before .declaring .given .1))
+    sym (ap (headerValued (a .at) (a .next)) (c .before .isLength .given .1))
 
 returns-2 : tie.Need-returns-2
 returns-2 c =
     let a = c .before .before .before .args in
-    sym (ap (valued (a .at) (a .next)) (c .before .declaring2 .given .1))
+    sym (ap (headerValued (a .at) (a .next)) (c .before .declaring2 .given .1))
 
 pub valued-spec : {M : Type 1} → statement M
 valued-spec = tie.close (tie.spec enum-known-declaring enum-known-declaring-2 returns returns-2)

@@ -3,7 +3,7 @@
 use Prim.Native.Nat.{_≤_, _<_}
 use lib.ListN.{length}
 use borrow.Author.Tests.{le-leb, lt-leb}
-use Rattle.reader.specs.Meaning.{meaning}
+use Rattle.reader.specs.Meaning.{receivedMeaning}
 use Rattle.reader.specs.Private.{needed}
 use Rattle.reader.proofs.Laws.{room-short, room-filled, laid-first}
 use borrow.Author.Needs.{needs}
@@ -16,8 +16,8 @@ needed-by-requires c κs = search needs
 returns : tie.Need-returns
 returns c =
     let a = c .before .before .before .before .args in
-    let short : length (a .table .now) < needed (meaning (a .answer)) = rw (c .before .needed-by .ensures) at (c .if1 .taken) in
-    room-short (meaning (a .answer)) (a .places .now) (a .table .now) (lt-leb _ _ short)
+    let short : length (a .table .now) < needed (receivedMeaning (a .answer)) = rw (c .before .needed-by .ensures) at (c .if1 .taken) in
+    room-short (receivedMeaning (a .answer)) (a .places .now) (a .table .now) (lt-leb _ _ short)
 
 first-requires : tie.Need-first-requires
 first-requires c κs = search needs
@@ -31,9 +31,9 @@ same-length c = search needs
 returns-2 : tie.Need-returns-2
 returns-2 c =
     let a = c .before .before .before .before .before .before .before .before .before .args in
-    let enough : needed (meaning (a .answer)) ≤ length (a .table .now) = rw (c .before .before .before .before .before .before .needed-by .ensures) at (c .before .before .before .before .before .if1 .left) in
-    room-filled (meaning (a .answer)) (a .places .now) (a .table .now) _ (le-leb _ _ enough)
-    (laid-first (a .places .now) (a .table .now) _ _ _ (needed (meaning (a .answer))) (c .before .before .fill .ensures) (c .before .before .before .first .ensures) (c .before .before .before .before .before .before .needed-by .ensures) enough)
+    let enough : needed (receivedMeaning (a .answer)) ≤ length (a .table .now) = rw (c .before .before .before .before .before .before .needed-by .ensures) at (c .before .before .before .before .before .if1 .left) in
+    room-filled (receivedMeaning (a .answer)) (a .places .now) (a .table .now) _ (le-leb _ _ enough)
+    (laid-first (a .places .now) (a .table .now) _ _ _ (needed (receivedMeaning (a .answer))) (c .before .before .fill .ensures) (c .before .before .before .first .ensures) (c .before .before .before .before .before .before .needed-by .ensures) enough)
 
 pub fill-table-spec : {M : Type 1} → statement M
 fill-table-spec =

@@ -1,7 +1,7 @@
 -- `reader::move_of` meets its contract, packet by packet.
 -- Assumes nothing.
 use mathlib.Core.Path.{sym, ap}
-use Rattle.payload.specs.Kinds.{moveIn}
+use Rattle.payload.specs.Kinds.{packetMove}
 use borrow.Author.Needs.{needs}
 use Rattle.reader.proofs.move_of.Statement.{statement}
 use Rattle.reader.proofs.move_of.Tie as tie
@@ -43,22 +43,22 @@ returns-2 : tie.Need-returns-2
 returns-2 c = search needs
 
 returns-3 : tie.Need-returns-3
-returns-3 c = sym (ap moveIn (c .before .before .packet .given .1))
+returns-3 c = sym (ap packetMove (c .before .before .packet .given .1))
 
 returns-4 : tie.Need-returns-4
-returns-4 c = sym (ap moveIn (c .before .before .packet2 .given .1))
+returns-4 c = sym (ap packetMove (c .before .before .packet2 .given .1))
 
 returns-5 : tie.Need-returns-5
-returns-5 c = sym (ap moveIn (c .before .packet3 .given .1))
+returns-5 c = sym (ap packetMove (c .before .packet3 .given .1))
 
 returns-6 : tie.Need-returns-6
 returns-6 c = search needs
 
 returns-7 : tie.Need-returns-7
-returns-7 c = sym (ap moveIn (c .before .before .packet5 .given .1))
+returns-7 c = sym (ap packetMove (c .before .before .packet5 .given .1))
 
 returns-8 : tie.Need-returns-8
-returns-8 c = sym (ap moveIn (c .before .packet6 .given .1))
+returns-8 c = sym (ap packetMove (c .before .packet6 .given .1))
 
 pub move-of-spec : {M : Type 1} → statement M
 move-of-spec =

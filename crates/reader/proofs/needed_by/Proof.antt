@@ -2,7 +2,7 @@
 -- Assumes nothing.
 use mathlib.Core.Path.{sym, ap, _∙_}
 use Rattle.reader.specs.declared.Received.{Received}
-use Rattle.reader.specs.Meaning.{meaning}
+use Rattle.reader.specs.Meaning.{receivedMeaning}
 use Rattle.reader.specs.Private.{needed}
 use borrow.Author.Needs.{needs}
 use Rattle.reader.proofs.needed_by.Statement.{statement}
@@ -27,7 +27,7 @@ returns-2 : tie.Need-returns-2
 returns-2 c = search needs
 
 returns-3 : tie.Need-returns-3
-returns-3 c = c .places-needed .ensures ∙ sym (ap (λ (r : Received). needed (meaning r)) (c .before .before .answer3 .given .1))
+returns-3 c = c .places-needed .ensures ∙ sym (ap (λ (r : Received). needed (receivedMeaning r)) (c .before .before .answer3 .given .1))
 
 pub needed-by-spec : {M : Type 1} → statement M
 needed-by-spec =

@@ -4,7 +4,7 @@ use native.Mathlib.Omega.{arith}
 use borrow.Author.Needs.{needs}
 use mathlib.Core.Path.{ap, _∙_}
 use lib.ListN.{length}
-use Rattle.fields.specs.Field.{sizeTold}
+use Rattle.building.specs.Field.{sizeTold}
 use Rattle.writer.proofs.Laws.{chunk-row}
 use Rattle.writer.proofs.body_chunk_needs.Statement.{statement}
 use Rattle.writer.proofs.body_chunk_needs.Tie as tie

@@ -5,8 +5,8 @@ use borrow.Author.Needs.{needs}
 use mathlib.Core.Path.{sym, ap, _∙_}
 use lib.ListN.{length}
 use Rattle.payload.specs.Code.{payloadPlace}
-use Rattle.fields.specs.Field.{sizeTold}
-use Rattle.fields.proofs.Sizes.{told-exact}
+use Rattle.building.specs.Field.{sizeTold}
+use Rattle.building.proofs.Sizes.{told-exact}
 use Rattle.writer.proofs.Laws.{body-none, body-row}
 use Rattle.writer.proofs.body_needs.Statement.{statement}
 use Rattle.writer.proofs.body_needs.Tie as tie

@@ -4,8 +4,8 @@ use native.Mathlib.Omega.{arith}
 use borrow.Author.Needs.{needs}
 use mathlib.Core.Path.{sym, ap, _∙_}
 use Rattle.connection.specs.declared.Move.{Move}
-use Rattle.fields.specs.Field.{sizeTold}
-use Rattle.fields.proofs.Sizes.{told-exact}
+use Rattle.building.specs.Field.{sizeTold}
+use Rattle.building.proofs.Sizes.{told-exact}
 use Rattle.writer.specs.Sending.{endPayload, endCall}
 use Rattle.writer.proofs.Laws.{end-size, Sends, sends}
 use Rattle.writer.proofs.end.Statement.{statement}

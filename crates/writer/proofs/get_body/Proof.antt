@@ -4,7 +4,7 @@ use native.Mathlib.Omega.{arith}
 use borrow.Author.Needs.{needs}
 use mathlib.Core.Path.{sym, _∙_}
 use Rattle.connection.specs.declared.Move.{Move}
-use Rattle.fields.proofs.Sizes.{told-exact}
+use Rattle.building.proofs.Sizes.{told-exact}
 use Rattle.writer.specs.Sending.{getPayload, getCall}
 use Rattle.writer.proofs.Laws.{Sends, sends}
 use Rattle.writer.proofs.get_body.Statement.{statement}

@@ -7,10 +7,10 @@ use mathlib.Core.List.{_++_}
 use Prim.Native.Nat.{_+_}
 use lib.ListN.{length}
 use Rattle.wire.specs.Bytes.{over, integerBytes}
-use Rattle.wire.specs.Packet.{head}
+use Rattle.wire.specs.Packet.{packetHead}
 use Rattle.packet.specs.declared.Direction.{Direction}
-use Rattle.fields.specs.Field.{Fits}
-use Rattle.fields.proofs.Rows.{fits-first, fits-later, joined}
+use Rattle.building.specs.Field.{Fits}
+use Rattle.building.proofs.Rows.{fits-first, fits-later, joined}
 use Rattle.writer.proofs.Laws.{body-none, body-row, second-fits, packet-stands}
 use Rattle.writer.proofs.write_body.Statement.{statement}
 use Rattle.writer.proofs.write_body.Tie as tie
@@ -50,7 +50,7 @@ rest-fits c =
     let e = c .before .before .before .before .before in
     let bytes = e .args .bytes .now in
     let o = c .head2 .ensures in
-    second-fits (e .args .buffer .now) _ (head Direction.ToContainer (length bytes + 2)) (integerBytes (length bytes) ++ bytes)
+    second-fits (e .args .buffer .now) _ (packetHead Direction.ToContainer (length bytes + 2)) (integerBytes (length bytes) ++ bytes)
     (body-row bytes (c .before .before .if1 .left)) (e .pre) _ _ (o .1) (o .0)
 
 integer-requires : tie.Need-integer-requires
@@ -76,7 +76,7 @@ returns-2 c =
     let bytes = e .args .bytes .now in
     let o = h .head2 .ensures in
     let n = c .before .before .before .before .before .before .integer .ensures in
-    packet-stands (e .args .buffer .now) _ (head Direction.ToContainer (length bytes + 2)) (integerBytes (length bytes) ++ bytes)
+    packet-stands (e .args .buffer .now) _ (packetHead Direction.ToContainer (length bytes + 2)) (integerBytes (length bytes) ++ bytes)
     (body-row bytes (h .before .before .if1 .left)) (e .pre) _ _ (o .1) (o .0) _
     (joined (h .head2 .last .0) (h .head2 .result) (integerBytes (length bytes)) bytes (rest-fits h) _ _ _ (n .1) (n .0)
     (c .before .before .bytes .ensures .1))

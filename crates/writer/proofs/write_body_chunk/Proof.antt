@@ -8,7 +8,7 @@ use Prim.Native.Nat.{_+_}
 use lib.ListN.{length, length-append}
 use Rattle.wire.specs.Field.{stringBytes}
 use Rattle.connection.specs.declared.Kind.{Kind}
-use Rattle.fields.specs.Field.{opening}
+use Rattle.building.specs.Field.{opening}
 use Rattle.writer.proofs.Laws.{chunk-row, second-fits, packet-stands}
 use Rattle.writer.proofs.write_body_chunk.Statement.{statement}
 use Rattle.writer.proofs.write_body_chunk.Tie as tie

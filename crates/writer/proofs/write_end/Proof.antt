@@ -3,7 +3,7 @@
 use borrow.Author.Needs.{needs}
 use Rattle.wire.specs.Field.{booleanBytes}
 use Rattle.connection.specs.declared.Kind.{Kind}
-use Rattle.fields.specs.Field.{opening}
+use Rattle.building.specs.Field.{opening}
 use Rattle.writer.proofs.Laws.{end-row, packet-stands}
 use Rattle.writer.proofs.write_end.Statement.{statement}
 use Rattle.writer.proofs.write_end.Tie as tie

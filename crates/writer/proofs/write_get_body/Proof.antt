@@ -4,7 +4,7 @@ use borrow.Author.Needs.{needs}
 use mathlib.Core.Path.{refl}
 use Rattle.wire.specs.Bytes.{integerBytes}
 use Rattle.connection.specs.declared.Kind.{Kind}
-use Rattle.fields.specs.Field.{opening}
+use Rattle.building.specs.Field.{opening}
 use Rattle.writer.proofs.Laws.{packet-stands}
 use Rattle.writer.proofs.write_get_body.Statement.{statement}
 use Rattle.writer.proofs.write_get_body.Tie as tie

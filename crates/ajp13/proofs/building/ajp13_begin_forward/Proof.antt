@@ -1,8 +1,8 @@
 -- `building::ajp13_begin_forward` meets its contract: a fault is told and nothing is written, else all is as the library's call leaves it.
 -- Assumes nothing.
 use mathlib.Core.Path.{_≡_, refl, sym, _∙_}
-use Rattle.fields.specs.Fault.{firstFault}
-use Rattle.fields.proofs.Faults.{Faultless, faultless}
+use Rattle.building.specs.Fault.{firstFault}
+use Rattle.building.proofs.Faults.{Faultless, faultless}
 use Rattle.ajp13.specs.Building.{Piece, forwardPiece}
 use Rattle.ajp13.proofs.FixedWords.{fixed-fits}
 use Rattle.ajp13.proofs.Pieces.{piece-fault, piece-called, room-fits}

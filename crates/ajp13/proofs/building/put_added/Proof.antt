@@ -4,7 +4,7 @@ use mathlib.Core.Path.{sym, ap, _∙_}
 use mathlib.Core.List.{List}
 use Prim.Native.Nat.{ℕ}
 use Rattle.pieces.specs.declared.Added.{Added}
-use Rattle.pieces.specs.Meaning.{meaning}
+use Rattle.pieces.specs.Meaning.{addedOutcome}
 use Rattle.ajp13.specs.Status as status
 use Rattle.ajp13.specs.Building.{pieceLeaves, afterAdding}
 use borrow.Author.Needs.{needs}
@@ -26,7 +26,7 @@ put-building-requires c κs = search needs
 returns : tie.Need-returns
 returns c buffer =
     let words = c .before .before .before .before .args .building .now in
-    ap (λ (r : Added). afterAdding (meaning r) words buffer) (sym (c .before .added .given .1))
+    ap (λ (r : Added). afterAdding (addedOutcome r) words buffer) (sym (c .before .added .given .1))
 
 same-length : tie.Need-same-length
 same-length c = search needs
@@ -36,7 +36,7 @@ returns-2 c buffer =
     let put = c .before .before in
     let words = put .before .before .before .before .before .before .args .building .now in
     ap (λ (l : List ℕ). pieceLeaves status.done l buffer) (put .put-building .ensures)
-    ∙ ap (λ (r : Added). afterAdding (meaning r) words buffer) (sym (put .before .before .before .added2 .given .1))
+    ∙ ap (λ (r : Added). afterAdding (addedOutcome r) words buffer) (sym (put .before .before .before .added2 .given .1))
 
 pub put-added-spec : {M : Type 1} → statement M
 put-added-spec =

@@ -1,7 +1,7 @@
 -- `close::ajp13_close` meets its contract: the packet is closed, and what that came to is told.
 -- Assumes nothing.
 use mathlib.Core.Path.{sym, ap, subst, _∙_}
-use Rattle.building_record.specs.Record.{kindIn}
+use Rattle.building_record.specs.Record.{builtKind}
 use Rattle.ajp13.specs.Sending.{closeEffect}
 use Rattle.ajp13.specs.Private.{BuildingFits, SentWithin}
 use Rattle.ajp13.proofs.Within.{close-within}
@@ -63,7 +63,7 @@ returns-2 c =
     let conn = c .before .before .before .before .before .before .before .before .before .before .before .before .connection-in in
     close-leaves (a .connection .now) (a .building .now) (a .buffer .now) (a .answer .now) _ (conn .result) (record-is .result) _ _ _ _
     (e .before .close-fault .ensures) (e .if1 .left) (conn .ensures) (record-is .ensures)
-    (c .before .before .before .before .before .before .before .kind2 .ensures ∙ ap kindIn (c .before .before .before .before .before .before .before .before .before .before .before .before .before .before .kind .ensures))
+    (c .before .before .before .before .before .before .before .kind2 .ensures ∙ ap builtKind (c .before .before .before .before .before .before .before .before .before .before .before .before .before .before .kind .ensures))
     (c .before .before .before .before .before .before .before .before .before .before .close .ensures .0) (c .before .before .before .before .before .before .before .before .before .before .close .ensures .1) (c .before .before .before .before .tell .ensures _)
 
 pub ajp13-close-spec : {M : Type 1} → statement M

@@ -1,7 +1,7 @@
 -- `read::tell` meets its contract, by what the reader answered.
 -- Assumes nothing.
 use mathlib.Core.Path.{refl, sym, ap, subst, _∙_}
-use Rattle.reader.specs.Meaning.{told, meaning}
+use Rattle.reader.specs.Meaning.{told, receivedMeaning}
 use Rattle.reader.specs.declared.Received.{Received}
 use Rattle.ajp13.specs.Answer.{needsWords, toldWords}
 use Rattle.ajp13.specs.Status as status
@@ -16,7 +16,7 @@ enum-known-received : tie.Need-enum-known-received
 enum-known-received c = search needs
 
 bytes-word-requires : tie.Need-bytes-word-requires
-bytes-word-requires c κs = subst ReadWithin (ap meaning (c .before .received .given .1)) (c .before .before .before .before .before .pre .1)
+bytes-word-requires c κs = subst ReadWithin (ap receivedMeaning (c .before .received .given .1)) (c .before .before .before .before .before .pre .1)
 
 needs-words-requires : tie.Need-needs-words-requires
 needs-words-requires c κs = search needs
@@ -40,7 +40,7 @@ put-connection-requires : tie.Need-put-connection-requires
 put-connection-requires c κs = search needs
 
 bytes-word-requires-2 : tie.Need-bytes-word-requires-2
-bytes-word-requires-2 c κs = subst ReadWithin (ap meaning (c .before .before .before .before .before .received3 .given .1)) (c .before .before .before .before .before .before .before .before .before .pre .1)
+bytes-word-requires-2 c κs = subst ReadWithin (ap receivedMeaning (c .before .before .before .before .before .received3 .given .1)) (c .before .before .before .before .before .before .before .before .before .pre .1)
 
 told-words-requires : tie.Need-told-words-requires
 told-words-requires c κs = search needs
@@ -58,12 +58,12 @@ returns : tie.Need-returns
 returns c = λ table.
     let a = c .before .before .before .before .before .before .before .before .before .before .before .before .args in
     leaves-same status.needs table refl (c .before .before .fill .ensures ∙ c .before .before .before .before .before .needs-words .ensures ∙ ap needsWords (c .before .before .before .before .before .before .bytes-word .ensures))
-    ∙ sym (ap (λ (x : Received). afterReading (meaning x) (a .connection .now) table (a .answer .now)) (c .before .before .before .before .before .before .before .before .received .given .1))
+    ∙ sym (ap (λ (x : Received). afterReading (receivedMeaning x) (a .connection .now) table (a .answer .now)) (c .before .before .before .before .before .before .before .before .received .given .1))
 
 returns-2 : tie.Need-returns-2
 returns-2 c = λ table.
     let a = c .before .before .before .before .before .args in
-    sym (ap (λ (x : Received). afterReading (meaning x) (a .connection .now) table (a .answer .now)) (c .before .received2 .given .1))
+    sym (ap (λ (x : Received). afterReading (receivedMeaning x) (a .connection .now) table (a .answer .now)) (c .before .received2 .given .1))
 
 same-length-2 : tie.Need-same-length-2
 same-length-2 c = search needs
@@ -77,7 +77,7 @@ returns-3 c = λ table.
     let packet = c .before .before .before .before .before .before .before .before .before .before .before .before .received3 .given .0 .0 in
     leaves-same status.done table (c .before .before .before .before .before .before .before .before .before .put-connection .ensures)
     (c .before .before .fill2 .ensures ∙ c .before .before .before .before .before .told-words .ensures ∙ ap (toldWords (told packet)) (c .before .before .before .before .before .before .bytes-word2 .ensures))
-    ∙ sym (ap (λ (x : Received). afterReading (meaning x) (a .connection .now) table (a .answer .now)) (c .before .before .before .before .before .before .before .before .before .before .before .before .received3 .given .1))
+    ∙ sym (ap (λ (x : Received). afterReading (receivedMeaning x) (a .connection .now) table (a .answer .now)) (c .before .before .before .before .before .before .before .before .before .before .before .before .received3 .given .1))
 
 pub tell-spec : {M : Type 1} → statement M
 tell-spec =

@@ -6,9 +6,9 @@ use lib.ListN.{length}
 use Rattle.connection.specs.declared.Connection.{Connection}
 use Rattle.connection.specs.declared.Kind.{Kind}
 use Rattle.connection.specs.declared.Move.{Move}
-use Rattle.fields.specs.Fault.{orElse}
-use Rattle.fields.specs.Call.{outcome, bufferAfter}
-use Rattle.fields.proofs.Sizes.{or-first, or-second}
+use Rattle.building.specs.Fault.{orElse}
+use Rattle.building.specs.Call.{outcome, bufferAfter}
+use Rattle.building.proofs.Sizes.{or-first, or-second}
 use Rattle.writer.specs.Sending.{getPayload, getCall}
 use Rattle.ajp13.specs.Words.{numberFault}
 use Rattle.ajp13.specs.Effect.{callFault}

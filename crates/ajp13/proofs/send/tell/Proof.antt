@@ -1,7 +1,7 @@
 -- `send::tell` meets its contract, by what sending came to.
 -- Assumes nothing.
 use mathlib.Core.Path.{sym, ap, subst, _∙_}
-use Rattle.writer.specs.Meaning.{meaning}
+use Rattle.writer.specs.Meaning.{sentOutcome}
 use Rattle.writer.specs.declared.Sent.{Sent}
 use Rattle.ajp13.specs.Answer.{writtenWords}
 use Rattle.ajp13.specs.Sending.{afterSending}
@@ -25,7 +25,7 @@ put-connection-requires : tie.Need-put-connection-requires
 put-connection-requires c κs = search needs
 
 bytes-word-requires : tie.Need-bytes-word-requires
-bytes-word-requires c κs = subst SentWithin (ap meaning (c .before .before .before .before .before .sent2 .given .1)) (c .before .before .before .before .before .before .before .before .before .pre .1)
+bytes-word-requires c κs = subst SentWithin (ap sentOutcome (c .before .before .before .before .before .sent2 .given .1)) (c .before .before .before .before .before .before .before .before .before .pre .1)
 
 written-words-requires : tie.Need-written-words-requires
 written-words-requires c κs = search needs
@@ -39,7 +39,7 @@ fill-requires c κs = search needs
 returns : tie.Need-returns
 returns c = λ buffer.
     let a = c .before .before .before .before .before .args in
-    sym (ap (λ (s : Sent). afterSending (a .kind) (meaning s) (a .connection .now) buffer (a .answer .now)) (c .before .sent .given .1))
+    sym (ap (λ (s : Sent). afterSending (a .kind) (sentOutcome s) (a .connection .now) buffer (a .answer .now)) (c .before .sent .given .1))
 
 same-length : tie.Need-same-length
 same-length c = search needs
@@ -52,7 +52,7 @@ returns-2 c = λ buffer.
     let a = c .before .before .before .before .before .before .before .before .before .before .before .before .before .before .before .before .args in
     leaves-same status.done buffer (c .before .before .before .before .before .before .before .before .before .put-connection .ensures)
     (c .before .before .fill .ensures ∙ c .before .before .before .before .before .written-words .ensures ∙ ap (writtenWords (a .kind)) (c .before .before .before .before .before .before .bytes-word .ensures))
-    ∙ sym (ap (λ (s : Sent). afterSending (a .kind) (meaning s) (a .connection .now) buffer (a .answer .now)) (c .before .before .before .before .before .before .before .before .before .before .before .before .sent2 .given .1))
+    ∙ sym (ap (λ (s : Sent). afterSending (a .kind) (sentOutcome s) (a .connection .now) buffer (a .answer .now)) (c .before .before .before .before .before .before .before .before .before .before .before .before .sent2 .given .1))
 
 pub tell-spec : {M : Type 1} → statement M
 tell-spec =

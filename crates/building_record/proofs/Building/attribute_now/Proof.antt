@@ -3,7 +3,7 @@
 use mathlib.Core.Path.{ap, _∙_}
 use Rattle.wire.specs.Pick.{both}
 use Rattle.wire.specs.Refusal.{recordWrong}
-use Rattle.fields.specs.Fault.{unless}
+use Rattle.building.specs.Fault.{unless}
 use Rattle.building_record.specs.Record.{isPossible, attributeNow}
 use borrow.Author.Needs.{needs}
 use Rattle.building_record.proofs.Building.attribute_now.Statement.{statement}

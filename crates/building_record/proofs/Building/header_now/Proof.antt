@@ -4,7 +4,7 @@ use mathlib.Core.Path.{ap, _∙_}
 use mathlib.Core.Bool.{not}
 use Rattle.wire.specs.Pick.{both}
 use Rattle.wire.specs.Refusal.{recordWrong}
-use Rattle.fields.specs.Fault.{unless}
+use Rattle.building.specs.Fault.{unless}
 use Rattle.building_record.specs.Record.{headerNow}
 use borrow.Author.Needs.{needs}
 use Rattle.building_record.proofs.Building.header_now.Statement.{statement}

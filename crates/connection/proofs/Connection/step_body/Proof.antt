@@ -6,7 +6,7 @@ use Prim.Native.Nat.{ℕ}
 use borrow.Author.Needs.{needs}
 use borrow.Author.Tests.{not-true, not-false}
 use Rattle.wire.specs.Pick.{pick}
-use Rattle.wire.specs.Refusal.{sizeWrong}
+use Rattle.wire.specs.Refusal.{bodySizeWrong}
 use Rattle.connection.specs.declared.Move.{Move}
 use Rattle.connection.specs.declared.Step.{Step}
 use Rattle.connection.specs.Connection.{busy}
@@ -32,7 +32,7 @@ is-size-allowed-requires c κs = search needs
 -- the step by whether the size is allowed, where a body packet is due
 due-step : (c : tie.After-is-size-allowed) (t : Bool) → c .is-size-allowed .result ≡ t → let a = c .before .before .before .before .before .args in
     stepOf (a .self) (Move.Body (a .k))
-    ≡ pick t (Step.Next (after (a .self) (Move.Body (a .k)))) (Step.Refused sizeWrong)
+    ≡ pick t (Step.Next (after (a .self) (Move.Body (a .k)))) (Step.Refused bodySizeWrong)
 due-step c t e =
     let a = c .before .before .before .before .before .args in
     step-by (a .self) (Move.Body (a .k)) true t

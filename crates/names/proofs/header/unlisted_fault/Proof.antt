@@ -7,7 +7,7 @@ use mathlib.Core.List.{List}
 use Prim.Native.Nat.{ℕ}
 use Rattle.packet.specs.declared.Direction.{Direction}
 use Rattle.wire.specs.Pick.{pick, both}
-use Rattle.wire.specs.Refusal.{none, lengthWrong}
+use Rattle.wire.specs.Refusal.{none, contentLengthWrong}
 use Rattle.names.specs.Header.{isRequest, isTransferEncoding, unlistedFault}
 use Rattle.names.proofs.header.unlisted_fault.Statement.{statement}
 use Rattle.names.proofs.header.unlisted_fault.Tie as tie
@@ -23,7 +23,7 @@ is-transfer-encoding-requires c κs = search needs
 
 -- what the direction and the comparison make
 answer : (direction : Direction) (text : List ℕ) (d : Direction) (t : Bool) → direction ≡ d → isTransferEncoding text ≡ t
-    → unlistedFault direction text ≡ pick (both (isRequest d) t) lengthWrong none
+    → unlistedFault direction text ≡ pick (both (isRequest d) t) contentLengthWrong none
 unfolding unlistedFault
 answer direction text d t e f = rw (e, f)
 

@@ -6,17 +6,17 @@ use mathlib.Core.Bool.{Bool, true, false}
 use mathlib.Core.List.{List}
 use Prim.Native.Nat.{ℕ}
 use Rattle.wire.specs.Pick.{pick}
-use Rattle.wire.specs.Refusal.{lengthWrong}
+use Rattle.wire.specs.Refusal.{contentLengthWrong}
 use Rattle.names.specs.declared.length.Decimal.{Decimal}
 use Rattle.names.specs.declared.length.Declared.{Declared}
-use Rattle.names.specs.declared.length.Declaring.{Declaring}
-use Rattle.names.specs.Length.{decimalOf, asDeclared, declare}
+use Rattle.names.specs.declared.length.LengthRead.{LengthRead}
+use Rattle.names.specs.Length.{decimalOf, decimalDeclared, lengthAfter}
 use Rattle.names.proofs.length.first_length.Statement.{statement}
 use Rattle.names.proofs.length.first_length.Tie as tie
 
 -- what null and the number make
 answer : (null : Bool) (text : List ℕ) (t : Bool) (number : Decimal) → null ≡ t → decimalOf text ≡ number
-    → declare Declared.Absent null text ≡ pick t (Declaring.Refused lengthWrong) (asDeclared number)
+    → lengthAfter Declared.Absent null text ≡ pick t (LengthRead.Refused contentLengthWrong) (decimalDeclared number)
 answer null text t number e f = rw (e, f)
 
 returns : tie.Need-returns

@@ -11,7 +11,7 @@ use lib.ListN.{length, getD, take, drop, length-map}
 use lib.Seq.{length-take-le, getD-take}
 use Rattle.wire.specs.Pick.{both}
 use Rattle.names.specs.Names.{sameName, letter}
-use Rattle.names.specs.Row.{nameRoom, bytesOf}
+use Rattle.names.specs.Row.{nameRoom, nameBytes}
 use Rattle.names.proofs.Laws.{same-step, same-end, same-length, take-past}
 use Rattle.names.proofs.table.spells.Statement.{statement}
 use Rattle.names.proofs.table.spells.Tie as tie
@@ -29,7 +29,7 @@ whole c = sym (length-map (c .args .name .bytes) (λ (b : ℕ). b)) ∙ c .good 
 
 -- the length that the loop goes by: at most the array's, and the name's bytes are as many
 room : (c : tie.Joined1 Inv-loop μ-loop) → let name = c .before .before .before .args .name in
-    (c .if1 .n ≤ nameRoom) × (bytesOf name ≡ take (c .if1 .n) (name .bytes))
+    (c .if1 .n ≤ nameRoom) × (nameBytes name ≡ take (c .if1 .n) (name .bytes))
 room c =
     let name = c .before .before .before .args .name in
     let h = whole (c .before .before .before) in

@@ -5,7 +5,7 @@ use mathlib.Core.Path.{sym, ap, subst}
 use Prim.Native.Nat.{_≤_}
 use native.Mathlib.Omega.{arith}
 use Rattle.connection.specs.Connection.{maxPacket}
-use Rattle.payload.specs.Sequence.{placeOf}
+use Rattle.payload.specs.Sequence.{fieldPlace}
 use Rattle.payload.specs.Private.{Within}
 use Rattle.payload.proofs.field.place_of.Statement.{statement}
 use Rattle.payload.proofs.field.place_of.Tie as tie
@@ -22,10 +22,10 @@ cast-t7 c =
     omega arith
 
 returns : tie.Need-returns
-returns c = sym (ap placeOf (c .before .field .given .1))
+returns c = sym (ap fieldPlace (c .before .field .given .1))
 
 returns-2 : tie.Need-returns-2
-returns-2 c = sym (ap placeOf (c .before .field2 .given .1))
+returns-2 c = sym (ap fieldPlace (c .before .field2 .given .1))
 
 pub place-of-spec : {M : Type 1} → statement M
 place-of-spec = tie.close (tie.spec enum-known-field enum-known-field-2 cast-t7 returns returns-2)

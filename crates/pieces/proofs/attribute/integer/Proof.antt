@@ -4,8 +4,8 @@ use mathlib.Core.Path.{_≡_, refl}
 use mathlib.Core.List.{[], _∷_}
 use borrow.Author.Needs.{needs}
 use Rattle.wire.specs.Bytes.{integerBytes}
-use Rattle.fields.specs.Field.{Field, plain}
-use Rattle.fields.specs.Call.{Call}
+use Rattle.building.specs.Field.{Field, plain}
+use Rattle.building.specs.Call.{Call}
 use Rattle.building_record.specs.declared.Building.{Building}
 use Rattle.pieces.specs.Attribute.{isInteger, integerCall}
 use Rattle.building_record.specs.Record.{withAttribute}

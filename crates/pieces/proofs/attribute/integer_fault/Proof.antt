@@ -2,7 +2,7 @@
 -- Assumes nothing.
 use borrow.Author.Needs.{needs}
 use Rattle.pieces.specs.Attribute.{integerCall}
-use Rattle.fields.proofs.Sizes.{or-none}
+use Rattle.building.proofs.Sizes.{or-none}
 use Rattle.pieces.proofs.attribute.integer_fault.Statement.{statement}
 use Rattle.pieces.proofs.attribute.integer_fault.Tie as tie
 

@@ -5,8 +5,8 @@ use mathlib.Core.List.{[], _∷_, _++_, append-nil}
 use borrow.Author.Needs.{needs}
 use Rattle.wire.specs.Field.{stringBytes}
 use Rattle.wire.specs.declared.StringField.{StringField}
-use Rattle.fields.specs.Field.{Field, stringField}
-use Rattle.fields.specs.Call.{Call}
+use Rattle.building.specs.Field.{Field, stringField}
+use Rattle.building.specs.Call.{Call}
 use Rattle.building_record.specs.declared.Building.{Building}
 use Rattle.pieces.specs.Attribute.{isPair, pairCall}
 use Rattle.building_record.specs.Record.{withAttribute}

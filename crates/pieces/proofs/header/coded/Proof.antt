@@ -5,7 +5,7 @@ use mathlib.Core.List.{_++_, append-nil}
 use borrow.Author.Needs.{needs}
 use Rattle.wire.specs.Bytes.{integerBytes}
 use Rattle.wire.specs.Field.{stringBytes}
-use Rattle.fields.specs.Call.{Call}
+use Rattle.building.specs.Call.{Call}
 use Rattle.building_record.specs.declared.Building.{Building}
 use Rattle.pieces.specs.Header.{codedFields, codedCall}
 use Rattle.building_record.specs.Record.{directionIn, withHeader}

@@ -4,7 +4,7 @@ use mathlib.Core.Path.{_≡_, refl}
 use mathlib.Core.List.{_++_, append-nil}
 use borrow.Author.Needs.{needs}
 use Rattle.wire.specs.Field.{stringBytes}
-use Rattle.fields.specs.Call.{Call}
+use Rattle.building.specs.Call.{Call}
 use Rattle.building_record.specs.declared.Building.{Building}
 use Rattle.pieces.specs.Header.{spelledFields, spelledCall}
 use Rattle.building_record.specs.Record.{directionIn, withHeader}

@@ -2,8 +2,8 @@
 -- Assumes nothing.
 use mathlib.Core.Path.{sym, ap, _∙_}
 use Rattle.payload.specs.SendHeaders.{greatestStatus, leastStatus}
-use Rattle.fields.specs.Fault.{orElse, rangeFault}
-use Rattle.fields.proofs.Sizes.{or-none}
+use Rattle.building.specs.Fault.{orElse, rangeFault}
+use Rattle.building.proofs.Sizes.{or-none}
 use borrow.Author.Needs.{needs}
 use Rattle.pieces.proofs.send_headers.fields_fault.Statement.{statement}
 use Rattle.pieces.proofs.send_headers.fields_fault.Tie as tie

@@ -4,8 +4,8 @@ use mathlib.Core.Path.{ap, _∙_}
 use Prim.Native.Nat.{_+_}
 use lib.ListN.{length}
 use Rattle.wire.specs.Field.{stringBytes}
-use Rattle.fields.specs.Field.{sizeTold}
-use Rattle.fields.proofs.Sizes.{told-behind}
+use Rattle.building.specs.Field.{sizeTold}
+use Rattle.building.proofs.Sizes.{told-behind}
 use Rattle.pieces.proofs.Laws.{send-headers-size}
 use borrow.Author.Needs.{needs}
 use Rattle.pieces.proofs.send_headers.needs.Statement.{statement}

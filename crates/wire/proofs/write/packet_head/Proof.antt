@@ -7,7 +7,7 @@ use Prim.Native.Nat.{ℕ, _+_, _<_, _≤_}
 use borrow.Author.Needs.{needs}
 use lib.ListN.{length}
 use Rattle.wire.specs.Bytes.{put, integerBytes}
-use Rattle.wire.specs.Packet.{leading, head}
+use Rattle.wire.specs.Packet.{leading, packetHead}
 use Rattle.wire.proofs.Bytes.{room-yes, room-no, put-put, put-short}
 use Rattle.wire.proofs.Field.{length-leading, head-four}
 use Rattle.wire.proofs.write.packet_head.Statement.{statement}
@@ -44,7 +44,7 @@ returns-2 : tie.Need-returns-2
 returns-2 c =
     let a = c .before .before .before .args in
     let short : length (a .buffer .now) < 0 + 4 = room-no _ _ _ (c .before .has-room .ensures) (c .if1 .left) in
-    sym (put-short (a .buffer .now) 0 (head (a .direction) (a .payload)) (omega (arith, head-four (a .direction) (a .payload))))
+    sym (put-short (a .buffer .now) 0 (packetHead (a .direction) (a .payload)) (omega (arith, head-four (a .direction) (a .payload))))
 
 pub packet-head-spec : {M : Type 1} → statement M
 packet-head-spec =
