@@ -13,7 +13,6 @@ use Rattle.wire.specs.Pick.{pick, both, either}
 use Rattle.connection.specs.declared.State.{State}
 use Rattle.connection.specs.declared.Kind.{Kind}
 use Rattle.connection.specs.declared.Connection.{Connection}
-use Rattle.payload.specs.Sequence.{booleanNumber}
 use Rattle.building.specs.Fault.{unless}
 use Rattle.building.proofs.Sizes.{unless-none}
 use Rattle.building_record.specs.Record as building
@@ -22,6 +21,7 @@ use Rattle.building_record.specs.declared.Building.{Building}
 use Rattle.ajp13.specs.Status as status
 use Rattle.ajp13.specs.Words.{word, lastFlag, lastNumber, lastState, connectionSize, statePlace, duePlace, askedPlace, headersPlace, areConnection, stateWord, stateIn, flagIn, connectionFault, connectionIn, connectionWords, buildingSize, kindPlace, nextPlace, countPlace, soFarPlace, attributesPlace, areBuilding, kindWord, isForwardWord, isSendHeadersWord, buildingKindIn, buildingFault, buildingIn, buildingWords}
 use Rattle.ajp13.specs.Private.{ConnectionFits, BuildingFits}
+use Rattle.wire.specs.Field.{booleanNumber}
 
 -- where both tests hold, each does
 both-true : (a b : Bool) → both a b ≡ true → (a ≡ true) × (b ≡ true)

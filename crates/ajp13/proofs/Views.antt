@@ -13,7 +13,6 @@ use lib.Seq.{take-take, take-length}
 use Rattle.wire.specs.Pick.{pick}
 use Rattle.wire.specs.Bytes.{part, integerIn}
 use Rattle.wire.proofs.Parts.{part-zero}
-use Rattle.payload.specs.Sequence.{booleanNumber}
 use Rattle.building.specs.Fault.{unless}
 use Rattle.building.proofs.Sizes.{unless-none, or-first, or-second}
 use Rattle.views.specs.View.{integerView, nullView, textView}
@@ -21,6 +20,7 @@ use Rattle.ajp13.specs.Status as status
 use Rattle.ajp13.specs.Words.{word, flagIn, lastNumber, numberFault}
 use Rattle.ajp13.specs.View.{textSize, lengthSize, textStartPlace, textLengthPlace, textNullPlace, textStart, textWords, textFault}
 use Rattle.ajp13.proofs.Effects.{number-within}
+use Rattle.wire.specs.Field.{booleanNumber}
 
 -- the bytes start inside the packet or at its end, at most two bytes behind the place
 pub start-within : (packet : List ℕ) (at : ℕ) → (textStart packet at ≤ length packet) × (textStart packet at ≤ at + lengthSize)

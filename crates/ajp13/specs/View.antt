@@ -10,9 +10,9 @@ use Rattle.packet.specs.declared.AttributeKind.{AttributeKind}
 use Rattle.building.specs.Fault.{unless, orElse}
 use Rattle.views.specs.View.{nullView, textView}
 use Rattle.packet.specs.declared.HeaderName.{HeaderName}
-use Rattle.payload.specs.Sequence.{booleanNumber}
 use Rattle.ajp13.specs.Status as status
 use Rattle.ajp13.specs.Words.{numberFault}
+use Rattle.wire.specs.Field.{booleanNumber}
 
 -- the words of a string: how many, and where each stands
 abbrev pub textSize : ℕ

@@ -13,12 +13,12 @@ use Rattle.connection.specs.Connection as connection
 use Rattle.connection.specs.declared.State.{State}
 use Rattle.connection.specs.declared.Kind.{Kind}
 use Rattle.connection.specs.declared.Connection.{Connection}
-use Rattle.payload.specs.Sequence.{booleanNumber}
 use Rattle.building.specs.Fault.{unless}
 use Rattle.building_record.specs.Record as building
 use Rattle.building_record.specs.declared.BuildingKind.{BuildingKind}
 use Rattle.building_record.specs.declared.Building.{Building}
 use Rattle.ajp13.specs.Status as status
+use Rattle.wire.specs.Field.{booleanNumber}
 
 -- the word at a place
 abbrev pub word : List ℕ → ℕ → ℕ

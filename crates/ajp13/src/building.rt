@@ -97,7 +97,7 @@ pub extern "C" fn ajp13_begin_send_headers(
     if found != status::DONE {
         return found;
     }
-    let added = send_headers::begin(buffer, number_in(status), message, flag_in(null));
+    let added = send_headers::begin(buffer, number_in(status), flag_in(null), message);
     put_added(building, added)
 }
 
@@ -120,8 +120,8 @@ pub extern "C" fn ajp13_header_coded(
         building_in(building),
         buffer,
         number_in(code),
-        value,
         flag_in(null),
+        value,
     );
     put_added(building, added)
 }
@@ -145,10 +145,10 @@ pub extern "C" fn ajp13_header_spelled(
     let added = header::spelled(
         building_in(building),
         buffer,
-        name,
         flag_in(noname),
-        value,
+        name,
         flag_in(novalue),
+        value,
     );
     put_added(building, added)
 }
@@ -168,7 +168,7 @@ pub extern "C" fn ajp13_header_named(
     if found != status::DONE {
         return found;
     }
-    let added = header::named(building_in(building), buffer, name, value, flag_in(null));
+    let added = header::named(building_in(building), buffer, name, flag_in(null), value);
     put_added(building, added)
 }
 
@@ -191,8 +191,8 @@ pub extern "C" fn ajp13_attribute_text(
         building_in(building),
         buffer,
         number_in(code),
-        value,
         flag_in(null),
+        value,
     );
     put_added(building, added)
 }
@@ -244,10 +244,10 @@ pub extern "C" fn ajp13_attribute_pair(
         building_in(building),
         buffer,
         number_in(code),
-        name,
         flag_in(noname),
-        value,
+        name,
         flag_in(novalue),
+        value,
     );
     put_added(building, added)
 }

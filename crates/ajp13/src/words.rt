@@ -2,9 +2,9 @@
 ghost use mathlib.Core.Path.{_≡_};
 ghost use Prim.Native.Nat.{_≤_};
 ghost use lib.ListN.{length};
-ghost use Rattle.payload.specs.Sequence.{booleanNumber};
 ghost use Rattle.ajp13.specs.Words.{lastNumber, flagIn, flagFault, numberFault, stateWord, stateIn, connectionSize, connectionRoom, connectionFault, connectionIn, connectionWords, kindWord, buildingKindIn, buildingSize, buildingRoom, buildingFault, buildingIn, buildingWords};
 ghost use Rattle.ajp13.specs.Private.{ConnectionFits, BuildingFits};
+ghost use Rattle.wire.specs.Field.{booleanNumber};
 use crate::status;
 use crate::status::unless;
 use building_record::Building;

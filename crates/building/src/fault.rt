@@ -28,17 +28,17 @@ pub fn or_else(fault: u8, later: u8) -> u8
 }
 
 // The fault of a string in a field.
-pub fn string(field: StringField, text: &[u8], null: bool) -> u8
+pub fn string(field: StringField, null: bool, text: &[u8]) -> u8
     ensures { λ r. ⌜ r ≡ stringFault field null (now (text .entry)) ⌝ }
 {
     unless(
-        allows_string(text, null, is_optional(field)),
+        allows_string(is_optional(field), null, text),
         refusal::STRING_WRONG,
     )
 }
 
 // The fault of a number that has to be from `low` to `high`.
-pub fn range(value: u16, low: u16, high: u16) -> u8
+pub fn range(low: u16, high: u16, value: u16) -> u8
     ensures { λ r. ⌜ r ≡ rangeFault low high value ⌝ }
 {
     if value < low {

@@ -11,8 +11,8 @@ use crate::size::BYTE;
 use crate::size::INTEGER;
 use connection::Kind;
 use packet::Direction;
-use payload::PAYLOAD_PLACE;
 use payload::code_of;
+use wire::PAYLOAD_PLACE;
 use wire::write;
 
 // A byte.
@@ -46,30 +46,30 @@ pub fn boolean(buffer: &mut [u8], at: usize, value: bool) -> usize
 }
 
 // A string.
-pub fn string(buffer: &mut [u8], at: usize, text: &[u8], null: bool) -> usize
+pub fn string(buffer: &mut [u8], at: usize, null: bool, text: &[u8]) -> usize
     requires { ⌜ Fits at (stringBytes null (now text)) (now buffer) ⌝ }
     ensures { λ r. ⌜ r ≡ at + length (stringBytes null (now (text .entry))) ⌝ }
     ensures { λ _. ⌜ now (buffer .exit) ≡ over (now (buffer .entry)) at (stringBytes null (now (text .entry))) ⌝ }
 {
-    write::string(buffer, at, text, null);
-    at + write::string_size(text, null)
+    write::string(buffer, at, null, text);
+    at + write::string_size(null, text)
 }
 
 // Two strings, one behind the other.
 pub fn two_strings(
     buffer: &mut [u8],
     at: usize,
-    first: &[u8],
     nofirst: bool,
-    second: &[u8],
+    first: &[u8],
     nosecond: bool,
+    second: &[u8],
 ) -> usize
     requires { ⌜ Fits at (stringBytes nofirst (now first) ++ stringBytes nosecond (now second)) (now buffer) ⌝ }
     ensures { λ r. ⌜ r ≡ at + length (stringBytes nofirst (now (first .entry)) ++ stringBytes nosecond (now (second .entry))) ⌝ }
     ensures { λ _. ⌜ now (buffer .exit) ≡ over (now (buffer .entry)) at (stringBytes nofirst (now (first .entry)) ++ stringBytes nosecond (now (second .entry))) ⌝ }
 {
-    let next = string(buffer, at, first, nofirst);
-    string(buffer, next, second, nosecond)
+    let next = string(buffer, at, nofirst, first);
+    string(buffer, next, nosecond, second)
 }
 
 // Bytes as they are.

@@ -29,8 +29,8 @@ pub fn plus(size: usize, more: usize) -> usize
 }
 
 // A size and a string behind it.
-pub fn string(size: usize, text: &[u8], null: bool) -> usize
+pub fn string(size: usize, null: bool, text: &[u8]) -> usize
     ensures { λ r. ⌜ r ≡ sizeTold (size + length (stringBytes null (now (text .entry)))) ⌝ }
 {
-    plus(size, string_size(text, null))
+    plus(size, string_size(null, text))
 }

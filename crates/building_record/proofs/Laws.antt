@@ -11,9 +11,10 @@ use Rattle.wire.specs.Pick.{both}
 use Rattle.wire.proofs.Tests.{both-first, both-second}
 use Rattle.connection.specs.Connection.{maxPacket}
 use Rattle.places.specs.Entries.{maxHeaders}
-use Rattle.payload.specs.Code.{codeOf, codePlace, payloadPlace}
+use Rattle.payload.specs.Code.{codeOf}
 use Rattle.building_record.specs.declared.Building.{Building}
 use Rattle.building_record.specs.Record.{builtKind, isPossible, countSize, Possible}
+use Rattle.wire.specs.Packet.{codePlace, payloadPlace}
 
 -- a record that can be, by its tests; a proof that does not reach a test says `refl`
 pub possible-by : (r : Building) (buffer : List ℕ) (a b c d e f : Bool) → leb (r .next .0) maxPacket ≡ a → leb (r .next .0) (length buffer) ≡ b

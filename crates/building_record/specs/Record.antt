@@ -14,10 +14,11 @@ use Rattle.places.specs.Entries.{maxHeaders}
 use Rattle.connection.specs.Connection.{maxPacket}
 use Rattle.connection.specs.Cycle.{directionOf}
 use Rattle.connection.specs.declared.Kind.{Kind}
-use Rattle.payload.specs.Code.{payloadPlace, codePlace, codeOf}
+use Rattle.payload.specs.Code.{codeOf}
 use Rattle.building.specs.Fault.{unless}
 use Rattle.building_record.specs.declared.BuildingKind.{BuildingKind}
 use Rattle.building_record.specs.declared.Building.{Building}
+use Rattle.wire.specs.Packet.{payloadPlace, codePlace}
 
 -- which packet: its kind
 abbrev pub builtKind : BuildingKind → Kind

@@ -8,10 +8,10 @@ use connection::Connection;
 use connection::Kind;
 use packet::Direction;
 use packet::Place;
-use payload::CODE_PLACE;
-use payload::PAYLOAD_PLACE;
 use payload::code_of;
 use places::MAX_HEADERS;
+use wire::CODE_PLACE;
+use wire::PAYLOAD_PLACE;
 use wire::refusal;
 
 // How many bytes the count of headers takes.

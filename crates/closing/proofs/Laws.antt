@@ -24,7 +24,7 @@ use Rattle.connection.specs.declared.Connection.{Connection}
 use Rattle.connection.specs.declared.Kind.{Kind}
 use Rattle.connection.specs.Connection.{maxPacket, maxPayload, isIdle, isBusy}
 use Rattle.places.specs.Entries.{maxHeaders, maxPlaces}
-use Rattle.payload.specs.Code.{codeOf, codeKind, kindOfCode, codePlace, kindAt, payloadPlace}
+use Rattle.payload.specs.Code.{codeOf, codeKind, kindOfCode, kindAt}
 use Rattle.payload.specs.Kinds as payload
 use Rattle.payload.specs.Kinds.{packetAt}
 use Rattle.payload.specs.declared.KindRead.{KindRead}
@@ -40,7 +40,7 @@ use Rattle.building_record.proofs.Laws.{possible-yes}
 use Rattle.writer.specs.declared.Sent.{Sent}
 use Rattle.writer.specs.Meaning.{Written, sentOutcome, isWritten}
 use Rattle.reader.specs.declared.frame.FrameRead.{FrameRead}
-use Rattle.reader.specs.Frame.{leadingDiffers, lengthAt, frameOf, frameAt, lengthPlace}
+use Rattle.reader.specs.Frame.{leadingDiffers, lengthAt, frameOf, frameAt}
 use Rattle.reader.specs.Meaning as read
 use Rattle.reader.specs.Reading.{parsedOf, parseWhole, parseFrame, parse, readAsBody, accepting, judging, reading}
 use Rattle.reader.proofs.Framing.{length-is}
@@ -52,6 +52,7 @@ use Rattle.closing.specs.Closing.{closedLength, closingFault, closed, cl
 use Rattle.closing.specs.Done.{Ready, CloseDone}
 use Rattle.closing.specs.Private.{Closable}
 use Rattle.closing.proofs.Setting.{set-length, packet-length, packet-payload, packet-code, set-behind}
+use Rattle.wire.specs.Packet.{codePlace, payloadPlace, lengthPlace}
 
 module _ (c : Connection) (r : Building) (buffer : List ℕ) where
   -- the fault that is found, by the three that are looked for

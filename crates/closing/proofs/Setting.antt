@@ -19,15 +19,14 @@ use Rattle.wire.specs.Facts.{Bytes}
 use Rattle.packet.specs.declared.Place.{Place}
 use Rattle.attributes.specs.Attributes.{lastMark}
 use Rattle.places.specs.Entries.{maxHeaders}
-use Rattle.payload.specs.Code.{payloadPlace, codePlace}
 use Rattle.building_record.specs.declared.BuildingKind.{BuildingKind}
 use Rattle.building_record.specs.declared.Building.{Building}
 use Rattle.building_record.specs.Record.{countSize}
 use Rattle.views.specs.View.{integerView}
-use Rattle.reader.specs.Frame.{lengthPlace}
 use Rattle.closing.specs.declared.Old.{Old}
 use Rattle.closing.specs.Closing.{lastBytes, closedLength, withCount, withLength, closed, closedPacket}
 use Rattle.closing.specs.Private.{lastWith, Closable, putBack}
+use Rattle.wire.specs.Packet.{payloadPlace, codePlace, lengthPlace}
 
 -- with FF put behind the last piece, the last bytes stand there
 last-mark : (kind : BuildingKind) → lastWith kind lastMark ≡ lastBytes kind

@@ -12,16 +12,15 @@ use Rattle.wire.specs.Bytes.{part, over, integerBytes}
 use Rattle.attributes.specs.Attributes.{lastMark}
 use Rattle.connection.specs.Cycle.{inState}
 use Rattle.connection.specs.declared.Connection.{Connection}
-use Rattle.payload.specs.Code.{payloadPlace}
 use Rattle.building.specs.Fault.{unless, firstFault, fitFault}
 use Rattle.building.specs.Call.{Outcome, refused, done}
 use Rattle.building_record.specs.declared.BuildingKind.{BuildingKind}
 use Rattle.building_record.specs.declared.Building.{Building}
 use Rattle.building_record.specs.Record.{builtKind, directionIn, isPossible}
 use Rattle.writer.specs.Meaning.{Written}
-use Rattle.reader.specs.Frame.{lengthPlace}
 use Rattle.reader.specs.Meaning as read
 use Rattle.reader.specs.Reading.{parse, readAsBody, judging}
+use Rattle.wire.specs.Packet.{payloadPlace, lengthPlace}
 
 -- what stands behind the last piece: FF in a Forward, nothing in a Send Headers
 abbrev pub lastBytes : BuildingKind → List ℕ

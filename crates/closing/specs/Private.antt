@@ -5,13 +5,12 @@ use Prim.Native.Nat.{ℕ, _+_, _≤_}
 use lib.ListN.{length}
 use Rattle.wire.specs.Bytes.{over, integerBytes}
 use Rattle.connection.specs.Connection.{maxPacket}
-use Rattle.payload.specs.Code.{payloadPlace}
 use Rattle.building_record.specs.declared.BuildingKind.{BuildingKind}
 use Rattle.building_record.specs.declared.Building.{Building}
 use Rattle.building_record.specs.Record.{countSize}
-use Rattle.reader.specs.Frame.{lengthPlace}
 use Rattle.closing.specs.declared.Old.{Old}
 use Rattle.closing.specs.Closing.{closedLength}
+use Rattle.wire.specs.Packet.{payloadPlace, lengthPlace}
 
 -- what stands behind the last piece when a byte is put there: that byte in a Forward, nothing in a Send Headers
 abbrev pub lastWith : BuildingKind → ℕ → List ℕ

@@ -17,11 +17,11 @@ use building_record::Building;
 use building_record::BuildingKind;
 use connection::Connection;
 use packet::Place;
-use payload::PAYLOAD_PLACE;
 use places::MAX_PLACES;
-use reader::LENGTH_PLACE;
 use reader::Received;
 use reader::read;
+use wire::LENGTH_PLACE;
+use wire::PAYLOAD_PLACE;
 use wire::part_of;
 use wire::refusal;
 use writer::Sent;
@@ -84,7 +84,7 @@ fn put_last(buffer: &mut [u8], building: Building, byte: u8)
 }
 
 // Sets the count, the length and the last byte, and tells what stood there.
-fn set(buffer: &mut [u8], building: Building) -> Old
+fn set(building: Building, buffer: &mut [u8]) -> Old
     requires { ⌜ Closable building (now buffer) ⌝ }
     ensures { λ r. ⌜ putBack building r (closed building (now (buffer .entry))) ≡ now (buffer .entry) ⌝ }
     ensures { λ _. ⌜ now (buffer .exit) ≡ closed building (now (buffer .entry)) ⌝ }
@@ -106,7 +106,7 @@ fn set(buffer: &mut [u8], building: Building) -> Old
 }
 
 // Puts back what stood there, the last that was set first.
-fn put_back(buffer: &mut [u8], building: Building, old: Old)
+fn put_back(building: Building, old: Old, buffer: &mut [u8])
     requires { ⌜ Closable building (now buffer) ⌝ }
     ensures { λ _. ⌜ now (buffer .exit) ≡ putBack building old (now (buffer .entry)) ⌝ }
 {
@@ -151,10 +151,10 @@ pub fn close(connection: Connection, building: Building, buffer: &mut [u8]) -> S
         return Sent::Refused(found);
     }
     let size = needs(building);
-    let old = set(buffer, building);
+    let old = set(building, buffer);
     let sent = judge(connection, building, part_of(buffer, 0, size));
     if !is_written(sent) {
-        put_back(buffer, building, old);
+        put_back(building, old, buffer);
     }
     sent
 }

@@ -45,7 +45,7 @@ fn begun(letter: u8, line: &[u8], buffer: &mut [u8]) -> Added {
         return forward(line, buffer);
     }
     let status = parse::number(text::field(line, b'|', 2), 0);
-    send_headers::begin(buffer, status, text::field(line, b'|', 3), false)
+    send_headers::begin(buffer, status, false, text::field(line, b'|', 3))
 }
 
 // The fixed fields of a Forward. The name of the host that asks is not known.
@@ -95,10 +95,10 @@ fn put(building: Building, piece: &[u8], buffer: &mut [u8]) -> Added {
     let value = text::field(piece, b',', 2);
     let code = coded(code::of_attribute(name));
     match text::byte_at(piece, 0) {
-        b'h' => header::named(building, buffer, name, value, false),
-        b'a' => attribute::text(building, buffer, code, value, false),
+        b'h' => header::named(building, buffer, name, false, value),
+        b'a' => attribute::text(building, buffer, code, false, value),
         b'n' => attribute::integer(building, buffer, code, parse::number(value, 0)),
-        b'p' => attribute::pair(building, buffer, PAIR, name, false, value, false),
+        b'p' => attribute::pair(building, buffer, PAIR, false, name, false, value),
         _ => Added::Next(building),
     }
 }

@@ -61,7 +61,7 @@ pub enum HeadersRead {
 }
 
 // The header name at a place; `flags` are those of the token bytes. Nothing is judged before its first two bytes are there.
-pub fn name_at(packet: &[u8], at: usize, direction: Direction, flags: &[bool; BYTES]) -> NameRead
+pub fn name_at(direction: Direction, packet: &[u8], at: usize, flags: &[bool; BYTES]) -> NameRead
     requires { ⌜ TokenFlags (now flags) ⌝ }
     ensures { λ r. ⌜ r ≡ nameAt direction (now (packet .entry)) at ⌝ }
 {
@@ -69,13 +69,13 @@ pub fn name_at(packet: &[u8], at: usize, direction: Direction, flags: &[bool; BY
         return NameRead::Refused(refusal::CUT_SHORT);
     }
     if header::begins_code(packet[at]) {
-        return code_name(read::integer(packet, at), direction);
+        return code_name(direction, read::integer(packet, at));
     }
-    spelled_name(packet, at, direction, flags)
+    spelled_name(direction, packet, at, flags)
 }
 
 // A name by its code, as read.
-fn code_name(number: NumberRead, direction: Direction) -> NameRead
+fn code_name(direction: Direction, number: NumberRead) -> NameRead
     ensures { λ r. ⌜ r ≡ codeNameOf direction number ⌝ }
 {
     match number {
@@ -91,23 +91,23 @@ fn code_name(number: NumberRead, direction: Direction) -> NameRead
 }
 
 // A name that is spelled out: a string, by its length.
-fn spelled_name(packet: &[u8], at: usize, direction: Direction, flags: &[bool; BYTES]) -> NameRead
+fn spelled_name(direction: Direction, packet: &[u8], at: usize, flags: &[bool; BYTES]) -> NameRead
     requires { ⌜ TokenFlags (now flags) ⌝ }
     ensures { λ r. ⌜ r ≡ spelledOf direction (now (packet .entry)) (stringAt (now (packet .entry)) at (isOptional StringField.HeaderName)) ⌝ }
 {
     match read::integer(packet, at) {
         NumberRead::Refused(n) => NameRead::Refused(n),
-        NumberRead::Number { value, next } => name_text(packet, next, value, direction, flags),
+        NumberRead::Number { value, next } => name_text(direction, packet, value, next, flags),
     }
 }
 
 // What follows a spelled name's length, judged as `read::string` judges it, but for its bytes: they are looked through once, for all their
 // faults.
 fn name_text(
-    packet: &[u8],
-    start: usize,
-    size: u16,
     direction: Direction,
+    packet: &[u8],
+    size: u16,
+    start: usize,
     flags: &[bool; BYTES],
 ) -> NameRead
     requires { ⌜ TokenFlags (now flags) ⌝ }
@@ -165,11 +165,11 @@ pub fn declares_length(direction: Direction, code: u16) -> bool
 }
 
 // What is declared after a header's value.
-pub fn declared_after(declares: bool, before: Declared, text: &[u8], null: bool) -> LengthRead
+pub fn declared_after(declares: bool, before: Declared, null: bool, text: &[u8]) -> LengthRead
     ensures { λ r. ⌜ r ≡ declaredAfter declares before null (now (text .entry)) ⌝ }
 {
     if declares {
-        return length::length_after(before, text, null);
+        return length::length_after(before, null, text);
     }
     LengthRead::Now(before)
 }
@@ -198,14 +198,14 @@ fn value_at(packet: &[u8], at: usize, declares: bool, before: Declared) -> Heade
             valued(
                 at,
                 next,
-                declared_after(declares, before, part_of(packet, 0, 0), true),
+                declared_after(declares, before, true, part_of(packet, 0, 0)),
             )
         }
         StringRead::Text { start, len, next } => {
             valued(
                 at,
                 next,
-                declared_after(declares, before, part_of(packet, start, len), false),
+                declared_after(declares, before, false, part_of(packet, start, len)),
             )
         }
     }
@@ -213,16 +213,16 @@ fn value_at(packet: &[u8], at: usize, declares: bool, before: Declared) -> Heade
 
 // The header at a place; `before` is what the headers before it declare, and `flags` are those of the token bytes.
 pub fn header_at(
+    direction: Direction,
     packet: &[u8],
     at: usize,
-    direction: Direction,
     before: Declared,
     flags: &[bool; BYTES],
 ) -> HeaderRead
     requires { ⌜ TokenFlags (now flags) ⌝ }
     ensures { λ r. ⌜ r ≡ headerAt direction (now (packet .entry)) at before ⌝ }
 {
-    match name_at(packet, at, direction, flags) {
+    match name_at(direction, packet, at, flags) {
         NameRead::Refused(n) => HeaderRead::Refused(n),
         NameRead::Code { code, next } => {
             value_at(packet, next, declares_length(direction, code), before)
@@ -234,9 +234,9 @@ pub fn header_at(
 // Reads `count` headers from a place on, and puts the places of each one's name and value into a table, from its start on. The flags of the
 // token bytes are laid out once for all of them.
 pub fn headers(
+    direction: Direction,
     packet: &[u8],
     at: usize,
-    direction: Direction,
     count: u16,
     table: &mut [u16],
 ) -> HeadersRead
@@ -250,7 +250,7 @@ pub fn headers(
     let mut place = at;
     let mut i = 0;
     while i < most {
-        match header_at(packet, place, direction, declared, &flags) {
+        match header_at(direction, packet, place, declared, &flags) {
             HeaderRead::Refused(n) => {
                 return HeadersRead::Refused(n);
             }

@@ -11,7 +11,7 @@ use lib.Dec.{eqb}
 use lib.ListN.{length, length-append}
 use Rattle.wire.specs.Pick.{pick, between}
 use Rattle.wire.specs.Bytes.{integerBytes}
-use Rattle.wire.specs.Field.{byteAt, integerAt, booleanAt, booleanBytes, stringAt, stringBytes, isOptional}
+use Rattle.wire.specs.Field.{byteAt, integerAt, booleanAt, booleanBytes, stringAt, stringBytes, isOptional, booleanNumber}
 use Rattle.packet.specs.declared.Direction.{Direction}
 use Rattle.wire.specs.declared.StringField.{StringField}
 use Rattle.wire.specs.declared.read.NumberRead.{NumberRead}
@@ -20,13 +20,12 @@ use Rattle.wire.proofs.RoundTrip.{integer-written, byte-written, boolean-writte
 use Rattle.wire.specs.Refusal.{outOfRange, tooMany}
 use Rattle.connection.specs.Connection.{maxPacket}
 use Rattle.places.specs.Entries.{ended, ending, maxHeaders}
-use Rattle.payload.specs.Sequence.{afterCode, behind, stringAsField, stringFieldAt, stringAfter, booleanNumber, booleanAsField, booleanFieldAt, booleanAfter, numberAsField, byteAfter, anyIntegerAfter, integerAfter, bounded}
+use Rattle.payload.specs.Sequence.{afterCode, behind, stringAsField, stringFieldAt, stringAfter, booleanAsField, booleanFieldAt, booleanAfter, numberAsField, byteAfter, anyIntegerAfter, integerAfter, bounded}
 use Rattle.payload.specs.Lists.{headersAfter, listsAt}
 use Rattle.payload.specs.Forward.{forwardOf, forwardAt, firstMethod, lastMethod}
 use Rattle.payload.specs.SendHeaders.{sendHeadersOf, sendHeadersAt, greatestStatus, leastStatus}
 use Rattle.payload.specs.declared.field.FieldRead.{FieldRead}
 use Rattle.payload.specs.declared.found.PacketRead.{PacketRead}
-use Rattle.payload.specs.Code.{afterCodePlace, codePlace}
 use Rattle.building.specs.Fault.{unless, orElse, firstFault, stringFault, rangeFault}
 use Rattle.building.specs.Field.{opening, faultsOf}
 use Rattle.building.proofs.Sizes.{boolean-one}
@@ -37,6 +36,7 @@ use Rattle.building_record.specs.declared.BuildingKind.{BuildingKind}
 use Rattle.pieces.specs.declared.forward.Numbers.{Numbers}
 use Rattle.pieces.specs.declared.forward.Nulls.{Nulls}
 use Rattle.messages.proofs.Judged.{stood, string-stood, among}
+use Rattle.wire.specs.Packet.{afterCodePlace, codePlace}
 
 -- from a place on, a list has these bytes
 pub record Ahead (s : List ℕ) (at : ℕ) (rest : List ℕ) : Type 0 where

@@ -13,7 +13,7 @@ use lib.Seq.{getD-take}
 use Rattle.wire.specs.Pick.{pick, either}
 use Rattle.wire.specs.Bytes.{part, integerIn}
 use Rattle.wire.specs.Field.{integerAt}
-use Rattle.wire.specs.Packet.{leading, packetHead, packet}
+use Rattle.wire.specs.Packet.{leading, packetHead, packet, payloadPlace, lengthPlace}
 use Rattle.packet.specs.declared.Direction.{Direction}
 use Rattle.wire.specs.declared.read.NumberRead.{NumberRead}
 use Rattle.wire.proofs.Field.{number-read}
@@ -22,7 +22,7 @@ use Rattle.wire.proofs.RoundTrip.{integer-kept}
 use Rattle.wire.specs.Facts.{Bytes}
 use Rattle.wire.specs.Refusal.{leadingWrong, tooLong}
 use Rattle.connection.specs.Connection.{maxPacket, maxPayload}
-use Rattle.reader.specs.Frame.{differs, leadingDiffers, lengthAt, frameAt, headSize, lengthPlace}
+use Rattle.reader.specs.Frame.{differs, leadingDiffers, lengthAt, frameAt}
 use Rattle.reader.specs.declared.frame.FrameRead.{FrameRead}
 use Rattle.reader.proofs.Framing.{frame-inside, length-is, frame-is}
 
@@ -30,7 +30,7 @@ use Rattle.reader.proofs.Framing.{frame-inside, length-is, frame-is}
 record Framed (d : Direction) (s : List ℕ) (n : ℕ) : Type 0 where
   first : getD s 0 0 ≡ getD (leading d) 0 0
   second : getD s 1 0 ≡ getD (leading d) 1 0
-  size : headSize + integerIn s lengthPlace ≡ n
+  size : payloadPlace + integerIn s lengthPlace ≡ n
   most : n ≤ maxPacket
   there : n ≤ length s
 
@@ -49,9 +49,9 @@ unfolding integerAt
 framed-whole {d} {s} {n} f =
     let k : ℕ = integerIn s lengthPlace in
     let same : leadingDiffers d s ≡ false = leading-same d s (omega arith) (f .first) (f .second) in
-    let sized : integerAt s lengthPlace ≡ NumberRead.Number k headSize = sym (number-read 2 k s lengthPlace (omega arith)) in
-    sym (frame-is d s false (NumberRead.Number k headSize) same sized)
-    ∙ sym (length-is (length s) k true false (le-leb k maxPayload (omega arith)) (le-ltb (length s) (headSize + k) (omega arith)))
+    let sized : integerAt s lengthPlace ≡ NumberRead.Number k payloadPlace = sym (number-read 2 k s lengthPlace (omega arith)) in
+    sym (frame-is d s false (NumberRead.Number k payloadPlace) same sized)
+    ∙ sym (length-is (length s) k true false (le-leb k maxPayload (omega arith)) (le-ltb (length s) (payloadPlace + k) (omega arith)))
     ∙ ap FrameRead.Whole (f .size)
 
 -- a byte that is there and does not differ is the one that it is held against
@@ -73,13 +73,13 @@ neither-second false b e = e
 neither-second true b e = absurd (false≢true (sym e))
 
 -- a length whose packet is whole is told by the frame
-length-whole : (there payload n : ℕ) → lengthAt there payload ≡ FrameRead.Whole n → headSize + payload ≡ n
+length-whole : (there payload n : ℕ) → lengthAt there payload ≡ FrameRead.Whole n → payloadPlace + payload ≡ n
 unfolding lengthAt
-length-whole there payload n = go (leb payload maxPayload) (ltb there (headSize + payload))
+length-whole there payload n = go (leb payload maxPayload) (ltb there (payloadPlace + payload))
   where
     go : (fits lacks : Bool)
-        → pick fits (pick lacks (FrameRead.Needs (headSize + payload)) (FrameRead.Whole (headSize + payload))) (FrameRead.Refused tooLong) ≡ FrameRead.Whole n
-        → headSize + payload ≡ n
+        → pick fits (pick lacks (FrameRead.Needs (payloadPlace + payload)) (FrameRead.Whole (payloadPlace + payload))) (FrameRead.Refused tooLong) ≡ FrameRead.Whole n
+        → payloadPlace + payload ≡ n
     go true false e = cc
     go true true e = cc
     go false lacks e = cc
@@ -91,11 +91,11 @@ whole-framed d s n e =
     let inside = frame-inside d s (FrameRead.Whole n) e in
     let most : n ≤ maxPacket = inside .1 .0 in
     let there : n ≤ length s = inside .1 .1 in
-    let sized : integerAt s lengthPlace ≡ NumberRead.Number (integerIn s lengthPlace) headSize = sym (number-read 2 (integerIn s lengthPlace) s 2 (omega (arith, inside .0))) in
+    let sized : integerAt s lengthPlace ≡ NumberRead.Number (integerIn s lengthPlace) payloadPlace = sym (number-read 2 (integerIn s lengthPlace) s 2 (omega (arith, inside .0))) in
     go (leadingDiffers d s) refl most there (omega (arith, inside .0))
-    (frame-is d s (leadingDiffers d s) (NumberRead.Number (integerIn s lengthPlace) headSize) refl sized ∙ e)
+    (frame-is d s (leadingDiffers d s) (NumberRead.Number (integerIn s lengthPlace) payloadPlace) refl sized ∙ e)
   where
-    go : (t : Bool) → leadingDiffers d s ≡ t → n ≤ maxPacket → n ≤ length s → headSize ≤ length s
+    go : (t : Bool) → leadingDiffers d s ≡ t → n ≤ maxPacket → n ≤ length s → payloadPlace ≤ length s
         → pick t (FrameRead.Refused leadingWrong) (lengthAt (length s) (integerIn s lengthPlace)) ≡ FrameRead.Whole n → Framed d s n
     go true p most there four q = absurd (let z : _≡_ {A = ℕ} 0 1 = cc in omega arith)
     go false p most there four q = record {
@@ -144,14 +144,14 @@ leading-two Direction.ToContainer = refl
 leading-two Direction.ToServer = refl
 
 -- a whole packet is its packetHead and its payload
-pub head-kept : (d : Direction) (s : List ℕ) (n : ℕ) → Bytes s → frameAt d s ≡ FrameRead.Whole n → n ≡ length s → s ≡ packet d (drop headSize s)
+pub head-kept : (d : Direction) (s : List ℕ) (n : ℕ) → Bytes s → frameAt d s ≡ FrameRead.Whole n → n ≡ length s → s ≡ packet d (drop payloadPlace s)
 unfolding part
 head-kept d s n bytes e all =
     let f = whole-framed d s n e in
-    let size : integerIn s lengthPlace ≡ length (drop headSize s) = omega (arith, length-drop headSize s) in
+    let size : integerIn s lengthPlace ≡ length (drop payloadPlace s) = omega (arith, length-drop payloadPlace s) in
     let lead : part s 0 2 ≡ leading d =
     part-add s 0 1 1
     ∙ rw (part-one s 0 (omega arith), part-one s 1 (omega arith), f .first, f .second) (leading-two d) in
-    let four : part s 0 headSize ≡ packetHead d (length (drop headSize s)) =
+    let four : part s 0 payloadPlace ≡ packetHead d (length (drop payloadPlace s)) =
     part-add s 0 2 2 ∙ rw (lead, integer-kept s 2 bytes (omega arith), size) in
-    sym (take-append-drop headSize s) ∙ ap (λ (l : List ℕ). l ++ drop headSize s) four
+    sym (take-append-drop payloadPlace s) ∙ ap (λ (l : List ℕ). l ++ drop payloadPlace s) four

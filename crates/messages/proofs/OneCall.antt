@@ -14,7 +14,7 @@ use lib.Seq.{take-length, getD-append-seam, getD-append-add}
 use Rattle.wire.specs.Pick.{pick}
 use Rattle.wire.specs.Bytes.{part, over, integerIn, integerBytes}
 use Rattle.wire.specs.Field.{byteAt, integerAt, booleanAt, booleanBytes}
-use Rattle.wire.specs.Packet.{packetHead, packet}
+use Rattle.wire.specs.Packet.{packetHead, packet, payloadPlace, afterCodePlace}
 use Rattle.packet.specs.declared.Direction.{Direction}
 use Rattle.wire.specs.declared.read.NumberRead.{NumberRead}
 use Rattle.wire.specs.declared.read.BooleanRead.{BooleanRead}
@@ -32,7 +32,7 @@ use Rattle.connection.specs.declared.Move.{Move}
 use Rattle.connection.specs.Connection.{maxBody, maxPacket}
 use Rattle.payload.specs.Kinds.{packetAt, packetKind, packetMove}
 use Rattle.payload.specs.Packet.{partFrom}
-use Rattle.payload.specs.Code.{payloadPlace, codeOf, kindAt, afterCodePlace}
+use Rattle.payload.specs.Code.{codeOf, kindAt}
 use Rattle.payload.specs.Bare.{bareAt}
 use Rattle.payload.specs.End.{endOf, endAt}
 use Rattle.payload.specs.GetBody.{getOf, getAt}

@@ -16,7 +16,7 @@ use Rattle.wire.specs.Pick.{pick, both, either}
 use Rattle.wire.specs.Refusal.{leftOver, codeNotServed, codeWrong, cutShort}
 use Rattle.wire.specs.Bytes.{part}
 use Rattle.wire.specs.Field.{byteAt}
-use Rattle.wire.specs.Packet.{packetHead, packet}
+use Rattle.wire.specs.Packet.{packetHead, packet, afterCodePlace, codePlace}
 use Rattle.packet.specs.declared.Direction.{Direction}
 use Rattle.wire.specs.declared.read.NumberRead.{NumberRead}
 use Rattle.wire.proofs.Tests.{both-first}
@@ -31,7 +31,7 @@ use Rattle.connection.specs.declared.Kind.{Kind}
 use Rattle.connection.specs.declared.Move.{Move}
 use Rattle.connection.specs.declared.Connection.{Connection}
 use Rattle.places.specs.Entries.{maxPlaces}
-use Rattle.payload.specs.Code.{codeOf, codeKind, kindOfCode, kindAt, afterCodePlace, codePlace, pingCode, shutdownCode}
+use Rattle.payload.specs.Code.{codeOf, codeKind, kindOfCode, kindAt, pingCode, shutdownCode}
 use Rattle.payload.specs.Kinds.{packetAt, packetKind, packetMove}
 use Rattle.payload.specs.Packet.{finished}
 use Rattle.payload.specs.declared.KindRead.{KindRead}

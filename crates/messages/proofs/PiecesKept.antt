@@ -12,8 +12,8 @@ use lib.ListN.{length, getD, drop}
 use Rattle.wire.specs.Pick.{pick, between}
 use Rattle.wire.specs.Refusal.{outOfRange, cutShort, tooMany, leftOver}
 use Rattle.wire.specs.Bytes.{part, integerBytes}
-use Rattle.wire.specs.Field.{byteAt, integerAt, booleanAt, booleanBytes, stringAt, isOptional}
-use Rattle.wire.specs.Packet.{packet}
+use Rattle.wire.specs.Field.{byteAt, integerAt, booleanAt, booleanBytes, stringAt, isOptional, booleanNumber}
+use Rattle.wire.specs.Packet.{packet, afterCodePlace}
 use Rattle.packet.specs.declared.Direction.{Direction}
 use Rattle.wire.specs.declared.StringField.{StringField}
 use Rattle.wire.specs.declared.read.NumberRead.{NumberRead}
@@ -32,8 +32,8 @@ use Rattle.headers.specs.Headers.{headersAt}
 use Rattle.headers.specs.declared.HeadersRead.{HeadersRead}
 use Rattle.attributes.specs.Attributes.{attributesAt}
 use Rattle.attributes.specs.declared.AttributesRead.{AttributesRead}
-use Rattle.payload.specs.Code.{codeOf, afterCodePlace}
-use Rattle.payload.specs.Sequence.{afterCode, stringAsField as stringRead, stringFieldAt, stringAfter, booleanNumber, booleanAsField, booleanFieldAt, booleanAfter, numberAsField, anyIntegerAfter, bounded, byteAfter, integerAfter, fieldPlace, fieldNumber}
+use Rattle.payload.specs.Code.{codeOf}
+use Rattle.payload.specs.Sequence.{afterCode, stringAsField as stringRead, stringFieldAt, stringAfter, booleanAsField, booleanFieldAt, booleanAfter, numberAsField, anyIntegerAfter, bounded, byteAfter, integerAfter, fieldPlace, fieldNumber}
 use Rattle.payload.specs.Lists.{headersAfter, listsOf, attributesBehind, behindHeaders, listsAt}
 use Rattle.payload.specs.Forward.{firstMethod, lastMethod, forwardOf, forwardAt}
 use Rattle.payload.specs.SendHeaders.{leastStatus, greatestStatus, sendHeadersOf, sendHeadersAt}

@@ -9,7 +9,7 @@ use Prim.Native.Nat.{ℕ, _+_, _≤_, _<_}
 use lib.Dec.{eqb}
 use lib.ListN.{length}
 use Rattle.wire.specs.Bytes.{integerBytes}
-use Rattle.wire.specs.Field.{booleanBytes}
+use Rattle.wire.specs.Field.{booleanBytes, booleanNumber}
 use Rattle.packet.specs.declared.Direction.{Direction}
 use Rattle.wire.specs.declared.StringField.{StringField}
 use Rattle.wire.specs.declared.read.NumberRead.{NumberRead}
@@ -20,8 +20,7 @@ use Rattle.connection.specs.Connection.{maxPacket}
 use Rattle.places.specs.Entries.{Entries, maxHeaders}
 use Rattle.headers.specs.declared.HeadersRead.{HeadersRead}
 use Rattle.attributes.specs.Attributes.{lastMark}
-use Rattle.payload.specs.Code.{afterCodePlace}
-use Rattle.payload.specs.Sequence.{booleanNumber, fieldPlace, fieldNumber}
+use Rattle.payload.specs.Sequence.{fieldPlace, fieldNumber}
 use Rattle.payload.specs.Forward.{forwardOf, forwardAt}
 use Rattle.payload.specs.SendHeaders.{sendHeadersOf, sendHeadersAt, greatestStatus, leastStatus}
 use Rattle.payload.specs.Lists.{headersAfter, listsAt}
@@ -46,6 +45,7 @@ use Rattle.messages.proofs.Tables.{forward-many, forward-table, send-he
 use Rattle.messages.proofs.RoundTrip.{Shows}
 use Rattle.messages.proofs.Texts.{textBytes}
 use Rattle.messages.proofs.FieldsShown.{headers-many, attributes-many, string-fits, string-shows, headers-show, attributes-show}
+use Rattle.wire.specs.Packet.{afterCodePlace}
 
 -- the numbers of a Forward, by its fixed fields
 forward-numbers : (method protocol uri addr host name port ssl headers : FieldRead) (r : ListsRead) (f : Forward)

@@ -9,7 +9,7 @@ use mathlib.Core.List.{List, [], _∷_, _++_, append-assoc}
 use Prim.Native.Nat.{ℕ, _+_, _-_, _≤_}
 use lib.ListN.{length, length-append}
 use Rattle.wire.specs.Bytes.{over, part, integerBytes}
-use Rattle.wire.specs.Packet.{leading, packetHead, packet}
+use Rattle.wire.specs.Packet.{leading, packetHead, packet, afterCodePlace, payloadPlace}
 use Rattle.packet.specs.declared.Direction.{Direction}
 use Rattle.wire.proofs.Bytes.{length-over, over-over, over-there}
 use Rattle.wire.proofs.Field.{length-leading, head-four}
@@ -18,7 +18,7 @@ use Rattle.connection.specs.Cycle.{directionOf, inState}
 use Rattle.connection.specs.declared.Connection.{Connection}
 use Rattle.connection.specs.Connection.{maxPacket}
 use Rattle.places.specs.Entries.{maxHeaders}
-use Rattle.payload.specs.Code.{codeOf, afterCodePlace, payloadPlace}
+use Rattle.payload.specs.Code.{codeOf}
 use Rattle.building.specs.Field.{Field, opening, fieldsBytes}
 use Rattle.building.proofs.Rows.{bytes-append}
 use Rattle.building_record.specs.Record.{builtKind, buildingFields}

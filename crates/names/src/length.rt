@@ -58,17 +58,17 @@ pub fn decimal_of(text: &[u8]) -> Decimal
 }
 
 // What is declared after a content-length's value. A second one and null are refused.
-pub fn length_after(before: Declared, text: &[u8], null: bool) -> LengthRead
+pub fn length_after(before: Declared, null: bool, text: &[u8]) -> LengthRead
     ensures { λ r. ⌜ r ≡ lengthAfter before null (now (text .entry)) ⌝ }
 {
     match before {
         Declared::Known(_) => LengthRead::Refused(refusal::CONTENT_LENGTH_WRONG),
-        Declared::Absent => first_length(text, null),
+        Declared::Absent => first_length(null, text),
     }
 }
 
 // What the first content-length declares.
-fn first_length(text: &[u8], null: bool) -> LengthRead
+fn first_length(null: bool, text: &[u8]) -> LengthRead
     ensures { λ r. ⌜ r ≡ lengthAfter Declared.Absent null (now (text .entry)) ⌝ }
 {
     if null {

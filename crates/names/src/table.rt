@@ -269,7 +269,7 @@ fn no_name() -> Name
 }
 
 // A letter as it is compared.
-fn compared(b: u8, ignoring: bool) -> u8
+fn compared(ignoring: bool, b: u8) -> u8
     ensures { λ r. ⌜ r ≡ letter ignoring b ⌝ }
 {
     if !ignoring {
@@ -285,7 +285,7 @@ fn compared(b: u8, ignoring: bool) -> u8
 }
 
 // Whether a text spells a name. The loop has no early way out.
-pub fn spells(name: Name, text: &[u8], ignoring: bool) -> bool
+pub fn spells(ignoring: bool, name: Name, text: &[u8]) -> bool
     ensures { λ r. ⌜ r ≡ sameName ignoring (nameBytes name) (now (text .entry)) ⌝ }
 {
     let bytes = name.bytes;
@@ -299,20 +299,20 @@ pub fn spells(name: Name, text: &[u8], ignoring: bool) -> bool
     let mut same = true;
     let mut j = 0;
     while j < n {
-        same = same & (compared(bytes[j], ignoring) == compared(text[j], ignoring));
+        same = same & (compared(ignoring, bytes[j]) == compared(ignoring, text[j]));
         j += 1;
     }
     same
 }
 
 // The first letter of a text as it is compared, 0 where it has none.
-fn first_of(text: &[u8], ignoring: bool) -> u8
+fn first_of(ignoring: bool, text: &[u8]) -> u8
     ensures { λ r. ⌜ r ≡ firstOf ignoring (now (text .entry)) ⌝ }
 {
     if text.len() == 0 {
-        return compared(0, ignoring);
+        return compared(ignoring, 0);
     }
-    compared(text[0], ignoring)
+    compared(ignoring, text[0])
 }
 
 // Whether a text spells the name at a place of a list, by the list's lengths and first letters: only where both are the text's own is the
@@ -334,11 +334,11 @@ fn spells_at(
         return false;
     }
     let ignoring = ignores_case(list);
-    if firsts[k] != first_of(text, ignoring) {
+    if firsts[k] != first_of(ignoring, text) {
         return false;
     }
     let bytes = row(list, k);
-    spells(Name { bytes, len }, text, ignoring)
+    spells(ignoring, Name { bytes, len }, text)
 }
 
 // The code of the name of a list that a text spells, by the list's lengths and first letters.

@@ -13,7 +13,7 @@ use lib.ListN.{length, getD}
 use Rattle.wire.specs.Pick.{pick, oneOf, between}
 use Rattle.wire.specs.Refusal.{none, outOfRange, cutShort, stringWrong, tooMany, leftOver, bodySizeWrong}
 use Rattle.wire.specs.Bytes.{part}
-use Rattle.wire.specs.Field.{byteAt, integerAt, booleanAt, stringAt, isOptional}
+use Rattle.wire.specs.Field.{byteAt, integerAt, booleanAt, stringAt, isOptional, booleanNumber}
 use Rattle.packet.specs.declared.Direction.{Direction}
 use Rattle.wire.specs.declared.StringField.{StringField}
 use Rattle.wire.specs.declared.read.NumberRead.{NumberRead}
@@ -42,8 +42,7 @@ use Rattle.packet.specs.declared.Packet.{Packet}
 use Rattle.payload.specs.declared.field.FieldRead.{FieldRead}
 use Rattle.payload.specs.declared.lists.ListsRead.{ListsRead}
 use Rattle.payload.specs.declared.found.PacketRead.{PacketRead}
-use Rattle.payload.specs.Code.{payloadPlace, afterCodePlace}
-use Rattle.payload.specs.Sequence.{afterCode, stringAsField, stringFieldAt, stringAfter, booleanNumber, booleanAsField, booleanFieldAt, booleanAfter, numberAsField, anyIntegerAfter, bounded, byteAfter, integerAfter, fieldPlace, fieldNumber}
+use Rattle.payload.specs.Sequence.{afterCode, stringAsField, stringFieldAt, stringAfter, booleanAsField, booleanFieldAt, booleanAfter, numberAsField, anyIntegerAfter, bounded, byteAfter, integerAfter, fieldPlace, fieldNumber}
 use Rattle.payload.specs.Packet.{partFrom, finished}
 use Rattle.payload.specs.End.{endOf, endAt}
 use Rattle.payload.specs.GetBody.{getOf, getAt}
@@ -58,6 +57,7 @@ use Rattle.payload.proofs.Laws.{body-inside}
 use Rattle.payload.proofs.Below.{attributes-many}
 use Rattle.payload.proofs.Listing.{HeadersPlaces, headers-places}
 use Rattle.payload.proofs.Parsed.{parsed-kind}
+use Rattle.wire.specs.Packet.{payloadPlace, afterCodePlace}
 
 -- a header that is read at a place: its name up to its value, and its value up to its end
 abbrev HeaderThere : Direction → List ℕ → ℕ → HeaderRead → Type 0

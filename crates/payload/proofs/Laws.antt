@@ -23,7 +23,7 @@ use Rattle.payload.specs.declared.KindRead.{KindRead}
 use Rattle.packet.specs.declared.Packet.{Packet}
 use Rattle.payload.specs.declared.found.PacketRead.{PacketRead}
 use Rattle.payload.specs.declared.field.FieldRead.{FieldRead}
-use Rattle.payload.specs.Code.{payloadPlace, codePlace, afterCodePlace, codeOf, shutdownCode, pingCode, codeKind, kindOfCode, kindAt}
+use Rattle.payload.specs.Code.{codeOf, shutdownCode, pingCode, codeKind, kindOfCode, kindAt}
 use Rattle.payload.specs.Sequence.{numberAsField, anyIntegerAfter, bounded, byteAfter, integerAfter, stringAsField, stringFieldAt, booleanAsField, booleanFieldAt}
 use Rattle.payload.specs.Facts.{PlainInside}
 use Rattle.payload.specs.Packet.{partFrom, finished}
@@ -31,6 +31,7 @@ use Rattle.payload.specs.End.{endOf, endAt}
 use Rattle.payload.specs.GetBody.{getOf, getAt}
 use Rattle.payload.specs.Body.{bodyStart, sizedAt, sizedOf, bodyAt}
 use Rattle.payload.specs.BodyChunk.{chunkStart, chunkOf, chunkBy, chunkAt}
+use Rattle.wire.specs.Packet.{payloadPlace, codePlace, afterCodePlace}
 
 -- the kind of a packet, by whether it is read as a body packet and by what its code reads as
 pub kind-is : (d : Direction) (body t : Bool) (s : List ℕ) (r : NumberRead) → body ≡ t → byteAt s codePlace ≡ r

@@ -28,7 +28,6 @@ use Rattle.packet.specs.declared.Forward.{Forward}
 use Rattle.packet.specs.declared.SendHeaders.{SendHeaders}
 use Rattle.packet.specs.declared.Packet.{Packet}
 use Rattle.payload.specs.declared.found.PacketRead.{PacketRead}
-use Rattle.payload.specs.Code.{payloadPlace, afterCodePlace}
 use Rattle.payload.specs.Sequence.{afterCode, stringAfter, booleanAfter, byteAfter, anyIntegerAfter, integerAfter, fieldNumber}
 use Rattle.payload.specs.Facts.{ForwardPlaces, SendHeadersPlaces}
 use Rattle.payload.specs.Packet.{partFrom, finished}
@@ -43,6 +42,7 @@ use Rattle.payload.specs.Kinds.{packetAt, packetKind, packetMove}
 use Rattle.payload.proofs.Fields.{integer-most}
 use Rattle.payload.proofs.Below.{attributes-many, attributes-few}
 use Rattle.payload.proofs.Listing.{HeadersPlaces, headers-places}
+use Rattle.wire.specs.Packet.{payloadPlace, afterCodePlace}
 
 -- the places of lists that are read: two for each of `count` headers and for each attribute, of which there are no more than may come
 abbrev ListsPlaces : ℕ → ℕ → ListsRead → Type 0

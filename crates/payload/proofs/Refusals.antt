@@ -29,7 +29,7 @@ use Rattle.payload.specs.declared.KindRead.{KindRead}
 use Rattle.payload.specs.declared.field.FieldRead.{FieldRead}
 use Rattle.payload.specs.declared.lists.ListsRead.{ListsRead}
 use Rattle.payload.specs.declared.found.PacketRead.{PacketRead}
-use Rattle.payload.specs.Code.{payloadPlace, codePlace, afterCodePlace, codeOf, shutdownCode, pingCode, codeKind, kindOfCode, kindAt}
+use Rattle.payload.specs.Code.{codeOf, shutdownCode, pingCode, codeKind, kindOfCode, kindAt}
 use Rattle.payload.specs.Sequence.{afterCode, behind, stringAsField, stringFieldAt, stringAfter, booleanAsField, booleanFieldAt, booleanAfter, numberAsField, anyIntegerAfter, bounded, byteAfter, integerAfter}
 use Rattle.payload.specs.Packet.{partFrom, finished}
 use Rattle.payload.specs.End.{endOf, endAt}
@@ -40,6 +40,7 @@ use Rattle.payload.specs.Lists.{headersAfter, listsOf, attributesBehind,
 use Rattle.payload.specs.Forward.{firstMethod, lastMethod, forwardOf, forwardAt}
 use Rattle.payload.specs.SendHeaders.{leastStatus, greatestStatus, sendHeadersOf, sendHeadersAt}
 use Rattle.payload.specs.Kinds.{packetAt}
+use Rattle.wire.specs.Packet.{payloadPlace, codePlace, afterCodePlace}
 
 -- a packet's kind, where it is refused
 abbrev KindRefusal : KindRead → Type 0

@@ -6,8 +6,8 @@ use Prim.Native.Nat.{ℕ}
 use lib.ListN.{length}
 use Rattle.packet.specs.declared.Packet.{Packet}
 use Rattle.payload.specs.declared.found.PacketRead.{PacketRead}
-use Rattle.payload.specs.Code.{afterCodePlace}
 use Rattle.payload.specs.Packet.{finished}
+use Rattle.wire.specs.Packet.{afterCodePlace}
 
 -- CPing and CPong: the code alone
 abbrev pub bareAt : List ℕ → Packet → PacketRead

@@ -11,8 +11,8 @@ use Rattle.wire.specs.Field.{integerAt}
 use Rattle.wire.specs.declared.read.NumberRead.{NumberRead}
 use Rattle.packet.specs.declared.Packet.{Packet}
 use Rattle.payload.specs.declared.found.PacketRead.{PacketRead}
-use Rattle.payload.specs.Code.{payloadPlace}
 use Rattle.payload.specs.Packet.{partFrom}
+use Rattle.wire.specs.Packet.{payloadPlace}
 
 -- where a body's bytes start: behind the size, which is the payload's first two bytes
 abbrev pub bodyStart : ℕ

@@ -11,8 +11,8 @@ use Rattle.wire.specs.Field.{integerAt}
 use Rattle.wire.specs.declared.read.NumberRead.{NumberRead}
 use Rattle.packet.specs.declared.Packet.{Packet}
 use Rattle.payload.specs.declared.found.PacketRead.{PacketRead}
-use Rattle.payload.specs.Code.{afterCodePlace}
 use Rattle.payload.specs.Packet.{partFrom, finished}
+use Rattle.wire.specs.Packet.{afterCodePlace}
 
 -- where a chunk's bytes start: behind the code and the two bytes of its length
 abbrev pub chunkStart : ℕ

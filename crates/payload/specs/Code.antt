@@ -12,18 +12,7 @@ use Rattle.packet.specs.declared.Direction.{Direction}
 use Rattle.wire.specs.declared.read.NumberRead.{NumberRead}
 use Rattle.connection.specs.declared.Kind.{Kind}
 use Rattle.payload.specs.declared.KindRead.{KindRead}
-
--- where a packet's payload is: behind the two leading bytes and the two bytes of its length
-abbrev pub payloadPlace : ℕ
-payloadPlace = 4
-
--- where a packet's code is: it is the payload's first byte
-abbrev pub codePlace : ℕ
-codePlace = payloadPlace
-
--- where the first field behind the code is
-abbrev pub afterCodePlace : ℕ
-afterCodePlace = 5
+use Rattle.wire.specs.Packet.{codePlace}
 
 -- the code of a kind; a body packet has none, and 0, which is no kind's code, stands for that
 abbrev pub codeOf : Kind → ℕ

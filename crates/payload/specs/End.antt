@@ -8,8 +8,8 @@ use Rattle.wire.specs.Field.{booleanAt}
 use Rattle.wire.specs.declared.read.BooleanRead.{BooleanRead}
 use Rattle.packet.specs.declared.Packet.{Packet}
 use Rattle.payload.specs.declared.found.PacketRead.{PacketRead}
-use Rattle.payload.specs.Code.{afterCodePlace}
 use Rattle.payload.specs.Packet.{finished}
+use Rattle.wire.specs.Packet.{afterCodePlace}
 
 -- an End of `size` bytes, by what its boolean reads as
 abbrev pub endOf : ℕ → BooleanRead → PacketRead

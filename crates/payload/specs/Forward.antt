@@ -12,8 +12,9 @@ use Rattle.payload.specs.declared.field.FieldRead.{FieldRead}
 use Rattle.payload.specs.declared.lists.ListsRead.{ListsRead}
 use Rattle.packet.specs.declared.Packet.{Packet}
 use Rattle.payload.specs.declared.found.PacketRead.{PacketRead}
-use Rattle.payload.specs.Sequence.{afterCode, stringAfter, booleanNumber, booleanAfter, byteAfter, anyIntegerAfter, integerAfter, fieldPlace, fieldNumber}
+use Rattle.payload.specs.Sequence.{afterCode, stringAfter, booleanAfter, byteAfter, anyIntegerAfter, integerAfter, fieldPlace, fieldNumber}
 use Rattle.payload.specs.Lists.{listsAt}
+use Rattle.wire.specs.Field.{booleanNumber}
 
 -- the first method, OPTIONS
 abbrev pub firstMethod : ℕ

@@ -8,8 +8,8 @@ use Rattle.wire.specs.Field.{integerAt}
 use Rattle.wire.specs.declared.read.NumberRead.{NumberRead}
 use Rattle.packet.specs.declared.Packet.{Packet}
 use Rattle.payload.specs.declared.found.PacketRead.{PacketRead}
-use Rattle.payload.specs.Code.{afterCodePlace}
 use Rattle.payload.specs.Packet.{finished}
+use Rattle.wire.specs.Packet.{afterCodePlace}
 
 -- a Get Body Chunk of `size` bytes, by what its integer reads as
 abbrev pub getOf : ℕ → NumberRead → PacketRead

@@ -21,7 +21,7 @@ use Rattle.headers.specs.Headers.{nameAt}
 use Rattle.headers.specs.declared.NameRead.{NameRead}
 use Rattle.attributes.specs.Attributes.{lastMark}
 use Rattle.packet.specs.declared.Packet.{Packet}
-use Rattle.payload.specs.Code.{payloadPlace, afterCodePlace}
+use Rattle.wire.specs.Packet.{payloadPlace, afterCodePlace}
 
 -- a string that is read, by where it ends
 abbrev pub StringEnds : ℕ → StringRead → Type 0

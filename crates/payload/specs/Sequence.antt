@@ -5,14 +5,14 @@ use mathlib.Core.Bool.{Bool, true, false}
 use mathlib.Core.List.{List}
 use Prim.Native.Nat.{ℕ}
 use Rattle.wire.specs.Pick.{pick, between}
-use Rattle.wire.specs.Field.{byteAt, integerAt, booleanAt, stringAt, isOptional}
+use Rattle.wire.specs.Field.{byteAt, integerAt, booleanAt, stringAt, isOptional, booleanNumber}
 use Rattle.wire.specs.declared.StringField.{StringField}
 use Rattle.wire.specs.declared.read.NumberRead.{NumberRead}
 use Rattle.wire.specs.declared.read.BooleanRead.{BooleanRead}
 use Rattle.wire.specs.declared.read.StringRead.{StringRead}
 use Rattle.packet.specs.declared.Place.{Place}
 use Rattle.payload.specs.declared.field.FieldRead.{FieldRead}
-use Rattle.payload.specs.Code.{codePlace, afterCodePlace}
+use Rattle.wire.specs.Packet.{codePlace, afterCodePlace}
 
 -- the code, which was judged before: the first field is behind it
 abbrev pub afterCode : FieldRead
@@ -36,11 +36,6 @@ stringFieldAt s field at = stringAsField at (stringAt s at (isOptional field))
 -- the string behind a field
 unfoldable pub stringAfter : List ℕ → StringField → FieldRead → FieldRead
 stringAfter s field = behind (stringFieldAt s field)
-
--- a boolean as a number: 1 for true, 0 for false
-abbrev pub booleanNumber : Bool → ℕ
-booleanNumber true = 1
-booleanNumber false = 0
 
 -- a boolean as a field
 abbrev pub booleanAsField : ℕ → BooleanRead → FieldRead

@@ -1,11 +1,11 @@
 // A body packet: without payload it is empty, else it holds a size and so many bytes.
 ghost use mathlib.Core.Path.{_≡_};
 ghost use Rattle.payload.specs.Body.{bodyAt, sizedAt};
-use crate::PAYLOAD_PLACE;
 use crate::found::PacketRead;
 use packet::Packet;
 use packet::Part;
 use packet::Place;
+use wire::PAYLOAD_PLACE;
 use wire::read::NumberRead;
 use wire::read::integer;
 use wire::refusal;

@@ -1,12 +1,12 @@
 // Send Body Chunk: a length, so many bytes of any value, and one zero.
 ghost use mathlib.Core.Path.{_≡_};
 ghost use Rattle.payload.specs.BodyChunk.{chunkAt, chunkOf};
-use crate::AFTER_CODE;
 use crate::found::PacketRead;
 use crate::found::finished;
 use packet::Packet;
 use packet::Part;
 use packet::Place;
+use wire::AFTER_CODE_PLACE;
 use wire::has_room;
 use wire::read::NumberRead;
 use wire::read::integer;
@@ -19,7 +19,7 @@ pub const CHUNK_START: u16 = 7;
 pub fn read(packet: &[u8]) -> PacketRead
     ensures { λ r. ⌜ r ≡ chunkAt (now (packet .entry)) ⌝ }
 {
-    match integer(packet, AFTER_CODE) {
+    match integer(packet, AFTER_CODE_PLACE) {
         NumberRead::Refused(n) => PacketRead::Refused(n),
         NumberRead::Number { value, next } => chunk(packet, value),
     }

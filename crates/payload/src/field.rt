@@ -3,9 +3,9 @@ ghost use mathlib.Core.Path.{_≡_};
 ghost use Rattle.connection.specs.Connection.{maxPacket};
 ghost use Rattle.payload.specs.Sequence.{afterCode, bounded, stringFieldAt, stringAfter, booleanFieldAt, booleanAfter, byteAfter, numberAsField, anyIntegerAfter, integerAfter, fieldPlace, fieldNumber};
 ghost use Rattle.payload.specs.Private.{Within};
-use crate::AFTER_CODE;
-use crate::CODE_PLACE;
 use packet::Place;
+use wire::AFTER_CODE_PLACE;
+use wire::CODE_PLACE;
 use wire::StringField;
 use wire::is_optional;
 use wire::read;
@@ -26,22 +26,22 @@ pub fn after_code() -> FieldRead
     FieldRead::Field {
         at: CODE_PLACE,
         value: 0,
-        next: AFTER_CODE,
+        next: AFTER_CODE_PLACE,
     }
 }
 
 // The string behind a field.
-pub fn string_after(packet: &[u8], before: FieldRead, field: StringField) -> FieldRead
+pub fn string_after(packet: &[u8], field: StringField, before: FieldRead) -> FieldRead
     ensures { λ r. ⌜ r ≡ stringAfter (now (packet .entry)) field before ⌝ }
 {
     match before {
         FieldRead::Refused(n) => FieldRead::Refused(n),
-        FieldRead::Field { at, value, next } => string_at(packet, next, field),
+        FieldRead::Field { at, value, next } => string_at(packet, field, next),
     }
 }
 
 // The string at a place, as a field.
-fn string_at(packet: &[u8], place: usize, field: StringField) -> FieldRead
+fn string_at(packet: &[u8], field: StringField, place: usize) -> FieldRead
     ensures { λ r. ⌜ r ≡ stringFieldAt (now (packet .entry)) field place ⌝ }
 {
     match read::string(packet, place, is_optional(field)) {
@@ -84,13 +84,13 @@ fn boolean_at(packet: &[u8], place: usize) -> FieldRead
 }
 
 // The byte behind a field, which is from `low` to `high`, else it is refused with `fault`.
-pub fn byte_after(packet: &[u8], before: FieldRead, low: u16, high: u16, fault: u8) -> FieldRead
+pub fn byte_after(packet: &[u8], low: u16, high: u16, fault: u8, before: FieldRead) -> FieldRead
     ensures { λ r. ⌜ r ≡ byteAfter (now (packet .entry)) low high fault before ⌝ }
 {
     match before {
         FieldRead::Refused(n) => FieldRead::Refused(n),
         FieldRead::Field { at, value, next } => {
-            bounded(next, read::byte(packet, next), low, high, fault)
+            bounded(next, low, high, fault, read::byte(packet, next))
         }
     }
 }
@@ -116,19 +116,19 @@ fn number_field(at: usize, number: NumberRead) -> FieldRead
 }
 
 // The integer behind a field, which is from `low` to `high`, else it is refused with `fault`.
-pub fn integer_after(packet: &[u8], before: FieldRead, low: u16, high: u16, fault: u8) -> FieldRead
+pub fn integer_after(packet: &[u8], low: u16, high: u16, fault: u8, before: FieldRead) -> FieldRead
     ensures { λ r. ⌜ r ≡ integerAfter (now (packet .entry)) low high fault before ⌝ }
 {
     match before {
         FieldRead::Refused(n) => FieldRead::Refused(n),
         FieldRead::Field { at, value, next } => {
-            bounded(next, read::integer(packet, next), low, high, fault)
+            bounded(next, low, high, fault, read::integer(packet, next))
         }
     }
 }
 
 // A number as read at a place, which is from `low` to `high`, else it is refused with `fault`.
-fn bounded(at: usize, number: NumberRead, low: u16, high: u16, fault: u8) -> FieldRead
+fn bounded(at: usize, low: u16, high: u16, fault: u8, number: NumberRead) -> FieldRead
     ensures { λ r. ⌜ r ≡ bounded at low high fault number ⌝ }
 {
     match number {

@@ -36,15 +36,15 @@ pub fn read(packet: &[u8], table: &mut [u16]) -> PacketRead
     ensures { λ r. ⌜ now (table .exit) ≡ over (now (table .entry)) 0 (forwardAt (now (packet .entry)) .places) ⌝ }
 {
     let code = after_code();
-    let method = byte_after(packet, code, FIRST_METHOD, LAST_METHOD, OUT_OF_RANGE);
-    let protocol = string_after(packet, method, StringField::Protocol);
-    let uri = string_after(packet, protocol, StringField::ReqUri);
-    let addr = string_after(packet, uri, StringField::RemoteAddr);
-    let host = string_after(packet, addr, StringField::RemoteHost);
-    let name = string_after(packet, host, StringField::ServerName);
+    let method = byte_after(packet, FIRST_METHOD, LAST_METHOD, OUT_OF_RANGE, code);
+    let protocol = string_after(packet, StringField::Protocol, method);
+    let uri = string_after(packet, StringField::ReqUri, protocol);
+    let addr = string_after(packet, StringField::RemoteAddr, uri);
+    let host = string_after(packet, StringField::RemoteHost, addr);
+    let name = string_after(packet, StringField::ServerName, host);
     let port = any_integer_after(packet, name);
     let ssl = boolean_after(packet, port);
-    let headers = integer_after(packet, ssl, 0, MAX_HEADERS, TOO_MANY);
+    let headers = integer_after(packet, 0, MAX_HEADERS, TOO_MANY, ssl);
     match lists(packet, headers, table) {
         ListsRead::Refused(n) => PacketRead::Refused(n),
         ListsRead::Lists {

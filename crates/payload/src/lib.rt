@@ -4,6 +4,7 @@ ghost use mathlib.Core.Path.{_≡_};
 ghost use Rattle.payload.specs.Code.{codeOf, codeKind, kindOfCode, kindAt};
 use connection::Kind;
 use packet::Direction;
+use wire::CODE_PLACE;
 use wire::read;
 use wire::read::NumberRead;
 use wire::refusal;
@@ -18,14 +19,6 @@ pub mod found;
 pub mod get_body;
 pub mod lists;
 pub mod send_headers;
-
-// The place of a packet's payload: behind the leading bytes and the length.
-pub const PAYLOAD_PLACE: usize = 4;
-
-// The place of a packet's code, which is the payload's first byte, and the place behind it. A body packet has no code.
-pub const CODE_PLACE: usize = PAYLOAD_PLACE;
-
-pub const AFTER_CODE: usize = 5;
 
 // The codes of the kinds of packet, and the two that a server may send and nobody serves.
 pub const FORWARD: u16 = 2;
@@ -109,7 +102,7 @@ fn kind_of_code(direction: Direction, code: NumberRead) -> KindRead
 }
 
 // The kind of a packet: a body packet where it is read as one, else by its code.
-pub fn kind_of(packet: &[u8], direction: Direction, body: bool) -> KindRead
+pub fn kind_of(direction: Direction, body: bool, packet: &[u8]) -> KindRead
     ensures { λ r. ⌜ r ≡ kindAt direction body (now (packet .entry)) ⌝ }
 {
     if body {

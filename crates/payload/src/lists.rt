@@ -26,8 +26,8 @@ pub enum ListsRead {
 
 // The headers behind their count.
 pub fn headers_after(
-    packet: &[u8],
     direction: Direction,
+    packet: &[u8],
     count: FieldRead,
     table: &mut [u16],
 ) -> HeadersRead
@@ -38,7 +38,7 @@ pub fn headers_after(
     match count {
         FieldRead::Refused(n) => HeadersRead::Refused(n),
         FieldRead::Field { at, value, next } => {
-            headers::headers(packet, next, direction, value, table)
+            headers::headers(direction, packet, next, value, table)
         }
     }
 }
@@ -46,8 +46,8 @@ pub fn headers_after(
 // The attributes behind the headers, which are a Forward's last field.
 fn attributes_behind(
     packet: &[u8],
-    at: usize,
     declared: Declared,
+    at: usize,
     table: &mut [u16],
     from: usize,
 ) -> ListsRead
@@ -75,11 +75,11 @@ pub fn lists(packet: &[u8], count: FieldRead, table: &mut [u16]) -> ListsRead
     ensures { λ r. ⌜ r ≡ listsAt (now (packet .entry)) count .end ⌝ }
     ensures { λ r. ⌜ now (table .exit) ≡ over (now (table .entry)) 0 (listsAt (now (packet .entry)) count .places) ⌝ }
 {
-    match headers_after(packet, Direction::ToContainer, count, table) {
+    match headers_after(Direction::ToContainer, packet, count, table) {
         HeadersRead::Refused(n) => ListsRead::Refused(n),
         HeadersRead::Headers { declared, next } => {
             let many = value_of(count) as usize;
-            attributes_behind(packet, next, declared, table, many + many)
+            attributes_behind(packet, declared, next, table, many + many)
         }
     }
 }

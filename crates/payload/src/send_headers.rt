@@ -35,10 +35,10 @@ pub fn read(packet: &[u8], table: &mut [u16]) -> PacketRead
     ensures { λ r. ⌜ now (table .exit) ≡ over (now (table .entry)) 0 (sendHeadersAt (now (packet .entry)) .places) ⌝ }
 {
     let code = after_code();
-    let status = integer_after(packet, code, LEAST_STATUS, GREATEST_STATUS, OUT_OF_RANGE);
-    let message = string_after(packet, status, StringField::Message);
-    let headers = integer_after(packet, message, 0, MAX_HEADERS, TOO_MANY);
-    match headers_after(packet, Direction::ToServer, headers, table) {
+    let status = integer_after(packet, LEAST_STATUS, GREATEST_STATUS, OUT_OF_RANGE, code);
+    let message = string_after(packet, StringField::Message, status);
+    let headers = integer_after(packet, 0, MAX_HEADERS, TOO_MANY, message);
+    match headers_after(Direction::ToServer, packet, headers, table) {
         HeadersRead::Refused(n) => PacketRead::Refused(n),
         HeadersRead::Headers { declared, next } => finished(
             packet.len(),

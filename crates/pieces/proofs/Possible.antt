@@ -9,13 +9,13 @@ use lib.ListN.{length, getD, length-append}
 use lib.Seq.{getD-take}
 use Rattle.wire.specs.Pick.{both}
 use Rattle.wire.specs.Bytes.{over, integerBytes}
-use Rattle.wire.specs.Packet.{packetHead}
+use Rattle.wire.specs.Packet.{packetHead, afterCodePlace, codePlace}
 use Rattle.wire.proofs.Tests.{both-first}
 use Rattle.wire.proofs.Field.{head-four}
 use Rattle.wire.specs.Refusal.{recordWrong}
 use Rattle.connection.specs.Cycle.{directionOf}
 use Rattle.places.specs.Entries.{maxHeaders}
-use Rattle.payload.specs.Code.{codeOf, afterCodePlace, codePlace}
+use Rattle.payload.specs.Code.{codeOf}
 use Rattle.building.specs.Field.{Field, opening, faultsOf, fieldsBytes}
 use Rattle.building.specs.Call.{Call, refusalOf, bufferAfter}
 use Rattle.building.proofs.Sizes.{first-none, unless-none}

@@ -74,10 +74,10 @@ fn is_pair(kind: AttributeKind) -> bool
 }
 
 // How many bytes a buffer needs for an attribute with a string, 8193 where no packet has room for it.
-pub fn text_needs(building: Building, code: u16, value: &[u8], null: bool) -> usize
+pub fn text_needs(building: Building, code: u16, null: bool, value: &[u8]) -> usize
     ensures { λ r. ⌜ r ≡ neededAt (building .next .0) (textFields code null (now (value .entry))) ⌝ }
 {
-    size::string(size::plus(building.next.index(), size::BYTE), value, null)
+    size::string(size::plus(building.next.index(), size::BYTE), null, value)
 }
 
 // How many bytes a buffer needs for an attribute with an integer, 8193 where no packet has room for it.
@@ -91,16 +91,16 @@ pub fn integer_needs(building: Building, code: u16, value: u16) -> usize
 pub fn pair_needs(
     building: Building,
     code: u16,
-    name: &[u8],
     noname: bool,
-    value: &[u8],
+    name: &[u8],
     novalue: bool,
+    value: &[u8],
 ) -> usize
     ensures { λ r. ⌜ r ≡ neededAt (building .next .0) (pairFields code noname (now (name .entry)) novalue (now (value .entry))) ⌝ }
 {
     let at = size::plus(building.next.index(), size::BYTE);
-    let at = size::string(at, name, noname);
-    size::string(at, value, novalue)
+    let at = size::string(at, noname, name);
+    size::string(at, novalue, value)
 }
 
 // The first fault of an attribute up to its value: the record, and a code that takes no value of this kind.
@@ -114,12 +114,12 @@ fn code_fault(building: Building, buffer: &[u8], takes: bool) -> u8
 }
 
 // The first fault of an attribute with a string.
-fn text_fault(building: Building, buffer: &[u8], code: u16, value: &[u8], null: bool) -> u8
+fn text_fault(building: Building, buffer: &[u8], code: u16, null: bool, value: &[u8]) -> u8
     ensures { λ r. ⌜ r ≡ firstFault (textCall building (now (buffer .entry)) code null (now (value .entry)) .faults) ⌝ }
 {
     fault::or_else(
         code_fault(building, buffer, is_text(kind_of_code(code))),
-        fault::string(StringField::AttributeValue, value, null),
+        fault::string(StringField::AttributeValue, null, value),
     )
 }
 
@@ -135,30 +135,30 @@ fn pair_fault(
     building: Building,
     buffer: &[u8],
     code: u16,
-    name: &[u8],
     noname: bool,
-    value: &[u8],
+    name: &[u8],
     novalue: bool,
+    value: &[u8],
 ) -> u8
     ensures { λ r. ⌜ r ≡ firstFault (pairCall building (now (buffer .entry)) code noname (now (name .entry)) novalue (now (value .entry)) .faults) ⌝ }
 {
     let found = fault::or_else(
         code_fault(building, buffer, is_pair(kind_of_code(code))),
-        fault::string(StringField::AttributeName, name, noname),
+        fault::string(StringField::AttributeName, noname, name),
     );
     fault::or_else(
         found,
-        fault::string(StringField::AttributeValue, value, novalue),
+        fault::string(StringField::AttributeValue, novalue, value),
     )
 }
 
 // Writes an attribute with a string.
-fn write_text(buffer: &mut [u8], at: usize, code: u16, value: &[u8], null: bool)
+fn write_text(buffer: &mut [u8], at: usize, code: u16, null: bool, value: &[u8])
     requires { ⌜ (code ≤ 255) × Fits at (code ∷ stringBytes null (now value)) (now buffer) ⌝ }
     ensures { λ _. ⌜ now (buffer .exit) ≡ over (now (buffer .entry)) at (code ∷ stringBytes null (now (value .entry))) ⌝ }
 {
     let at = put::byte(buffer, at, code as u8);
-    put::string(buffer, at, value, null);
+    put::string(buffer, at, null, value);
 }
 
 // Writes an attribute with an integer.
@@ -175,30 +175,30 @@ fn write_pair(
     buffer: &mut [u8],
     at: usize,
     code: u16,
-    name: &[u8],
     noname: bool,
-    value: &[u8],
+    name: &[u8],
     novalue: bool,
+    value: &[u8],
 )
     requires { ⌜ (code ≤ 255) × Fits at (code ∷ (stringBytes noname (now name) ++ stringBytes novalue (now value))) (now buffer) ⌝ }
     ensures { λ _. ⌜ now (buffer .exit) ≡ over (now (buffer .entry)) at (code ∷ (stringBytes noname (now (name .entry)) ++ stringBytes novalue (now (value .entry)))) ⌝ }
 {
     let at = put::byte(buffer, at, code as u8);
-    put::two_strings(buffer, at, name, noname, value, novalue);
+    put::two_strings(buffer, at, noname, name, novalue, value);
 }
 
 // Adds an attribute with a string.
-pub fn text(building: Building, buffer: &mut [u8], code: u16, value: &[u8], null: bool) -> Added
+pub fn text(building: Building, buffer: &mut [u8], code: u16, null: bool, value: &[u8]) -> Added
     ensures { λ r. ⌜ addedOutcome r ≡ outcome (textCall building (now (buffer .entry)) code null (now (value .entry))) (length (now (buffer .entry))) ⌝ }
     ensures { λ _. ⌜ now (buffer .exit) ≡ bufferAfter (textCall building (now (buffer .entry)) code null (now (value .entry))) (now (buffer .entry)) ⌝ }
 {
-    let end = text_needs(building, code, value, null);
-    let found = text_fault(building, buffer, code, value, null);
+    let end = text_needs(building, code, null, value);
+    let found = text_fault(building, buffer, code, null, value);
     let found = fault::or_else(found, fault::fit(end, buffer.len()));
     if found != refusal::NONE {
         return Added::Refused(found);
     }
-    write_text(buffer, building.next.index(), code, value, null);
+    write_text(buffer, building.next.index(), code, null, value);
     Added::Next(with_attribute(building, end))
 }
 
@@ -223,16 +223,16 @@ pub fn pair(
     building: Building,
     buffer: &mut [u8],
     code: u16,
-    name: &[u8],
     noname: bool,
-    value: &[u8],
+    name: &[u8],
     novalue: bool,
+    value: &[u8],
 ) -> Added
     ensures { λ r. ⌜ addedOutcome r ≡ outcome (pairCall building (now (buffer .entry)) code noname (now (name .entry)) novalue (now (value .entry))) (length (now (buffer .entry))) ⌝ }
     ensures { λ _. ⌜ now (buffer .exit) ≡ bufferAfter (pairCall building (now (buffer .entry)) code noname (now (name .entry)) novalue (now (value .entry))) (now (buffer .entry)) ⌝ }
 {
-    let end = pair_needs(building, code, name, noname, value, novalue);
-    let found = pair_fault(building, buffer, code, name, noname, value, novalue);
+    let end = pair_needs(building, code, noname, name, novalue, value);
+    let found = pair_fault(building, buffer, code, noname, name, novalue, value);
     let found = fault::or_else(found, fault::fit(end, buffer.len()));
     if found != refusal::NONE {
         return Added::Refused(found);
@@ -241,10 +241,10 @@ pub fn pair(
         buffer,
         building.next.index(),
         code,
-        name,
         noname,
-        value,
+        name,
         novalue,
+        value,
     );
     Added::Next(with_attribute(building, end))
 }

@@ -19,9 +19,9 @@ use building::put;
 use building::size;
 use building_record::BuildingKind;
 use connection::Kind;
-use payload::AFTER_CODE;
 use payload::forward::FIRST_METHOD;
 use payload::forward::LAST_METHOD;
+use wire::AFTER_CODE_PLACE;
 use wire::StringField;
 use wire::refusal;
 
@@ -57,7 +57,7 @@ impl Nulls {
 }
 
 // The bytes in front of the first string: four, the code and the method. Behind the last one: port, is_ssl and the count.
-const BEFORE_STRINGS: usize = AFTER_CODE + size::BYTE;
+const BEFORE_STRINGS: usize = AFTER_CODE_PLACE + size::BYTE;
 
 const BEHIND_STRINGS: usize = size::INTEGER + size::BYTE + COUNT_SIZE;
 
@@ -73,11 +73,11 @@ pub fn needs(
 ) -> usize
     ensures { λ r. ⌜ r ≡ neededAt 0 (fixed BuildingKind.Forward (forwardFields numbers nulls (now (protocol .entry)) (now (uri .entry)) (now (addr .entry)) (now (host .entry)) (now (name .entry)))) ⌝ }
 {
-    let at = size::string(BEFORE_STRINGS, protocol, nulls.protocol);
-    let at = size::string(at, uri, nulls.req_uri);
-    let at = size::string(at, addr, nulls.remote_addr);
-    let at = size::string(at, host, nulls.remote_host);
-    let at = size::string(at, name, nulls.server_name);
+    let at = size::string(BEFORE_STRINGS, nulls.protocol, protocol);
+    let at = size::string(at, nulls.req_uri, uri);
+    let at = size::string(at, nulls.remote_addr, addr);
+    let at = size::string(at, nulls.remote_host, host);
+    let at = size::string(at, nulls.server_name, name);
     size::plus(at, BEHIND_STRINGS)
 }
 
@@ -93,12 +93,12 @@ fn fields_fault(
 ) -> u8
     ensures { λ r. ⌜ r ≡ firstFault (faultsOf (fixed BuildingKind.Forward (forwardFields numbers nulls (now (protocol .entry)) (now (uri .entry)) (now (addr .entry)) (now (host .entry)) (now (name .entry))))) ⌝ }
 {
-    let method = fault::range(numbers.method, FIRST_METHOD, LAST_METHOD);
-    let first = fault::string(StringField::Protocol, protocol, nulls.protocol);
-    let second = fault::string(StringField::ReqUri, uri, nulls.req_uri);
-    let third = fault::string(StringField::RemoteAddr, addr, nulls.remote_addr);
-    let fourth = fault::string(StringField::RemoteHost, host, nulls.remote_host);
-    let fifth = fault::string(StringField::ServerName, name, nulls.server_name);
+    let method = fault::range(FIRST_METHOD, LAST_METHOD, numbers.method);
+    let first = fault::string(StringField::Protocol, nulls.protocol, protocol);
+    let second = fault::string(StringField::ReqUri, nulls.req_uri, uri);
+    let third = fault::string(StringField::RemoteAddr, nulls.remote_addr, addr);
+    let fourth = fault::string(StringField::RemoteHost, nulls.remote_host, host);
+    let fifth = fault::string(StringField::ServerName, nulls.server_name, name);
     let found = fault::or_else(method, first);
     let found = fault::or_else(found, second);
     let found = fault::or_else(found, third);
@@ -121,11 +121,11 @@ fn strings(
     ensures { λ r. ⌜ r ≡ at + length (fieldsBytes (forwardStrings nulls (now (protocol .entry)) (now (uri .entry)) (now (addr .entry)) (now (host .entry)) (now (name .entry)))) ⌝ }
     ensures { λ _. ⌜ now (buffer .exit) ≡ over (now (buffer .entry)) at (fieldsBytes (forwardStrings nulls (now (protocol .entry)) (now (uri .entry)) (now (addr .entry)) (now (host .entry)) (now (name .entry)))) ⌝ }
 {
-    let at = put::string(buffer, at, protocol, nulls.protocol);
-    let at = put::string(buffer, at, uri, nulls.req_uri);
-    let at = put::string(buffer, at, addr, nulls.remote_addr);
-    let at = put::string(buffer, at, host, nulls.remote_host);
-    put::string(buffer, at, name, nulls.server_name)
+    let at = put::string(buffer, at, nulls.protocol, protocol);
+    let at = put::string(buffer, at, nulls.req_uri, uri);
+    let at = put::string(buffer, at, nulls.remote_addr, addr);
+    let at = put::string(buffer, at, nulls.remote_host, host);
+    put::string(buffer, at, nulls.server_name, name)
 }
 
 // Writes what stands behind the strings: port, is_ssl, and 0 for the count.

@@ -18,11 +18,12 @@ use Rattle.packet.specs.declared.Direction.{Direction}
 use Rattle.wire.specs.declared.read.NumberRead.{NumberRead}
 use Rattle.connection.specs.Connection.{maxPacket, maxPayload}
 use Rattle.reader.specs.declared.frame.FrameRead.{FrameRead}
-use Rattle.reader.specs.Frame.{headSize, lengthPlace, differs, leadingDiffers, lengthAt, frameOf, frameAt}
+use Rattle.reader.specs.Frame.{differs, leadingDiffers, lengthAt, frameOf, frameAt}
+use Rattle.wire.specs.Packet.{payloadPlace, lengthPlace}
 
 -- a length, by its two tests
-pub length-is : (there payload : ℕ) (fits lacks : Bool) → leb payload maxPayload ≡ fits → ltb there (headSize + payload) ≡ lacks
-    → pick fits (pick lacks (FrameRead.Needs (headSize + payload)) (FrameRead.Whole (headSize + payload))) (FrameRead.Refused tooLong) ≡ lengthAt there payload
+pub length-is : (there payload : ℕ) (fits lacks : Bool) → leb payload maxPayload ≡ fits → ltb there (payloadPlace + payload) ≡ lacks
+    → pick fits (pick lacks (FrameRead.Needs (payloadPlace + payload)) (FrameRead.Whole (payloadPlace + payload))) (FrameRead.Refused tooLong) ≡ lengthAt there payload
 unfolding lengthAt
 length-is there payload fits lacks p q = rw (p, q)
 
@@ -41,32 +42,32 @@ differs-is s at byte there same p q = rw (p, q)
 abbrev pub FrameInside : ℕ → FrameRead → Type 0
 FrameInside size (FrameRead.Needs n) = (size < n) × (n ≤ maxPacket)
 FrameInside size (FrameRead.Refused n) = Unit
-FrameInside size (FrameRead.Whole n) = (headSize ≤ n) × ((n ≤ maxPacket) × (n ≤ size))
+FrameInside size (FrameRead.Whole n) = (payloadPlace ≤ n) × ((n ≤ maxPacket) × (n ≤ size))
 
 length-inside : (there payload : ℕ) → FrameInside there (lengthAt there payload)
 unfolding lengthAt
-length-inside there payload = go (leb payload maxPayload) (ltb there (headSize + payload)) refl refl
+length-inside there payload = go (leb payload maxPayload) (ltb there (payloadPlace + payload)) refl refl
   where
-    go : (fits lacks : Bool) → leb payload maxPayload ≡ fits → ltb there (headSize + payload) ≡ lacks
-        → FrameInside there (pick fits (pick lacks (FrameRead.Needs (headSize + payload)) (FrameRead.Whole (headSize + payload))) (FrameRead.Refused tooLong))
+    go : (fits lacks : Bool) → leb payload maxPayload ≡ fits → ltb there (payloadPlace + payload) ≡ lacks
+        → FrameInside there (pick fits (pick lacks (FrameRead.Needs (payloadPlace + payload)) (FrameRead.Whole (payloadPlace + payload))) (FrameRead.Refused tooLong))
     go false lacks p q = tt
     go true true p q =
         let small : payload ≤ maxPayload = leb-true payload maxPayload p in
-        (ltb-true there (headSize + payload) q, omega arith)
+        (ltb-true there (payloadPlace + payload) q, omega arith)
     go true false p q =
         let small : payload ≤ maxPayload = leb-true payload maxPayload p in
-        let there-is : headSize + payload ≤ there = ltb-false there (headSize + payload) q in
+        let there-is : payloadPlace + payload ≤ there = ltb-false there (payloadPlace + payload) q in
         (omega arith, (omega arith, there-is))
 
 -- a length that is not there
-length-short : (s : List ℕ) (n : ℕ) → integerAt s lengthPlace ≡ NumberRead.Refused n → length s < headSize
+length-short : (s : List ℕ) (n : ℕ) → integerAt s lengthPlace ≡ NumberRead.Refused n → length s < payloadPlace
 unfolding integerAt
-length-short s n = go (leb headSize (length s)) refl
+length-short s n = go (leb payloadPlace (length s)) refl
   where
-    go : (there : Bool) → leb headSize (length s) ≡ there
-        → pick there (NumberRead.Number (integerIn s lengthPlace) headSize) (NumberRead.Refused cutShort) ≡ NumberRead.Refused n → length s < headSize
+    go : (there : Bool) → leb payloadPlace (length s) ≡ there
+        → pick there (NumberRead.Number (integerIn s lengthPlace) payloadPlace) (NumberRead.Refused cutShort) ≡ NumberRead.Refused n → length s < payloadPlace
     go true e q = absurd (let z : _≡_ {A = ℕ} 0 1 = cc in omega arith)
-    go false e q = leb-false headSize (length s) e
+    go false e q = leb-false payloadPlace (length s) e
 
 pub frame-inside : (direction : Direction) (s : List ℕ) (r : FrameRead) → frameAt direction s ≡ r → FrameInside (length s) r
 unfolding frameAt

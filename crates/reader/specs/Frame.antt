@@ -9,18 +9,11 @@ use lib.ListN.{length, getD}
 use Rattle.wire.specs.Pick.{pick, both, either}
 use Rattle.wire.specs.Refusal.{leadingWrong, tooLong}
 use Rattle.wire.specs.Field.{integerAt}
-use Rattle.wire.specs.Packet.{leading}
+use Rattle.wire.specs.Packet.{leading, payloadPlace, lengthPlace}
 use Rattle.packet.specs.declared.Direction.{Direction}
 use Rattle.wire.specs.declared.read.NumberRead.{NumberRead}
 use Rattle.connection.specs.Connection.{maxPayload}
 use Rattle.reader.specs.declared.frame.FrameRead.{FrameRead}
-
--- the bytes before a payload: two leading bytes and the length, which is at place 2
-abbrev pub headSize : ℕ
-headSize = 4
-
-abbrev pub lengthPlace : ℕ
-lengthPlace = 2
 
 -- a byte is there and is another one than this
 abbrev pub differs : List ℕ → ℕ → ℕ → Bool
@@ -34,12 +27,12 @@ leadingDiffers direction s = either (differs s 0 (getD (leading direction) 0 0))
 unfoldable pub lengthAt : ℕ → ℕ → FrameRead
 lengthAt there payload =
     pick (leb payload maxPayload)
-    (pick (ltb there (headSize + payload)) (FrameRead.Needs (headSize + payload)) (FrameRead.Whole (headSize + payload)))
+    (pick (ltb there (payloadPlace + payload)) (FrameRead.Needs (payloadPlace + payload)) (FrameRead.Whole (payloadPlace + payload)))
     (FrameRead.Refused tooLong)
 
 -- by the length as read: where it is not there, 4 bytes are needed
 abbrev pub frameOf : ℕ → NumberRead → FrameRead
-frameOf there (NumberRead.Refused n) = FrameRead.Needs headSize
+frameOf there (NumberRead.Refused n) = FrameRead.Needs payloadPlace
 frameOf there (NumberRead.Number payload next) = lengthAt there payload
 
 -- the first packet of the bytes: 1, "needs 4", 2, "needs 4 + length", or how many bytes it has

@@ -5,9 +5,9 @@ use mathlib.Core.List.{List, [], _∷_}
 use Prim.Native.Nat.{ℕ, _+_, _*_}
 use Rattle.connection.specs.declared.Kind.{Kind}
 use Rattle.connection.specs.declared.Connection.{Connection}
-use Rattle.payload.specs.Sequence.{booleanNumber}
 use Rattle.packet.specs.declared.Packet.{Packet}
 use Rattle.reader.specs.declared.Received.{Received}
+use Rattle.wire.specs.Field.{booleanNumber}
 
 -- what a packet tells: its kind, each fixed number and each fixed string's place in the packet's order, how many headers and attributes,
 -- what length of body was declared, and where the body or chunk stands

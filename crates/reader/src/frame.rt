@@ -2,17 +2,15 @@
 ghost use mathlib.Core.Path.{_≡_};
 ghost use Rattle.wire.specs.declared.read.NumberRead.{NumberRead};
 ghost use Rattle.reader.specs.Frame.{leadingDiffers, differs, frameAt, lengthAt};
-use crate::LENGTH_PLACE;
 use connection::Connection;
 use packet::Direction;
+use wire::LENGTH_PLACE;
+use wire::PAYLOAD_PLACE;
 use wire::has_room;
 use wire::leading_bytes;
 use wire::read;
 use wire::read::NumberRead;
 use wire::refusal;
-
-// A packet's first four bytes: the leading bytes and the payload's length.
-const HEAD: usize = 4;
 
 // The first packet of the bytes: how many bytes it needs, refused, or how many bytes it has.
 pub enum FrameRead {
@@ -32,7 +30,7 @@ fn is_other(bytes: &[u8], at: usize, byte: u8) -> bool
 }
 
 // Whether a leading byte is there and is not the direction's.
-fn leading_differs(bytes: &[u8], direction: Direction) -> bool
+fn leading_differs(direction: Direction, bytes: &[u8]) -> bool
     ensures { λ r. ⌜ r ≡ leadingDiffers direction (now (bytes .entry)) ⌝ }
 {
     let leading = leading_bytes(direction);
@@ -40,14 +38,14 @@ fn leading_differs(bytes: &[u8], direction: Direction) -> bool
 }
 
 // The first packet of the bytes, which goes in a direction.
-pub fn frame(bytes: &[u8], direction: Direction) -> FrameRead
+pub fn frame(direction: Direction, bytes: &[u8]) -> FrameRead
     ensures { λ r. ⌜ r ≡ frameAt direction (now (bytes .entry)) ⌝ }
 {
-    if leading_differs(bytes, direction) {
+    if leading_differs(direction, bytes) {
         return FrameRead::Refused(refusal::LEADING_WRONG);
     }
     match read::integer(bytes, LENGTH_PLACE) {
-        NumberRead::Refused(n) => FrameRead::Needs(HEAD),
+        NumberRead::Refused(n) => FrameRead::Needs(PAYLOAD_PLACE),
         NumberRead::Number { value, next } => sized(bytes.len(), value),
     }
 }
@@ -60,8 +58,8 @@ fn sized(there: usize, payload: u16) -> FrameRead
     if !Connection::fits_payload(n) {
         return FrameRead::Refused(refusal::TOO_LONG);
     }
-    if there < HEAD + n {
-        return FrameRead::Needs(HEAD + n);
+    if there < PAYLOAD_PLACE + n {
+        return FrameRead::Needs(PAYLOAD_PLACE + n);
     }
-    FrameRead::Whole(HEAD + n)
+    FrameRead::Whole(PAYLOAD_PLACE + n)
 }

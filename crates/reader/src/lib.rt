@@ -26,9 +26,6 @@ pub mod frame;
 
 use crate::frame::FrameRead;
 
-// Where a packet's length is: behind the two leading bytes.
-pub const LENGTH_PLACE: usize = 2;
-
 // What reading answers: how many bytes it needs in all, the refusal's number, or the packet, how many bytes were taken, and the connection
 // after it.
 pub enum Received {
@@ -91,7 +88,7 @@ fn whole(direction: Direction, connection: Connection, packet: &[u8], table: &mu
     ensures { λ r. ⌜ receivedMeaning r ≡ wholeOf direction connection (now (packet .entry)) (length (now (table .entry))) ⌝ }
     ensures { λ r. ⌜ now (table .exit) ≡ tableWhole direction connection (now (packet .entry)) (now (table .entry)) ⌝ }
 {
-    match payload::kind_of(packet, direction, reads_body(direction, connection)) {
+    match payload::kind_of(direction, reads_body(direction, connection), packet) {
         KindRead::Refused(n) => Received::Refused(n),
         KindRead::Kind(kind) => {
             if !connection.allows(kind) {
@@ -110,14 +107,14 @@ fn fields(connection: Connection, kind: Kind, packet: &[u8], table: &mut [u16]) 
 {
     let size = packet.len();
     match kind {
-        Kind::CPing => accept(connection, payload::bare::read(packet, Packet::CPing), size),
-        Kind::CPong => accept(connection, payload::bare::read(packet, Packet::CPong), size),
+        Kind::CPing => accept(connection, size, payload::bare::read(packet, Packet::CPing)),
+        Kind::CPong => accept(connection, size, payload::bare::read(packet, Packet::CPong)),
         Kind::Forward => forward(connection, packet, table),
-        Kind::Body => accept(connection, payload::body::read(packet), size),
-        Kind::GetBody => accept(connection, payload::get_body::read(packet), size),
+        Kind::Body => accept(connection, size, payload::body::read(packet)),
+        Kind::GetBody => accept(connection, size, payload::get_body::read(packet)),
         Kind::SendHeaders => send_headers(connection, packet, table),
-        Kind::BodyChunk => accept(connection, payload::body_chunk::read(packet), size),
-        Kind::End => accept(connection, payload::end::read(packet), size),
+        Kind::BodyChunk => accept(connection, size, payload::body_chunk::read(packet)),
+        Kind::End => accept(connection, size, payload::end::read(packet)),
     }
 }
 
@@ -129,7 +126,7 @@ fn forward(connection: Connection, packet: &[u8], table: &mut [u16]) -> Received
 {
     let mut places = [0u16; MAX_PLACES];
     let found = payload::forward::read(packet, &mut places);
-    fill_table(accept(connection, found, packet.len()), &places, table)
+    fill_table(accept(connection, packet.len(), found), &places, table)
 }
 
 // Send Headers, in the same way.
@@ -140,7 +137,7 @@ fn send_headers(connection: Connection, packet: &[u8], table: &mut [u16]) -> Rec
 {
     let mut places = [0u16; MAX_PLACES];
     let found = payload::send_headers::read(packet, &mut places);
-    fill_table(accept(connection, found, packet.len()), &places, table)
+    fill_table(accept(connection, packet.len(), found), &places, table)
 }
 
 // The move that a packet makes in the cycle.
@@ -163,7 +160,7 @@ pub fn move_of(packet: Packet) -> Move
 }
 
 // Steps the connection by a packet that was read; the table aside.
-fn accept(connection: Connection, found: PacketRead, taken: usize) -> Received
+fn accept(connection: Connection, taken: usize, found: PacketRead) -> Received
     ensures { λ r. ⌜ receivedMeaning r ≡ accepting connection taken found ⌝ }
 {
     match found {

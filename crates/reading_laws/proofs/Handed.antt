@@ -12,7 +12,6 @@ use Rattle.packet.specs.declared.Direction.{Direction}
 use Rattle.packet.specs.declared.Packet.{Packet}
 use Rattle.connection.specs.declared.Connection.{Connection}
 use Rattle.connection.specs.declared.Kind.{Kind}
-use Rattle.payload.specs.Sequence.{booleanNumber}
 use Rattle.payload.specs.Kinds.{packetKind}
 use Rattle.payload.specs.Handed.{ForwardHanded, EndHanded, PacketHanded}
 use Rattle.payload.proofs.Handed.{packet-handed}
@@ -20,6 +19,7 @@ use Rattle.reader.specs.Meaning.{Told, accepted, told}
 use Rattle.reader.specs.Reading.{parse, parseWhole, placesOf, readAsBody, reading}
 use Rattle.reading_laws.specs.Handed.{numberTold, placeTold, ToldHanded}
 use Rattle.reading_laws.proofs.Acceptance.{accepted-is}
+use Rattle.wire.specs.Field.{booleanNumber}
 
 -- what is told of a packet is of its own kind
 pub told-kind : (p : Packet) → told p .kind ≡ packetKind p

@@ -14,7 +14,7 @@ use Rattle.wire.specs.Pick.{pick, either}
 use Rattle.wire.specs.Refusal.{leadingWrong, tooLong}
 use Rattle.wire.specs.Bytes.{part, integerIn}
 use Rattle.wire.specs.Field.{integerAt}
-use Rattle.wire.specs.Packet.{leading}
+use Rattle.wire.specs.Packet.{leading, payloadPlace, lengthPlace}
 use Rattle.packet.specs.declared.Direction.{Direction}
 use Rattle.wire.specs.declared.read.NumberRead.{NumberRead}
 use Rattle.wire.proofs.Tests.{both-first}
@@ -22,7 +22,7 @@ use Rattle.wire.proofs.Field.{integer-inside}
 use Rattle.connection.specs.Connection.{maxPayload}
 use Rattle.connection.specs.declared.Connection.{Connection}
 use Rattle.reader.specs.declared.frame.FrameRead.{FrameRead}
-use Rattle.reader.specs.Frame.{headSize, lengthPlace, differs, leadingDiffers, lengthAt, frameOf, frameAt}
+use Rattle.reader.specs.Frame.{differs, leadingDiffers, lengthAt, frameOf, frameAt}
 use Rattle.reader.specs.Meaning.{Meaning, needs, refused, accepted}
 use Rattle.reader.specs.Reading.{Parsed, parseWhole, parseFrame, parse, readAsBody, judging, withRoom, reading, tableAfter}
 use Rattle.reader.proofs.Framing.{frame-inside}
@@ -75,34 +75,34 @@ module _ (s rest : List ℕ) where
       (still-differs 0 (getD (leading direction) 0 0)) (still-differs 1 (getD (leading direction) 1 0)) e
 
   -- where the length is there, so are the leading bytes
-  same-leading : (direction : Direction) → headSize ≤ length s → leadingDiffers direction (s ++ rest) ≡ leadingDiffers direction s
+  same-leading : (direction : Direction) → payloadPlace ≤ length s → leadingDiffers direction (s ++ rest) ≡ leadingDiffers direction s
   unfolding leadingDiffers
   same-leading direction h =
       let a = same-differs 0 (getD (leading direction) 0 0) (omega arith) in
       let b = same-differs 1 (getD (leading direction) 1 0) (omega arith) in
       rw (a, b)
 
-  same-length : headSize ≤ length s → integerAt (s ++ rest) lengthPlace ≡ integerAt s lengthPlace
+  same-length : payloadPlace ≤ length s → integerAt (s ++ rest) lengthPlace ≡ integerAt s lengthPlace
   unfolding integerAt integerIn
   same-length h =
-      let a : leb headSize (length s) ≡ true = le-leb headSize (length s) h in
-      let b : leb headSize (length (s ++ rest)) ≡ true = le-leb headSize (length (s ++ rest)) (omega (arith, longer)) in
+      let a : leb payloadPlace (length s) ≡ true = le-leb payloadPlace (length s) h in
+      let b : leb payloadPlace (length (s ++ rest)) ≡ true = le-leb payloadPlace (length (s ++ rest)) (omega (arith, longer)) in
       rw (a, b, same-byte lengthPlace (omega arith), same-byte (lengthPlace + 1) (omega arith))
 
   -- a length whose packet is refused or whole
   same-sized : (payload : ℕ) → Framed (lengthAt (length s) payload) → lengthAt (length (s ++ rest)) payload ≡ lengthAt (length s) payload
   unfolding lengthAt
-  same-sized payload = go (leb payload maxPayload) (ltb (length s) (headSize + payload)) refl
+  same-sized payload = go (leb payload maxPayload) (ltb (length s) (payloadPlace + payload)) refl
     where
-      go : (fits lacks : Bool) → ltb (length s) (headSize + payload) ≡ lacks
-          → Framed (pick fits (pick lacks (FrameRead.Needs (headSize + payload)) (FrameRead.Whole (headSize + payload))) (FrameRead.Refused tooLong))
-          → pick fits (pick (ltb (length (s ++ rest)) (headSize + payload)) (FrameRead.Needs (headSize + payload)) (FrameRead.Whole (headSize + payload))) (FrameRead.Refused tooLong)
-          ≡ pick fits (pick lacks (FrameRead.Needs (headSize + payload)) (FrameRead.Whole (headSize + payload))) (FrameRead.Refused tooLong)
+      go : (fits lacks : Bool) → ltb (length s) (payloadPlace + payload) ≡ lacks
+          → Framed (pick fits (pick lacks (FrameRead.Needs (payloadPlace + payload)) (FrameRead.Whole (payloadPlace + payload))) (FrameRead.Refused tooLong))
+          → pick fits (pick (ltb (length (s ++ rest)) (payloadPlace + payload)) (FrameRead.Needs (payloadPlace + payload)) (FrameRead.Whole (payloadPlace + payload))) (FrameRead.Refused tooLong)
+          ≡ pick fits (pick lacks (FrameRead.Needs (payloadPlace + payload)) (FrameRead.Whole (payloadPlace + payload))) (FrameRead.Refused tooLong)
       go false lacks e h = refl
       go true true e h = absurd h
       go true false e h =
-          let q : headSize + payload ≤ length s = ltb-false (length s) (headSize + payload) e in
-          let p : ltb (length (s ++ rest)) (headSize + payload) ≡ false = le-ltb (length (s ++ rest)) (headSize + payload) (omega (arith, longer)) in
+          let q : payloadPlace + payload ≤ length s = ltb-false (length s) (payloadPlace + payload) e in
+          let p : ltb (length (s ++ rest)) (payloadPlace + payload) ≡ false = le-ltb (length (s ++ rest)) (payloadPlace + payload) (omega (arith, longer)) in
           rw p
 
   -- a frame that is refused or whole
@@ -118,7 +118,7 @@ module _ (s rest : List ℕ) where
       go false (NumberRead.Refused n) e q h = absurd h
       go false (NumberRead.Number payload next) e q h =
           let inside = integer-inside s lengthPlace (NumberRead.Number payload next) q in
-          let four : headSize ≤ length s = omega (arith, inside) in
+          let four : payloadPlace ≤ length s = omega (arith, inside) in
           rw (same-leading direction four ∙ e, same-length four ∙ q) (same-sized payload h)
 
   -- what bytes are parsed as

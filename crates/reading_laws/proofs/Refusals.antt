@@ -25,9 +25,10 @@ use Rattle.payload.specs.declared.KindRead.{KindRead}
 use Rattle.payload.specs.declared.found.PacketRead.{PacketRead}
 use Rattle.payload.proofs.Refusals.{kind-refusal, packet-refusal}
 use Rattle.reader.specs.declared.frame.FrameRead.{FrameRead}
-use Rattle.reader.specs.Frame.{headSize, lengthPlace, leadingDiffers, lengthAt, frameOf, frameAt}
+use Rattle.reader.specs.Frame.{leadingDiffers, lengthAt, frameOf, frameAt}
 use Rattle.reader.specs.Meaning.{Meaning, needs, refused, accepted, placesNeeded}
 use Rattle.reader.specs.Reading.{parsedOf, parseWhole, parseFrame, parse, readAsBody, stepped, accepting, judging, withRoom, reading}
+use Rattle.wire.specs.Packet.{payloadPlace, lengthPlace}
 
 -- an answer that refuses, if it does, with a number of document 01
 abbrev Numbered : Meaning → Type 0
@@ -47,7 +48,7 @@ frame-numbered direction s = go (leadingDiffers direction s) (integerAt s length
   where
     by : (payload : ℕ) (fits lacks : Bool)
         → FrameNumbered
-        (pick fits (pick lacks (FrameRead.Needs (headSize + payload)) (FrameRead.Whole (headSize + payload))) (FrameRead.Refused tooLong))
+        (pick fits (pick lacks (FrameRead.Needs (payloadPlace + payload)) (FrameRead.Whole (payloadPlace + payload))) (FrameRead.Refused tooLong))
     by payload true true = tt
     by payload true false = tt
     by payload false lacks = refl
@@ -55,7 +56,7 @@ frame-numbered direction s = go (leadingDiffers direction s) (integerAt s length
     go : (differ : Bool) (r : NumberRead) → FrameNumbered (pick differ (FrameRead.Refused leadingWrong) (frameOf (length s) r))
     go true r = refl
     go false (NumberRead.Refused n) = tt
-    go false (NumberRead.Number payload next) = by payload (leb payload maxPayload) (ltb (length s) (headSize + payload))
+    go false (NumberRead.Number payload next) = by payload (leb payload maxPayload) (ltb (length s) (payloadPlace + payload))
 
 -- the table has room or has not
 room-numbered : (room : ℕ) (m : Meaning) → Numbered m → Numbered (withRoom room m)

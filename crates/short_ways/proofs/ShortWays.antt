@@ -20,7 +20,7 @@ use Rattle.connection.specs.declared.Kind.{Kind}
 use Rattle.connection.specs.declared.Move.{Move}
 use Rattle.connection.specs.declared.Connection.{Connection}
 use Rattle.connection.specs.declared.Step.{Step}
-use Rattle.payload.specs.Code.{codePlace, codeKind, kindOfCode, kindAt}
+use Rattle.payload.specs.Code.{codeKind, kindOfCode, kindAt}
 use Rattle.payload.specs.Kinds.{packetAt, packetKind, packetMove}
 use Rattle.payload.specs.declared.KindRead.{KindRead}
 use Rattle.packet.specs.declared.Part.{Part}
@@ -36,6 +36,7 @@ use Rattle.reader.specs.Reading.{readAsBody, stepped, accepting, reading, table
 use Rattle.short_ways.specs.Short.{wholeSize, isChunk, bodySize, chunkSize, shortSize, PartMeaning, other, answered, partMeaning, shortReading}
 use Rattle.short_ways.specs.Private.{partIn, steppedPart}
 use Rattle.reader.proofs.Laws.{accepting-is, plain-is, whole-kind, read-whole}
+use Rattle.wire.specs.Packet.{codePlace}
 
 -- the size of a body packet, by whether one is due
 pub body-size-by : (c : Connection) (s : List ℕ) (due : Bool) → bodyDue c ≡ due

@@ -12,12 +12,13 @@ use Rattle.wire.specs.declared.read.NumberRead.{NumberRead}
 use Rattle.connection.specs.Cycle.{inState}
 use Rattle.connection.specs.declared.Kind.{Kind}
 use Rattle.connection.specs.declared.Connection.{Connection}
-use Rattle.payload.specs.Code.{codeOf, codePlace}
+use Rattle.payload.specs.Code.{codeOf}
 use Rattle.reader.specs.declared.frame.FrameRead.{FrameRead}
 use Rattle.short_ways.specs.declared.PartRead.{PartRead}
 use Rattle.reader.specs.Frame.{frameAt}
 use Rattle.reader.specs.Meaning.{Meaning, refused, accepted, parted}
 use Rattle.reader.specs.Reading.{reading}
+use Rattle.wire.specs.Packet.{codePlace}
 
 -- how many bytes a packet has where it is whole, else 0
 abbrev pub wholeSize : FrameRead → ℕ

@@ -5,13 +5,13 @@ ghost use lib.ListN.{length};
 ghost use Rattle.wire.specs.Field.{byteAt};
 ghost use Rattle.packet.specs.declared.Direction.{Direction};
 ghost use Rattle.connection.specs.declared.Kind.{Kind};
-ghost use Rattle.payload.specs.Code.{codePlace};
 ghost use Rattle.payload.specs.Body.{bodyAt};
 ghost use Rattle.payload.specs.BodyChunk.{chunkAt};
 ghost use Rattle.reader.specs.Frame.{frameAt};
 ghost use Rattle.reader.specs.Reading.{accepting};
 ghost use Rattle.short_ways.specs.Private.{noPart, partIn, steppedPart};
 ghost use Rattle.short_ways.specs.Short.{wholeSize, isChunk, bodySize, chunkSize, answered, partMeaning, shortReading};
+ghost use Rattle.wire.specs.Packet.{codePlace};
 use connection::Connection;
 use connection::Kind;
 use connection::Step;
@@ -20,10 +20,10 @@ use packet::Packet;
 use packet::Part;
 use packet::Place;
 use payload::BODY_CHUNK;
-use payload::CODE_PLACE;
 use payload::found::PacketRead;
 use reader::frame::FrameRead;
 use reader::frame::frame;
+use wire::CODE_PLACE;
 use wire::part_of;
 use wire::read::NumberRead;
 use wire::read::byte;
@@ -69,7 +69,7 @@ fn body_size(connection: Connection, bytes: &[u8]) -> usize
     if !connection.is_body_due() {
         return 0;
     }
-    whole_size(bytes, Direction::ToContainer)
+    whole_size(Direction::ToContainer, bytes)
 }
 
 // How many bytes the first packet has where it is whole and a Send Body Chunk that is allowed, else 0.
@@ -79,7 +79,7 @@ fn chunk_size(connection: Connection, bytes: &[u8]) -> usize
     if !connection.allows(Kind::BodyChunk) {
         return 0;
     }
-    let size = whole_size(bytes, Direction::ToServer);
+    let size = whole_size(Direction::ToServer, bytes);
     if !is_chunk(part_of(bytes, 0, size)) {
         return 0;
     }
@@ -87,10 +87,10 @@ fn chunk_size(connection: Connection, bytes: &[u8]) -> usize
 }
 
 // How many bytes the first packet has where it is whole, else 0.
-fn whole_size(bytes: &[u8], direction: Direction) -> usize
+fn whole_size(direction: Direction, bytes: &[u8]) -> usize
     ensures { λ r. ⌜ r ≡ wholeSize (frameAt direction (now (bytes .entry))) ⌝ }
 {
-    match frame(bytes, direction) {
+    match frame(direction, bytes) {
         FrameRead::Needs(n) => 0,
         FrameRead::Refused(n) => 0,
         FrameRead::Whole(n) => n,

@@ -23,7 +23,7 @@ pub fn answer(command: usize, case: &[u8], out: &mut [u8]) -> usize {
     match command {
         commands::READ_AT_CONTAINER => read::answer(Direction::ToContainer, case, out),
         commands::READ_AT_SERVER => read::answer(Direction::ToServer, case, out),
-        commands::CPING..=commands::PAIR_ATTRIBUTE => built_cases::answer(command, case, out),
+        commands::CPING..=commands::PAIR_ATTRIBUTE => vectors_building::answer(command, case, out),
         commands::METHOD_NAME..=commands::ATTRIBUTE_NAME => name::of_code(command, case, out),
         commands::METHOD_CODE..=commands::ATTRIBUTE_CODE => name::code_of(command, case, out),
         _ => commands::NOT_UNDERSTOOD,

@@ -30,8 +30,8 @@ fn made(command: usize, case: &[u8], texts: &[u8], buffer: &mut [u8]) -> Added {
             send_headers::begin(
                 buffer,
                 parse::number(case, 2),
-                message,
                 string::is_null(case, 3),
+                message,
             )
         }
         _ => added(command, case, texts, buffer),
@@ -79,13 +79,13 @@ fn added(command: usize, case: &[u8], texts: &[u8], buffer: &mut [u8]) -> Added 
     let null = string::is_null(case, 9);
     match command {
         commands::HEADER_BY_CODE => {
-            header::coded(building, buffer, parse::number(case, 8), text, null)
+            header::coded(building, buffer, parse::number(case, 8), null, text)
         }
         commands::HEADER_BY_NAME => {
             let name = string::bytes(case, 8, texts);
-            header::spelled(building, buffer, name, string::is_null(case, 8), text, null)
+            header::spelled(building, buffer, string::is_null(case, 8), name, null, text)
         }
-        commands::TEXT_ATTRIBUTE => attribute::text(building, buffer, code, text, null),
+        commands::TEXT_ATTRIBUTE => attribute::text(building, buffer, code, null, text),
         commands::INTEGER_ATTRIBUTE => {
             attribute::integer(building, buffer, code, parse::number(case, 9))
         }
@@ -95,10 +95,10 @@ fn added(command: usize, case: &[u8], texts: &[u8], buffer: &mut [u8]) -> Added 
                 building,
                 buffer,
                 code,
-                text,
                 null,
-                value,
+                text,
                 string::is_null(case, 10),
+                value,
             )
         }
     }

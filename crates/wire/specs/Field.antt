@@ -37,10 +37,14 @@ booleanOf (NumberRead.Number b next) =
 unfoldable pub booleanAt : List ℕ → ℕ → BooleanRead
 booleanAt s at = booleanOf (byteAt s at)
 
+-- a boolean as a number: 1 for true, 0 for false
+abbrev pub booleanNumber : Bool → ℕ
+booleanNumber true = 1
+booleanNumber false = 0
+
 -- a boolean's byte
 abbrev pub booleanBytes : Bool → List ℕ
-booleanBytes true = 1 ∷ []
-booleanBytes false = 0 ∷ []
+booleanBytes value = booleanNumber value ∷ []
 
 -- the length that says null, with nothing after it
 abbrev pub nullLength : ℕ

@@ -12,6 +12,22 @@ abbrev pub leading : Direction → List ℕ
 leading Direction.ToContainer = 0x12 ∷ 0x34 ∷ []
 leading Direction.ToServer = 0x41 ∷ 0x42 ∷ []
 
+-- where a packet's length is: behind the two leading bytes
+abbrev pub lengthPlace : ℕ
+lengthPlace = 2
+
+-- where its payload is: behind the two bytes of the length
+abbrev pub payloadPlace : ℕ
+payloadPlace = 4
+
+-- where its code is: it is the payload's first byte
+abbrev pub codePlace : ℕ
+codePlace = payloadPlace
+
+-- where the first field behind the code is
+abbrev pub afterCodePlace : ℕ
+afterCodePlace = 5
+
 -- a packet's first four bytes
 abbrev pub packetHead : Direction → ℕ → List ℕ
 packetHead direction payloadLength = leading direction ++ integerBytes payloadLength

@@ -30,6 +30,16 @@ pub enum StringField {
 // The length that says null.
 pub const NULL_LENGTH: u16 = 65535;
 
+// The places of a packet's length, behind the leading bytes, and of its payload, behind the length.
+pub const LENGTH_PLACE: usize = 2;
+
+pub const PAYLOAD_PLACE: usize = 4;
+
+// The place of a packet's code, which is the payload's first byte, and the place behind it. A body packet has no code.
+pub const CODE_PLACE: usize = PAYLOAD_PLACE;
+
+pub const AFTER_CODE_PLACE: usize = 5;
+
 // How many bytes of a text are judged at once: those of a vector register, a half of them and a quarter.
 const BLOCK: usize = 16;
 
@@ -164,7 +174,7 @@ pub fn holds_barred(text: &[u8]) -> bool
 }
 
 // Whether a string may stand in a field, judged for building as reading judges it.
-pub fn allows_string(text: &[u8], null: bool, optional: bool) -> bool
+pub fn allows_string(optional: bool, null: bool, text: &[u8]) -> bool
     ensures { λ r. ⌜ r ≡ stringAllowed optional null (now (text .entry)) ⌝ }
 {
     if lacks(optional, null, text.len()) {

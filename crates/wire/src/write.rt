@@ -5,7 +5,9 @@ ghost use lib.ListN.{length};
 ghost use Rattle.wire.specs.Bytes.{put, integerBytes};
 ghost use Rattle.wire.specs.Field.{booleanBytes, stringBytes, putString};
 ghost use Rattle.wire.specs.Packet.{packetHead};
+use crate::LENGTH_PLACE;
 use crate::NULL_LENGTH;
+use crate::PAYLOAD_PLACE;
 use crate::has_room;
 use crate::leading_bytes;
 use packet::Direction;
@@ -82,7 +84,7 @@ pub fn boolean(buffer: &mut [u8], at: usize, value: bool)
 }
 
 // How many bytes a string's field takes.
-pub fn string_size(text: &[u8], null: bool) -> usize
+pub fn string_size(null: bool, text: &[u8]) -> usize
     ensures { λ r. ⌜ r ≡ length (stringBytes null (now (text .entry))) ⌝ }
 {
     if null {
@@ -92,7 +94,7 @@ pub fn string_size(text: &[u8], null: bool) -> usize
 }
 
 // Writes a string: its length, its bytes and a zero, or null. A text whose length two bytes cannot tell is not written.
-pub fn string(buffer: &mut [u8], at: usize, text: &[u8], null: bool)
+pub fn string(buffer: &mut [u8], at: usize, null: bool, text: &[u8])
     ensures { λ _. ⌜ now (buffer .exit) ≡ putString (now (buffer .entry)) at null (now (text .entry)) ⌝ }
 {
     if null {
@@ -114,9 +116,9 @@ pub fn string(buffer: &mut [u8], at: usize, text: &[u8], null: bool)
 pub fn packet_head(buffer: &mut [u8], direction: Direction, payload: u16)
     ensures { λ _. ⌜ now (buffer .exit) ≡ put (now (buffer .entry)) 0 (packetHead direction payload) ⌝ }
 {
-    if has_room(buffer.len(), 0, 4) {
+    if has_room(buffer.len(), 0, PAYLOAD_PLACE) {
         let first = leading_bytes(direction);
         bytes(buffer, 0, &first);
-        integer(buffer, 2, payload);
+        integer(buffer, LENGTH_PLACE, payload);
     }
 }

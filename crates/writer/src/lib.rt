@@ -20,9 +20,9 @@ use connection::Kind;
 use connection::Move;
 use connection::Step;
 use packet::Direction;
-use payload::AFTER_CODE;
-use payload::PAYLOAD_PLACE;
 use payload::body::BODY_START;
+use wire::AFTER_CODE_PLACE;
+use wire::PAYLOAD_PLACE;
 use wire::refusal;
 
 // Payload sizes: of a CPing and a CPong, of a Get Body Chunk, of an End.
@@ -58,7 +58,7 @@ pub fn body_needs(bytes: &[u8]) -> usize
 pub fn body_chunk_needs(bytes: &[u8]) -> usize
     ensures { λ r. ⌜ r ≡ sizeTold (length (packetOf (Move.BodyChunk (length (now (bytes .entry)))) (chunkPayload (now (bytes .entry))))) ⌝ }
 {
-    size::string(AFTER_CODE, bytes, false)
+    size::string(AFTER_CODE_PLACE, false, bytes)
 }
 
 // Whether an answer says that the packet is written.
@@ -72,7 +72,7 @@ pub fn is_written(sent: Sent) -> bool
 }
 
 // What a packet of so many bytes that makes a step comes to on a buffer with so much room: the step, then whether it fits.
-fn ready(step: Step, size: usize, room: usize) -> Sent
+fn ready(size: usize, room: usize, step: Step) -> Sent
     ensures { λ r. ⌜ sentOutcome r ≡ readyOf size room step ⌝ }
 {
     match step {
@@ -114,7 +114,7 @@ fn write_body_chunk(buffer: &mut [u8], bytes: &[u8])
     ensures { λ _. ⌜ now (buffer .exit) ≡ over (now (buffer .entry)) 0 (packetOf (Move.BodyChunk (length (now (bytes .entry)))) (chunkPayload (now (bytes .entry)))) ⌝ }
 {
     let at = put::open(buffer, Kind::BodyChunk, (bytes.len() + AROUND_CHUNK) as u16);
-    put::string(buffer, at, bytes, false);
+    put::string(buffer, at, false, bytes);
 }
 
 // Writes a Get Body Chunk.
@@ -141,9 +141,9 @@ fn bare(connection: Connection, buffer: &mut [u8], m: Move) -> Sent
     ensures { λ _. ⌜ now (buffer .exit) ≡ bufferAfter (bareCall connection m) (now (buffer .entry)) ⌝ }
 {
     let answer = ready(
-        connection.step(m),
         PAYLOAD_PLACE + BARE_PAYLOAD as usize,
         buffer.len(),
+        connection.step(m),
     );
     if is_written(answer) {
         put::open(buffer, m.kind(), BARE_PAYLOAD);
@@ -173,9 +173,9 @@ pub fn body(connection: Connection, buffer: &mut [u8], bytes: &[u8]) -> Sent
     ensures { λ _. ⌜ now (buffer .exit) ≡ bufferAfter (bodyCall connection (now (bytes .entry))) (now (buffer .entry)) ⌝ }
 {
     let sent = ready(
-        connection.step_body(bytes.len()),
         body_needs(bytes),
         buffer.len(),
+        connection.step_body(bytes.len()),
     );
     if is_written(sent) {
         write_body(buffer, bytes);
@@ -189,9 +189,9 @@ pub fn body_chunk(connection: Connection, buffer: &mut [u8], bytes: &[u8]) -> Se
     ensures { λ _. ⌜ now (buffer .exit) ≡ bufferAfter (chunkCall connection (now (bytes .entry))) (now (buffer .entry)) ⌝ }
 {
     let sent = ready(
-        connection.step_body_chunk(bytes.len()),
         body_chunk_needs(bytes),
         buffer.len(),
+        connection.step_body_chunk(bytes.len()),
     );
     if is_written(sent) {
         write_body_chunk(buffer, bytes);
@@ -205,9 +205,9 @@ pub fn get_body(connection: Connection, buffer: &mut [u8], asked: u16) -> Sent
     ensures { λ _. ⌜ now (buffer .exit) ≡ bufferAfter (getCall connection asked) (now (buffer .entry)) ⌝ }
 {
     let sent = ready(
-        connection.step(Move::GetBody(asked)),
         PAYLOAD_PLACE + GET_BODY_PAYLOAD as usize,
         buffer.len(),
+        connection.step(Move::GetBody(asked)),
     );
     if is_written(sent) {
         write_get_body(buffer, asked);
@@ -221,9 +221,9 @@ pub fn end(connection: Connection, buffer: &mut [u8], reuse: bool) -> Sent
     ensures { λ _. ⌜ now (buffer .exit) ≡ bufferAfter (endCall connection reuse) (now (buffer .entry)) ⌝ }
 {
     let sent = ready(
-        connection.step(Move::End(reuse)),
         PAYLOAD_PLACE + END_PAYLOAD as usize,
         buffer.len(),
+        connection.step(Move::End(reuse)),
     );
     if is_written(sent) {
         write_end(buffer, reuse);

@@ -7,12 +7,12 @@ use Prim.Native.Nat.{ℕ}
 use borrow.Author.Tests.{not-true, not-false}
 use Rattle.wire.specs.Pick.{pick}
 use Rattle.wire.specs.Field.{byteAt}
-use Rattle.payload.specs.Code.{codePlace}
 use Rattle.short_ways.specs.Short.{isChunk, chunkSize}
 use Rattle.short_ways.proofs.ShortWays.{chunk-size-by}
 use borrow.Author.Needs.{needs}
 use Rattle.short_ways.proofs.chunk_size.Statement.{statement}
 use Rattle.short_ways.proofs.chunk_size.Tie as tie
+use Rattle.wire.specs.Packet.{codePlace}
 
 allows-requires : tie.Need-allows-requires
 allows-requires c κs = search needs

@@ -4,12 +4,12 @@ use native.Mathlib.Omega.{arith}
 use borrow.Author.Needs.{needs}
 use mathlib.Core.Path.{sym, ap, _∙_}
 use lib.ListN.{length}
-use Rattle.payload.specs.Code.{payloadPlace}
 use Rattle.building.specs.Field.{sizeTold}
 use Rattle.building.proofs.Sizes.{told-exact}
 use Rattle.writer.proofs.Laws.{body-none, body-row}
 use Rattle.writer.proofs.body_needs.Statement.{statement}
 use Rattle.writer.proofs.body_needs.Tie as tie
+use Rattle.wire.specs.Packet.{payloadPlace}
 
 returns : tie.Need-returns
 returns c = sym (ap (λ l. sizeTold (length l)) (body-none (c .before .before .args .bytes .now) (c .if1 .taken)) ∙ told-exact payloadPlace (omega arith))

@@ -3,12 +3,12 @@
 use mathlib.Core.Path.{ap, _∙_}
 use native.Mathlib.Omega.{arith}
 use lib.ListN.{length}
-use Rattle.payload.specs.Sequence.{booleanNumber}
 use Rattle.views.proofs.Laws.{null-is}
 use Rattle.ajp13.proofs.Views.{start-within, text-most, words-are}
 use borrow.Author.Needs.{needs}
 use Rattle.ajp13.proofs.view.text_words.Statement.{statement}
 use Rattle.ajp13.proofs.view.text_words.Tie as tie
+use Rattle.wire.specs.Field.{booleanNumber}
 
 length-at-requires : tie.Need-length-at-requires
 length-at-requires c κs = search needs

@@ -9,12 +9,13 @@ use lib.Dec.{leb, eqb}
 use lib.ListN.{length, getD}
 use Rattle.connection.specs.Connection.{maxPacket}
 use Rattle.places.specs.Entries.{maxHeaders}
-use Rattle.payload.specs.Code.{codeOf, codePlace, payloadPlace}
+use Rattle.payload.specs.Code.{codeOf}
 use Rattle.building_record.proofs.Laws.{possible-by}
 use Rattle.building_record.specs.Record.{countSize}
 use borrow.Author.Needs.{needs}
 use Rattle.building_record.proofs.Building.is_possible.Statement.{statement}
 use Rattle.building_record.proofs.Building.is_possible.Tie as tie
+use Rattle.wire.specs.Packet.{codePlace, payloadPlace}
 
 index-requires : tie.Need-index-requires
 index-requires c κs = search needs
