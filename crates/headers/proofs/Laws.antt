@@ -20,9 +20,9 @@ use Rattle.wire.specs.declared.read.StringRead.{StringRead}
 use Rattle.wire.specs.Facts.{NumberInside, StringInside}
 use Rattle.wire.proofs.Field.{integer-inside, string-inside}
 use Rattle.names.specs.Header.{beginsCode, codeFault, spelledFault}
-use Rattle.names.specs.Length.{lengthAfter}
-use Rattle.names.specs.declared.length.Declared.{Declared}
-use Rattle.names.specs.declared.length.LengthRead.{LengthRead}
+use Rattle.headers.specs.Length.{lengthAfter}
+use Rattle.headers.specs.declared.length.Declared.{Declared}
+use Rattle.headers.specs.declared.length.LengthRead.{LengthRead}
 use Rattle.places.specs.Entries.{Entries, ended, front}
 use Rattle.places.proofs.Filling.{Filling, filling-start, filling-turn, filling-stop, filling-end}
 use Rattle.headers.specs.Headers.{codeNameOf, spelledAt, spelledOf, nameAt, declaredAfter, headerValued, headerValueOf, headerValueAt, headerOf, headerAt, headerThen, headersAt}

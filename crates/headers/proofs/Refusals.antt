@@ -16,10 +16,11 @@ use Rattle.wire.specs.declared.read.StringRead.{StringRead}
 use Rattle.wire.proofs.Refusals.{fault-refusal, NumberRefusal, integer-refusal, StringRefusal, string-refusal}
 use Rattle.packet.specs.declared.Direction.{Direction}
 use Rattle.names.specs.Header.{beginsCode, codeFault, spelledFault}
-use Rattle.names.specs.Length.{lengthAfter}
-use Rattle.names.specs.declared.length.Declared.{Declared}
-use Rattle.names.specs.declared.length.LengthRead.{LengthRead}
-use Rattle.names.proofs.Refusals.{code-fault, spelled-fault, DeclaringRefusal, declare-refusal}
+use Rattle.headers.specs.Length.{lengthAfter}
+use Rattle.headers.specs.declared.length.Declared.{Declared}
+use Rattle.headers.specs.declared.length.LengthRead.{LengthRead}
+use Rattle.names.proofs.Refusals.{code-fault, spelled-fault}
+use Rattle.headers.proofs.ContentLength.{LengthRefusal, length-refusal}
 use Rattle.places.specs.Entries.{Entries}
 use Rattle.headers.specs.Headers.{nameUnless, codeNameOf, spelledAt, spelledOf, nameAt, declares, declaredAfter, headerValued, headerValueOf, headerValueAt, headerOf, headerAt, headerThen, headersAt}
 use Rattle.headers.specs.declared.NameRead.{NameRead}
@@ -74,13 +75,13 @@ abbrev pub HeaderRefusal : HeaderRead → Type 0
 HeaderRefusal (HeaderRead.Refused n) = isRefusal n ≡ true
 HeaderRefusal (HeaderRead.Header value declared next) = Unit
 
-valued-refusal : (at next : ℕ) (r : LengthRead) → DeclaringRefusal r → HeaderRefusal (headerValued at next r)
+valued-refusal : (at next : ℕ) (r : LengthRead) → LengthRefusal r → HeaderRefusal (headerValued at next r)
 valued-refusal at next (LengthRead.Refused n) h = h
 valued-refusal at next (LengthRead.Now declared) h = tt
 
-declared-refusal : (isLength : Bool) (before : Declared) (null : Bool) (text : List ℕ) → DeclaringRefusal (declaredAfter isLength before null text)
+declared-refusal : (isLength : Bool) (before : Declared) (null : Bool) (text : List ℕ) → LengthRefusal (declaredAfter isLength before null text)
 unfolding declaredAfter
-declared-refusal true before null text = declare-refusal before null text
+declared-refusal true before null text = length-refusal before null text
 declared-refusal false before null text = tt
 
 value-of-refusal : (s : List ℕ) (at : ℕ) (isLength : Bool) (before : Declared) (r : StringRead) → StringRefusal r

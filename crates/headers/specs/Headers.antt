@@ -15,9 +15,9 @@ use Rattle.wire.specs.declared.StringField.{StringField}
 use Rattle.wire.specs.declared.read.NumberRead.{NumberRead}
 use Rattle.wire.specs.declared.read.StringRead.{StringRead}
 use Rattle.names.specs.Header.{beginsCode, codeFault, spelledFault, isRequest}
-use Rattle.names.specs.Length.{isContentLength, lengthAfter}
-use Rattle.names.specs.declared.length.Declared.{Declared}
-use Rattle.names.specs.declared.length.LengthRead.{LengthRead}
+use Rattle.headers.specs.Length.{isContentLength, lengthAfter}
+use Rattle.headers.specs.declared.length.Declared.{Declared}
+use Rattle.headers.specs.declared.length.LengthRead.{LengthRead}
 use Rattle.places.specs.Entries.{Entries, ended, front}
 use Rattle.headers.specs.declared.NameRead.{NameRead}
 use Rattle.headers.specs.declared.HeaderRead.{HeaderRead}

@@ -12,9 +12,6 @@ ghost use Rattle.names.specs.Header.{spelledFault};
 ghost use Rattle.places.specs.Private.{maxPlace};
 ghost use Rattle.headers.specs.Headers.{nameAt, codeNameOf, spelledOf, declares, declaredAfter, headerValueAt, headerValued, headerAt, headersAt};
 use names::header;
-use names::length;
-use names::length::Declared;
-use names::length::LengthRead;
 use names::token;
 use names::token::BYTES;
 use packet::Direction;
@@ -29,6 +26,11 @@ use wire::read;
 use wire::read::NumberRead;
 use wire::read::StringRead;
 use wire::refusal;
+
+pub mod length;
+
+use crate::length::Declared;
+use crate::length::LengthRead;
 
 // A header's name: refused, its code, or where its bytes start and how many they are. next is the place after it.
 pub enum NameRead {
@@ -175,10 +177,10 @@ pub fn declared_after(declares: bool, before: Declared, null: bool, text: &[u8])
 }
 
 // A header whose value was read, by what is declared then.
-fn valued(at: usize, next: usize, isLength: LengthRead) -> HeaderRead
-    ensures { λ r. ⌜ r ≡ headerValued at next isLength ⌝ }
+fn valued(at: usize, next: usize, length: LengthRead) -> HeaderRead
+    ensures { λ r. ⌜ r ≡ headerValued at next length ⌝ }
 {
-    match isLength {
+    match length {
         LengthRead::Refused(n) => HeaderRead::Refused(n),
         LengthRead::Now(declared) => HeaderRead::Header {
             value: at,

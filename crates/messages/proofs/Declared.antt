@@ -22,12 +22,12 @@ use Rattle.wire.specs.declared.read.StringRead.{StringRead}
 use Rattle.names.specs.Names.{ascii, requestNames, namesIn, firstCode, isListed, nameFor, letter, sameName, codeFrom, codeIn}
 use Rattle.names.specs.Header.{beginsCode, codeFault, isFound, headerNames, unlistedFault, spelledFault}
 use Rattle.names.specs.Token.{isToken}
-use Rattle.names.specs.Length.{within, digits, decimalOf, decimalDeclared, isContentLength, lengthAfter, declaredLength}
+use Rattle.headers.specs.Length.{within, digits, decimalOf, decimalDeclared, isContentLength, lengthAfter, declaredLength}
 use Rattle.names.specs.declared.NameList.{NameList}
 use Rattle.names.specs.declared.CodeFound.{CodeFound}
-use Rattle.names.specs.declared.length.Decimal.{Decimal}
-use Rattle.names.specs.declared.length.Declared.{Declared}
-use Rattle.names.specs.declared.length.LengthRead.{LengthRead}
+use Rattle.headers.specs.declared.length.Decimal.{Decimal}
+use Rattle.headers.specs.declared.length.Declared.{Declared}
+use Rattle.headers.specs.declared.length.LengthRead.{LengthRead}
 use Rattle.names.proofs.Rule.{agree}
 use Rattle.headers.specs.Headers.{codeNameOf, spelledAt, spelledOf, nameAt, declares, declaredAfter, headerValued, headerValueOf, headerValueAt, headerOf, headerAt, headerThen, headersAt}
 use Rattle.headers.specs.declared.NameRead.{NameRead}

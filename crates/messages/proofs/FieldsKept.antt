@@ -25,8 +25,8 @@ use Rattle.wire.proofs.Parts.{part-join}
 use Rattle.names.specs.Header.{beginsCode, codeFault, spelledFault}
 use Rattle.names.specs.Attribute.{attributeKind}
 use Rattle.packet.specs.declared.AttributeKind.{AttributeKind}
-use Rattle.names.specs.declared.length.Declared.{Declared}
-use Rattle.names.specs.declared.length.LengthRead.{LengthRead}
+use Rattle.headers.specs.declared.length.Declared.{Declared}
+use Rattle.headers.specs.declared.length.LengthRead.{LengthRead}
 use Rattle.headers.specs.Headers.{codeNameOf, spelledAt, spelledOf, nameAt, declares, declaredAfter, headerValued, headerValueOf, headerValueAt, headerOf, headerAt, headerThen, headersAt}
 use Rattle.headers.specs.declared.NameRead.{NameRead}
 use Rattle.headers.specs.declared.HeaderRead.{HeaderRead}

@@ -24,12 +24,12 @@ use Rattle.wire.proofs.Field.{size-null, size-text}
 use Rattle.wire.proofs.RoundTrip.{integer-written}
 use Rattle.names.specs.Names.{requestNames, responseNames, isListed, firstCode, namesIn}
 use Rattle.names.specs.Header.{beginsCode, codeFault, spelledFault}
-use Rattle.names.specs.Length.{decimalOf, decimalDeclared}
+use Rattle.headers.specs.Length.{decimalOf, decimalDeclared}
 use Rattle.names.specs.Attribute.{attributeKind, mayRepeat, isServed, attributeFault}
 use Rattle.packet.specs.declared.AttributeKind.{AttributeKind}
-use Rattle.names.specs.declared.length.Decimal.{Decimal}
-use Rattle.names.specs.declared.length.Declared.{Declared}
-use Rattle.names.specs.declared.length.LengthRead.{LengthRead}
+use Rattle.headers.specs.declared.length.Decimal.{Decimal}
+use Rattle.headers.specs.declared.length.Declared.{Declared}
+use Rattle.headers.specs.declared.length.LengthRead.{LengthRead}
 use Rattle.names.specs.declared.NameList.{NameList}
 use Rattle.connection.specs.Connection.{maxPacket}
 use Rattle.headers.specs.Headers.{declares, declaredAfter, headerValued, headerValueOf, headerValueAt, spelledOf, nameAt, headerOf, headerAt, nameUnless}

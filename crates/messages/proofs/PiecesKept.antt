@@ -23,8 +23,8 @@ use Rattle.wire.proofs.Field.{boolean-inside}
 use Rattle.wire.specs.Facts.{BooleanInside, Bytes}
 use Rattle.wire.proofs.RoundTrip.{boolean-kept}
 use Rattle.wire.proofs.Parts.{rest-part, same-front, same-rest}
-use Rattle.names.specs.Length.{declaredLength}
-use Rattle.names.specs.declared.length.Declared.{Declared}
+use Rattle.headers.specs.Length.{declaredLength}
+use Rattle.headers.specs.declared.length.Declared.{Declared}
 use Rattle.connection.specs.Cycle.{directionOf}
 use Rattle.connection.specs.declared.Kind.{Kind}
 use Rattle.places.specs.Entries.{maxHeaders, maxAttributes}

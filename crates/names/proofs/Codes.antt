@@ -19,7 +19,6 @@ use Rattle.names.specs.declared.CodeFound.{CodeFound}
 use Rattle.names.specs.Token.{tokenByte, isToken}
 use Rattle.names.specs.Attribute.{attributeKind, isServed}
 use Rattle.names.specs.Header.{headerNames, isFound, unlistedFault, spelledFault}
-use Rattle.names.specs.Length.{contentLengthCode, isContentLength}
 use Rattle.names.specs.Names.{ascii, methodNames, requestNames, responseNames, attributeNames, namesIn, firstCode, ignoresCase, isListed, nameFor, letter, sameName, codeFrom, codeIn}
 use Rattle.names.specs.Row.{nameRoom, padded, nameBytes}
 use Rattle.names.specs.Private.{inSet, hasAll, alphabetPlace}
@@ -210,11 +209,6 @@ module _ (list : NameList) (text : List ℕ) where
       ∙ ap (λ (b : ℕ). b % 32) q
       ∙ letter-place (ignoresCase list) (getD text 0 0))))
       has not-this
-
--- the code of content-length is that of its name in the list
-pub content-length : (n : ℕ) → isContentLength n ≡ true → nameFor NameList.RequestHeaders n ≡ ascii "content-length"
-unfolding nameFor requestNames
-content-length n e = let q : n ≡ contentLengthCode = eqb-true n contentLengthCode e in rw q
 
 -- the attribute codes that are served are those that have a name
 pub served-listed : (n : ℕ) → n < 256 → isServed (attributeKind n) ≡ isListed NameList.Attributes n

@@ -1,6 +1,5 @@
 pub mod Rule
 pub mod Laws
 pub mod Rows
-pub mod Digits
 pub mod Codes
 pub mod Refusals

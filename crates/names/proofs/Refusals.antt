@@ -1,20 +1,16 @@
--- The faults of a name, of an attribute's code and of a declared length are numbers of document 01, or none.
+-- The faults of a name and of an attribute's code are numbers of document 01, or none.
 -- Assumes nothing.
 use mathlib.Core.Path.{_≡_, refl}
 use mathlib.Core.Bool.{Bool, true, false, not}
 use mathlib.Core.List.{List}
 use Prim.Native.Nat.{ℕ}
 use Rattle.wire.specs.Pick.{pick, both}
-use Rattle.wire.specs.Refusal.{none, nameWrong, attributeWrong, contentLengthWrong, isRefusal, isFault}
+use Rattle.wire.specs.Refusal.{none, nameWrong, attributeWrong, contentLengthWrong, isFault}
 use Rattle.packet.specs.declared.Direction.{Direction}
-use Rattle.names.specs.declared.length.Decimal.{Decimal}
-use Rattle.names.specs.declared.length.Declared.{Declared}
-use Rattle.names.specs.declared.length.LengthRead.{LengthRead}
 use Rattle.names.specs.Names.{isListed, codeIn}
 use Rattle.names.specs.Token.{isToken}
 use Rattle.names.specs.Header.{headerNames, codeFault, isFound, isTransferEncoding, isRequest, unlistedFault, spelledFault}
 use Rattle.names.specs.Attribute.{attributeKind, mayRepeat, isServed, attributeFault}
-use Rattle.names.specs.Length.{decimalOf, decimalDeclared, lengthAfter}
 
 -- a choice between two faults is one
 fault-of : (t : Bool) (a b : ℕ) → isFault a ≡ true → isFault b ≡ true → isFault (pick t a b) ≡ true
@@ -41,18 +37,3 @@ unfolding attributeFault
 attribute-fault code seen =
     let again = both seen (not (mayRepeat code)) in
     fault-of (isServed (attributeKind code)) (pick again attributeWrong none) attributeWrong (fault-of again attributeWrong none refl refl) refl
-
--- what a content-length declares, where it is refused
-abbrev pub DeclaringRefusal : LengthRead → Type 0
-DeclaringRefusal (LengthRead.Refused n) = isRefusal n ≡ true
-DeclaringRefusal (LengthRead.Now declared) = Unit
-
-as-declared-refusal : (r : Decimal) → DeclaringRefusal (decimalDeclared r)
-as-declared-refusal (Decimal.Value n) = tt
-as-declared-refusal Decimal.Bad = refl
-
--- a content-length
-pub declare-refusal : (before : Declared) (null : Bool) (text : List ℕ) → DeclaringRefusal (lengthAfter before null text)
-declare-refusal Declared.Absent true text = refl
-declare-refusal Declared.Absent false text = as-declared-refusal (decimalOf text)
-declare-refusal (Declared.Known n) null text = refl

@@ -3,5 +3,4 @@ pub mod Names
 pub mod Row
 pub mod Header
 pub mod Attribute
-pub mod Length
 pub mod Private

@@ -52,7 +52,7 @@ pub fn is_transfer_encoding(text: &[u8]) -> bool
         bytes: *b"transfer-encoding",
         len: NAME_ROOM,
     };
-    table::spells(name, text, true)
+    table::spells(true, name, text)
 }
 
 // The lengths of the listed names of a request and of a response, as sets: bit n is set for n bytes.

@@ -1,9 +1,8 @@
-// Names and codes: tokens, the listed names of methods, headers and attributes, and the declared length of a body.
+// Names and codes: tokens, and the listed names of methods, headers and attributes.
 // An inner crate: the layers above call it, a user of the library does not. Every call answers for any bytes and any code.
 
 pub mod attribute;
 pub mod header;
-pub mod length;
 pub mod table;
 pub mod token;
 

@@ -6,7 +6,7 @@ use Prim.Native.Nat.{ℕ, _+_, _≤_}
 use native.Mathlib.Omega.{arith}
 use lib.ListN.{length}
 use Rattle.packet.specs.declared.Direction.{Direction}
-use Rattle.names.specs.declared.length.Declared.{Declared}
+use Rattle.headers.specs.declared.length.Declared.{Declared}
 use Rattle.places.specs.Entries.{maxAttributes}
 use Rattle.headers.specs.Headers.{headersAt}
 use Rattle.headers.specs.declared.HeadersRead.{HeadersRead}

@@ -20,11 +20,11 @@ use Rattle.wire.specs.declared.read.NumberRead.{NumberRead}
 use Rattle.wire.specs.declared.read.BooleanRead.{BooleanRead}
 use Rattle.wire.specs.declared.read.StringRead.{StringRead}
 use Rattle.wire.proofs.Field.{integer-inside}
-use Rattle.names.specs.Length.{declaredLength}
+use Rattle.headers.specs.Length.{declaredLength}
 use Rattle.names.specs.Attribute.{attributeKind, attributeFault}
 use Rattle.packet.specs.declared.AttributeKind.{AttributeKind}
-use Rattle.names.specs.declared.length.Declared.{Declared}
-use Rattle.names.specs.declared.length.LengthRead.{LengthRead}
+use Rattle.headers.specs.declared.length.Declared.{Declared}
+use Rattle.headers.specs.declared.length.LengthRead.{LengthRead}
 use Rattle.places.specs.Entries.{Entries, ended, maxHeaders, maxAttributes}
 use Rattle.headers.specs.Headers.{nameAt, declares, declaredAfter, headerValued, headerValueOf, headerValueAt, headerOf, headerAt, headerThen, headersAt}
 use Rattle.headers.specs.declared.NameRead.{NameRead}

@@ -13,8 +13,8 @@ use Rattle.wire.specs.Bytes.{over}
 use Rattle.packet.specs.declared.Direction.{Direction}
 use Rattle.wire.specs.declared.StringField.{StringField}
 use Rattle.wire.proofs.Bytes.{over-none, over-over}
-use Rattle.names.specs.Length.{declaredLength}
-use Rattle.names.specs.declared.length.Declared.{Declared}
+use Rattle.headers.specs.Length.{declaredLength}
+use Rattle.headers.specs.declared.length.Declared.{Declared}
 use Rattle.places.specs.Entries.{maxHeaders, maxAttributes}
 use Rattle.headers.specs.Headers.{headersAt}
 use Rattle.headers.specs.declared.HeadersRead.{HeadersRead}

@@ -14,8 +14,8 @@ use Rattle.packet.specs.declared.Direction.{Direction}
 use Rattle.wire.specs.declared.StringField.{StringField}
 use Rattle.wire.specs.declared.read.NumberRead.{NumberRead}
 use Rattle.wire.specs.declared.read.BooleanRead.{BooleanRead}
-use Rattle.names.specs.Length.{declaredLength}
-use Rattle.names.specs.declared.length.Declared.{Declared}
+use Rattle.headers.specs.Length.{declaredLength}
+use Rattle.headers.specs.declared.length.Declared.{Declared}
 use Rattle.connection.specs.declared.Kind.{Kind}
 use Rattle.connection.specs.Cycle.{moveKind}
 use Rattle.places.specs.Entries.{maxHeaders, maxAttributes}

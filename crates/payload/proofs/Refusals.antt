@@ -16,8 +16,8 @@ use Rattle.wire.specs.declared.read.StringRead.{StringRead}
 use Rattle.wire.proofs.Refusals.{NumberRefusal, byte-refusal, integer-refusal, BooleanRefusal, boolean-refusal, StringRefusal, string-refusal}
 use Rattle.packet.specs.declared.Direction.{Direction}
 use Rattle.packet.specs.declared.Packet.{Packet}
-use Rattle.names.specs.Length.{declaredLength}
-use Rattle.names.specs.declared.length.Declared.{Declared}
+use Rattle.headers.specs.Length.{declaredLength}
+use Rattle.headers.specs.declared.length.Declared.{Declared}
 use Rattle.connection.specs.declared.Kind.{Kind}
 use Rattle.places.specs.Entries.{maxHeaders, maxAttributes}
 use Rattle.headers.specs.declared.HeadersRead.{HeadersRead}

@@ -8,8 +8,8 @@ use lib.ListN.{length}
 use Rattle.wire.specs.Pick.{pick}
 use Rattle.wire.specs.Refusal.{leftOver}
 use Rattle.packet.specs.declared.Direction.{Direction}
-use Rattle.names.specs.Length.{declaredLength}
-use Rattle.names.specs.declared.length.Declared.{Declared}
+use Rattle.headers.specs.Length.{declaredLength}
+use Rattle.headers.specs.declared.length.Declared.{Declared}
 use Rattle.places.specs.Entries.{Entries, ended, followed, ending, maxAttributes}
 use Rattle.headers.specs.Headers.{headersAt}
 use Rattle.headers.specs.declared.HeadersRead.{HeadersRead}

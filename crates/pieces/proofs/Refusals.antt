@@ -12,11 +12,12 @@ use Rattle.packet.specs.declared.Direction.{Direction}
 use Rattle.names.specs.Attribute.{attributeKind}
 use Rattle.names.specs.Header.{headerNames, spelledFault}
 use Rattle.names.specs.Names.{codeIn}
-use Rattle.names.specs.Length.{lengthAfter}
+use Rattle.headers.specs.Length.{lengthAfter}
 use Rattle.names.specs.declared.CodeFound.{CodeFound}
-use Rattle.names.specs.declared.length.Declared.{Declared}
-use Rattle.names.specs.declared.length.LengthRead.{LengthRead}
-use Rattle.names.proofs.Refusals.{code-fault, spelled-fault, DeclaringRefusal, declare-refusal}
+use Rattle.headers.specs.declared.length.Declared.{Declared}
+use Rattle.headers.specs.declared.length.LengthRead.{LengthRead}
+use Rattle.names.proofs.Refusals.{code-fault, spelled-fault}
+use Rattle.headers.proofs.ContentLength.{LengthRefusal, length-refusal}
 use Rattle.headers.specs.Headers.{declares, declaredAfter}
 use Rattle.places.specs.Entries.{maxHeaders}
 use Rattle.payload.specs.Forward.{firstMethod, lastMethod}
@@ -44,9 +45,9 @@ refusal-fault n h = go (eqb n none) (isRefusal n) h
 -- what a value declares
 declared-fault : (isLength null : Bool) (text : List ℕ) → isFault (lengthFault (declaredAfter isLength Declared.Absent null text)) ≡ true
 unfolding declaredAfter
-declared-fault true null text = by (lengthAfter Declared.Absent null text) (declare-refusal Declared.Absent null text)
+declared-fault true null text = by (lengthAfter Declared.Absent null text) (length-refusal Declared.Absent null text)
   where
-    by : (d : LengthRead) → DeclaringRefusal d → isFault (lengthFault d) ≡ true
+    by : (d : LengthRead) → LengthRefusal d → isFault (lengthFault d) ≡ true
     by (LengthRead.Refused n) h = refusal-fault n h
     by (LengthRead.Now declared) h = refl
 declared-fault false null text = refl

@@ -13,8 +13,8 @@ use Rattle.wire.specs.declared.StringField.{StringField}
 use Rattle.names.specs.Header.{headerNames, codeFault, spelledFault}
 use Rattle.names.specs.Names.{codeIn}
 use Rattle.names.specs.declared.CodeFound.{CodeFound}
-use Rattle.names.specs.declared.length.Declared.{Declared}
-use Rattle.names.specs.declared.length.LengthRead.{LengthRead}
+use Rattle.headers.specs.declared.length.Declared.{Declared}
+use Rattle.headers.specs.declared.length.LengthRead.{LengthRead}
 use Rattle.headers.specs.Headers.{declares, declaredAfter}
 use Rattle.building.specs.Fault.{orElse, stringFault}
 use Rattle.building.specs.Field.{Field, faultsOf, fieldsBytes, neededAt}

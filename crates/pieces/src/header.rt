@@ -21,11 +21,11 @@ use building::size;
 use building_record::Building;
 use headers::declared_after;
 use headers::declares_length;
+use headers::length::Declared;
+use headers::length::LengthRead;
 use names::CodeFound;
 use names::header::code_fault;
 use names::header::spelled_fault;
-use names::length::Declared;
-use names::length::LengthRead;
 use names::token;
 use packet::Direction;
 use wire::StringField;
@@ -71,10 +71,10 @@ pub fn named_needs(building: Building, name: &[u8], null: bool, value: &[u8]) ->
 }
 
 // The fault of what a value declares.
-fn declaring_fault(isLength: LengthRead) -> u8
-    ensures { λ r. ⌜ r ≡ lengthFault isLength ⌝ }
+fn length_fault(length: LengthRead) -> u8
+    ensures { λ r. ⌜ r ≡ lengthFault length ⌝ }
 {
-    match isLength {
+    match length {
         LengthRead::Refused(n) => n,
         LengthRead::Now(_) => refusal::NONE,
     }
@@ -86,7 +86,7 @@ fn value_fault(declares: bool, null: bool, text: &[u8]) -> u8
 {
     fault::or_else(
         fault::string(StringField::HeaderValue, null, text),
-        declaring_fault(declared_after(declares, Declared::Absent, null, text)),
+        length_fault(declared_after(declares, Declared::Absent, null, text)),
     )
 }
 

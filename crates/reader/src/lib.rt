@@ -65,7 +65,7 @@ pub fn read(
     ensures { λ r. ⌜ receivedMeaning r ≡ reading direction connection (now (bytes .entry)) (length (now (table .entry))) ⌝ }
     ensures { λ r. ⌜ now (table .exit) ≡ tableAfter direction connection (now (bytes .entry)) (now (table .entry)) ⌝ }
 {
-    match frame::frame(bytes, direction) {
+    match frame::frame(direction, bytes) {
         FrameRead::Needs(n) => Received::Needs(n),
         FrameRead::Refused(n) => Received::Refused(n),
         FrameRead::Whole(n) => whole(direction, connection, part_of(bytes, 0, n), table),

@@ -14,7 +14,7 @@ use Rattle.wire.specs.Refusal.{outOfRange, tooMany, leftOver}
 use Rattle.packet.specs.declared.Direction.{Direction}
 use Rattle.wire.specs.declared.StringField.{StringField}
 use Rattle.wire.proofs.Tests.{both-first, both-second}
-use Rattle.names.specs.declared.length.Declared.{Declared}
+use Rattle.headers.specs.declared.length.Declared.{Declared}
 use Rattle.places.specs.Entries.{maxHeaders, maxAttributes}
 use Rattle.headers.specs.declared.HeadersRead.{HeadersRead}
 use Rattle.headers.proofs.Laws.{headers-within}

@@ -12,7 +12,7 @@ use Rattle.wire.specs.Field.{byteAt, integerAt, booleanAt, textAt, afterLength,
 use Rattle.packet.specs.declared.Direction.{Direction}
 use Rattle.names.specs.Header.{codeFault}
 use Rattle.names.specs.Names.{isListed, requestNames, responseNames}
-use Rattle.names.specs.Length.{digits, decimalOf}
+use Rattle.headers.specs.Length.{digits, decimalOf}
 use Rattle.connection.specs.Cycle.{largestBody, stepOf}
 use Rattle.places.specs.Entries.{maxPlaces}
 use Rattle.headers.specs.Headers.{codeNameOf, nameAt, declaredAfter, headerValueAt, headerAt, headersAt}

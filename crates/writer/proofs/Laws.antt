@@ -35,17 +35,17 @@ use Rattle.writer.specs.Sending.{packetOf, sendingFaults, sending, bareP
 
 -- what `ready` promises where the step goes on, by whether the packet fits
 pub ready-next : (size room : ℕ) (step : Step) (d : Connection) (fit : ℕ) (t : Bool) → step ≡ Step.Next d → fit ≡ fitFault size room → eqb fit 0 ≡ t
-    → pick t (done (record { size = size; connection = d })) (refused fit) ≡ readyOf size room step
+    → pick t (done (record { size = size; connection = d })) (refused fit) ≡ readyOf step size room
 ready-next size room step d fit t e f h = rw (e, ← h, f)
 
 -- and what it promises for the step of a move: 13, then 14, then whether the packet fits
 ready-step : (c : Connection) (m : Move) (size room : ℕ)
-    → readyOf size room (stepOf c m)
+    → readyOf (stepOf c m) size room
     ≡ outcomeBy (orElse (firstFault (sendingFaults c m)) (fitFault size room)) (record { size = size; connection = after c m })
 unfolding stepOf
 ready-step c m size room = go (inState c (moveKind m)) (inSize c m)
   where
-    go : (a b : Bool) → readyOf size room (pick a (pick b (Step.Next (after c m)) (Step.Refused bodySizeWrong)) (Step.Refused notNow))
+    go : (a b : Bool) → readyOf (pick a (pick b (Step.Next (after c m)) (Step.Refused bodySizeWrong)) (Step.Refused notNow)) size room
         ≡ outcomeBy (orElse (firstFault (unless a notNow ∷ unless b bodySizeWrong ∷ [])) (fitFault size room))
         (record { size = size; connection = after c m })
     go true true = refl
@@ -62,7 +62,7 @@ answered-same fault v w e = go (eqb fault 0) refl
 
 -- what `ready` promises for the size that is told of a packet is what sending it comes to: a size that fits is told as it is
 ready-outcome : (c : Connection) (m : Move) (payload buffer : List ℕ) (size : ℕ) → size ≡ sizeTold (length (packetOf m payload))
-    → readyOf size (length buffer) (stepOf c m) ≡ outcome (sending c m payload) (length buffer)
+    → readyOf (stepOf c m) size (length buffer) ≡ outcome (sending c m payload) (length buffer)
 unfolding outcome
 ready-outcome c m payload buffer size told =
     let call : Call Written = sending c m payload in
@@ -94,14 +94,14 @@ pub record Sends (call : Call Written) (buffer : List ℕ) (r : Sent) (written :
 
 -- so it is with what `ready` answers for the packet's step and the size that is told of it
 pub sends : (c : Connection) (m : Move) (payload buffer : List ℕ) (step : Step) (size : ℕ) (r : Sent) (written : Bool)
-    → step ≡ stepOf c m → size ≡ sizeTold (length (packetOf m payload)) → sentOutcome r ≡ readyOf size (length buffer) step → written ≡ isWritten r
+    → step ≡ stepOf c m → size ≡ sizeTold (length (packetOf m payload)) → sentOutcome r ≡ readyOf step size (length buffer) → written ≡ isWritten r
     → Sends (sending c m payload) buffer r written
 unfolding outcome
 sends c m payload buffer step size r written stepped told ready is =
     let call : Call Written = sending c m payload in
     let fault : ℕ = refusalOf call (length buffer) in
     let answer : sentOutcome r ≡ outcome call (length buffer) =
-    ready ∙ ap (readyOf size (length buffer)) stepped ∙ ready-outcome c m payload buffer size told in
+    ready ∙ ap (λ (s : Step). readyOf s size (length buffer)) stepped ∙ ready-outcome c m payload buffer size told in
     let none : eqb fault 0 ≡ written = sym (is ∙ written-none r fault (call .answer) answer) in
     record {
       answer = answer;

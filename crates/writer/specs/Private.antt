@@ -7,6 +7,6 @@ use Rattle.building.specs.Call.{Outcome, refused, outcomeBy}
 use Rattle.writer.specs.Meaning.{Written}
 
 -- what a packet of so many bytes that makes a step comes to on a buffer with so much room
-abbrev pub readyOf : ℕ → ℕ → Step → Outcome Written
-readyOf size room (Step.Refused n) = refused n
-readyOf size room (Step.Next c) = outcomeBy (fitFault size room) (record { size = size; connection = c })
+abbrev pub readyOf : Step → ℕ → ℕ → Outcome Written
+readyOf (Step.Refused n) size room = refused n
+readyOf (Step.Next c) size room = outcomeBy (fitFault size room) (record { size = size; connection = c })

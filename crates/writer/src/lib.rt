@@ -72,8 +72,8 @@ pub fn is_written(sent: Sent) -> bool
 }
 
 // What a packet of so many bytes that makes a step comes to on a buffer with so much room: the step, then whether it fits.
-fn ready(size: usize, room: usize, step: Step) -> Sent
-    ensures { λ r. ⌜ sentOutcome r ≡ readyOf size room step ⌝ }
+fn ready(step: Step, size: usize, room: usize) -> Sent
+    ensures { λ r. ⌜ sentOutcome r ≡ readyOf step size room ⌝ }
 {
     match step {
         Step::Refused(n) => Sent::Refused(n),
@@ -141,9 +141,9 @@ fn bare(connection: Connection, buffer: &mut [u8], m: Move) -> Sent
     ensures { λ _. ⌜ now (buffer .exit) ≡ bufferAfter (bareCall connection m) (now (buffer .entry)) ⌝ }
 {
     let answer = ready(
+        connection.step(m),
         PAYLOAD_PLACE + BARE_PAYLOAD as usize,
         buffer.len(),
-        connection.step(m),
     );
     if is_written(answer) {
         put::open(buffer, m.kind(), BARE_PAYLOAD);
@@ -173,9 +173,9 @@ pub fn body(connection: Connection, buffer: &mut [u8], bytes: &[u8]) -> Sent
     ensures { λ _. ⌜ now (buffer .exit) ≡ bufferAfter (bodyCall connection (now (bytes .entry))) (now (buffer .entry)) ⌝ }
 {
     let sent = ready(
+        connection.step_body(bytes.len()),
         body_needs(bytes),
         buffer.len(),
-        connection.step_body(bytes.len()),
     );
     if is_written(sent) {
         write_body(buffer, bytes);
@@ -189,9 +189,9 @@ pub fn body_chunk(connection: Connection, buffer: &mut [u8], bytes: &[u8]) -> Se
     ensures { λ _. ⌜ now (buffer .exit) ≡ bufferAfter (chunkCall connection (now (bytes .entry))) (now (buffer .entry)) ⌝ }
 {
     let sent = ready(
+        connection.step_body_chunk(bytes.len()),
         body_chunk_needs(bytes),
         buffer.len(),
-        connection.step_body_chunk(bytes.len()),
     );
     if is_written(sent) {
         write_body_chunk(buffer, bytes);
@@ -205,9 +205,9 @@ pub fn get_body(connection: Connection, buffer: &mut [u8], asked: u16) -> Sent
     ensures { λ _. ⌜ now (buffer .exit) ≡ bufferAfter (getCall connection asked) (now (buffer .entry)) ⌝ }
 {
     let sent = ready(
+        connection.step(Move::GetBody(asked)),
         PAYLOAD_PLACE + GET_BODY_PAYLOAD as usize,
         buffer.len(),
-        connection.step(Move::GetBody(asked)),
     );
     if is_written(sent) {
         write_get_body(buffer, asked);
@@ -221,9 +221,9 @@ pub fn end(connection: Connection, buffer: &mut [u8], reuse: bool) -> Sent
     ensures { λ _. ⌜ now (buffer .exit) ≡ bufferAfter (endCall connection reuse) (now (buffer .entry)) ⌝ }
 {
     let sent = ready(
+        connection.step(Move::End(reuse)),
         PAYLOAD_PLACE + END_PAYLOAD as usize,
         buffer.len(),
-        connection.step(Move::End(reuse)),
     );
     if is_written(sent) {
         write_end(buffer, reuse);

@@ -12,11 +12,11 @@ use Rattle.headers.proofs.headers.Statement.{statement}
 use Rattle.headers.proofs.headers.Tie as tie
 
 abbrev Inv-loop : tie.InvT-loop
-Inv-loop packet at direction count table₀ most flags declared₀ place₀ i₀ table declared place i =
+Inv-loop direction packet at count table₀ most flags declared₀ place₀ i₀ table declared place i =
     Reading direction packet at count table₀ table declared place i
 
 abbrev μ-loop : tie.MeasureT-loop
-μ-loop packet at direction count table₀ most flags declared₀ place₀ i₀ table declared place i = most - i
+μ-loop direction packet at count table₀ most flags declared₀ place₀ i₀ table declared place i = most - i
 
 flags-requires : tie.Need-flags-requires Inv-loop μ-loop
 flags-requires c κs = search needs

@@ -24,8 +24,8 @@ enum-known-next c = search needs
 part-of-requires : tie.Need-part-of-requires
 part-of-requires c κs = search needs
 
-declared-by-requires : tie.Need-declared-by-requires
-declared-by-requires c κs = search needs
+declared-after-requires : tie.Need-declared-after-requires
+declared-after-requires c κs = search needs
 
 valued-requires : tie.Need-valued-requires
 valued-requires c κs = search needs
@@ -36,8 +36,8 @@ enum-known-start c = search needs
 part-of-requires-2 : tie.Need-part-of-requires-2
 part-of-requires-2 c κs = search needs
 
-declared-by-requires-2 : tie.Need-declared-by-requires-2
-declared-by-requires-2 c κs = search needs
+declared-after-requires-2 : tie.Need-declared-after-requires-2
+declared-after-requires-2 c κs = search needs
 
 valued-requires-2 : tie.Need-valued-requires-2
 valued-requires-2 c κs = search needs
@@ -56,7 +56,7 @@ returns-2 c =
     let a = call .before .before .before .args in
     c .valued .ensures
     ∙ ap (headerValued (a .at) _)
-    (c .before .declared-by .ensures
+    (c .before .declared-after .ensures
     ∙ ap (declaredAfter (a .declares) (a .before) true) (c .before .before .part-of .ensures ∙ part-none (a .packet .now)))
     ∙ read call (StringRead.Null _) (c .before .before .before .before .next .given .1)
 
@@ -66,7 +66,7 @@ returns-3 c =
     let a = call .before .before .before .args in
     c .valued2 .ensures
     ∙ ap (headerValued (a .at) _)
-    (c .before .declared-by2 .ensures ∙ ap (declaredAfter (a .declares) (a .before) false) (c .before .before .part-of2 .ensures))
+    (c .before .declared-after2 .ensures ∙ ap (declaredAfter (a .declares) (a .before) false) (c .before .before .part-of2 .ensures))
     ∙ read call (StringRead.Text _ _ _) (c .before .before .before .before .start .given .1)
 
 pub value-at-spec : {M : Type 1} → statement M
@@ -78,11 +78,11 @@ value-at-spec =
     enum-known-n
     enum-known-next
     part-of-requires
-    declared-by-requires
+    declared-after-requires
     valued-requires
     enum-known-start
     part-of-requires-2
-    declared-by-requires-2
+    declared-after-requires-2
     valued-requires-2
     returns
     returns-2

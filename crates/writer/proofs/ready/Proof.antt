@@ -3,6 +3,7 @@
 use borrow.Author.Tests.{eq-eqb, ne-eqb}
 use mathlib.Core.Bool.{true, false}
 use mathlib.Core.Path.{sym, ap}
+use Rattle.connection.specs.declared.Step.{Step}
 use Rattle.writer.specs.Private.{readyOf}
 use Rattle.writer.proofs.Laws.{ready-next}
 use borrow.Author.Needs.{needs}
@@ -24,7 +25,9 @@ returns c =
     ready-next (a .size) (a .room) (a .step) _ _ false (c .before .before .before .step2 .given .1) (c .before .fit .ensures) (ne-eqb _ 0 (c .if1 .taken))
 
 returns-2 : tie.Need-returns-2
-returns-2 c = sym (ap (readyOf _ _) (c .before .step .given .1))
+returns-2 c =
+    let a = c .before .before .before .args in
+    sym (ap (λ (s : Step). readyOf s (a .size) (a .room)) (c .before .step .given .1))
 
 returns-3 : tie.Need-returns-3
 returns-3 c =

@@ -17,15 +17,15 @@ use Rattle.names.proofs.table.spells.Statement.{statement}
 use Rattle.names.proofs.table.spells.Tie as tie
 
 abbrev Inv-loop : tie.InvT-loop
-Inv-loop text ignoring bytes n same₀ j₀ same j =
+Inv-loop ignoring text bytes n same₀ j₀ same j =
     (j ≤ n) × (both same (sameName ignoring (drop j (take n bytes)) (drop j text)) ≡ sameName ignoring (take n bytes) text)
 
 abbrev μ-loop : tie.MeasureT-loop
-μ-loop text ignoring bytes n same₀ j₀ same j = n - j
+μ-loop ignoring text bytes n same₀ j₀ same j = n - j
 
 -- the array of a name that is handed in has the room of a name: a part of what the argument is known to be
 whole : (c : tie.Start Inv-loop μ-loop) → length (c .args .name .bytes) ≡ nameRoom
-whole c = sym (length-map (c .args .name .bytes) (λ (b : ℕ). b)) ∙ c .good .0 .1 .1 .0 .1 .0 .1
+whole c = sym (length-map (c .args .name .bytes) (λ (b : ℕ). b)) ∙ c .good .1 .0 .1 .1 .0 .1 .0 .1
 
 -- the length that the loop goes by: at most the array's, and the name's bytes are as many
 room : (c : tie.Joined1 Inv-loop μ-loop) → let name = c .before .before .before .args .name in

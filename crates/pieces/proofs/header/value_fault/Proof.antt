@@ -8,11 +8,11 @@ use Rattle.pieces.proofs.header.value_fault.Tie as tie
 string-requires : tie.Need-string-requires
 string-requires c κs = search needs
 
-declared-by-requires : tie.Need-declared-by-requires
-declared-by-requires c κs = search needs
+declared-after-requires : tie.Need-declared-after-requires
+declared-after-requires c κs = search needs
 
-declaring-fault-requires : tie.Need-declaring-fault-requires
-declaring-fault-requires c κs = search needs
+length-fault-requires : tie.Need-length-fault-requires
+length-fault-requires c κs = search needs
 
 or-else-requires : tie.Need-or-else-requires
 or-else-requires c κs = search needs
@@ -26,7 +26,7 @@ value-fault-spec =
     tie.close
     (tie.spec
     string-requires
-    declared-by-requires
-    declaring-fault-requires
+    declared-after-requires
+    length-fault-requires
     or-else-requires
     returns)

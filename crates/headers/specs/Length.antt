@@ -8,9 +8,9 @@ use lib.Dec.{leb, eqb}
 use lib.ListN.{length}
 use Rattle.wire.specs.Pick.{pick, between}
 use Rattle.wire.specs.Refusal.{contentLengthWrong}
-use Rattle.names.specs.declared.length.Decimal.{Decimal}
-use Rattle.names.specs.declared.length.Declared.{Declared}
-use Rattle.names.specs.declared.length.LengthRead.{LengthRead}
+use Rattle.headers.specs.declared.length.Decimal.{Decimal}
+use Rattle.headers.specs.declared.length.Declared.{Declared}
+use Rattle.headers.specs.declared.length.LengthRead.{LengthRead}
 
 -- the greatest length that can be declared
 abbrev pub maxDeclared : ℕ

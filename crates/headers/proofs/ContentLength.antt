@@ -1,8 +1,9 @@
--- Laws of `digits`, and the invariant of the loop that reads them.
+-- Laws of content-length: its code, its digits with the invariant of the loop that reads them, and that it is refused with a number of
+-- document 01.
 -- Assumes nothing.
-use borrow.Author.Tests.{le-leb}
+use borrow.Author.Tests.{le-leb, eqb-true}
 use mathlib.Core.List.{List, []}
-use mathlib.Core.Path.{_≡_, _∙_}
+use mathlib.Core.Path.{_≡_, _∙_, refl}
 use mathlib.Core.Bool.{Bool, true, false}
 use Prim.Native.Nat.{ℕ, _+_, _-_, _*_, _^_, _≤_, _<_}
 use native.Mathlib.Omega.{arith}
@@ -12,8 +13,13 @@ use lib.Dec.{lit<}
 use lib.ListN.{length, getD, drop, drop-of-length-le}
 use lib.Seq.{drop-cons}
 use Rattle.wire.specs.Pick.{pick, between}
-use Rattle.names.specs.declared.length.Decimal.{Decimal}
-use Rattle.names.specs.Length.{maxDigits, within, digits, decimalOf}
+use Rattle.headers.specs.declared.length.Decimal.{Decimal}
+use Rattle.headers.specs.declared.length.Declared.{Declared}
+use Rattle.headers.specs.declared.length.LengthRead.{LengthRead}
+use Rattle.wire.specs.Refusal.{isRefusal}
+use Rattle.names.specs.declared.NameList.{NameList}
+use Rattle.names.specs.Names.{ascii, requestNames, nameFor}
+use Rattle.headers.specs.Length.{maxDigits, within, digits, decimalOf, decimalDeclared, contentLengthCode, isContentLength, lengthAfter}
 
 -- one digit more, or none
 digits-step : (n : ℕ) (text : List ℕ) (i : ℕ) (t : Bool) → i < length text → between 48 57 (getD text i 0) ≡ t
@@ -63,3 +69,23 @@ unfolding digits
 done text sum i R h =
     let e : drop i text ≡ [] = drop-of-length-le text h in
     rw e at (R .same)
+
+-- the code of content-length is that of its name in the list
+pub content-length : (n : ℕ) → isContentLength n ≡ true → nameFor NameList.RequestHeaders n ≡ ascii "content-length"
+unfolding nameFor requestNames
+content-length n e = let q : n ≡ contentLengthCode = eqb-true n contentLengthCode e in rw q
+
+-- what a content-length declares, where it is refused
+abbrev pub LengthRefusal : LengthRead → Type 0
+LengthRefusal (LengthRead.Refused n) = isRefusal n ≡ true
+LengthRefusal (LengthRead.Now declared) = Unit
+
+decimal-refusal : (r : Decimal) → LengthRefusal (decimalDeclared r)
+decimal-refusal (Decimal.Value n) = tt
+decimal-refusal Decimal.Bad = refl
+
+-- a content-length
+pub length-refusal : (before : Declared) (null : Bool) (text : List ℕ) → LengthRefusal (lengthAfter before null text)
+length-refusal Declared.Absent true text = refl
+length-refusal Declared.Absent false text = decimal-refusal (decimalOf text)
+length-refusal (Declared.Known n) null text = refl

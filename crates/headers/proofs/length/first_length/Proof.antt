@@ -7,12 +7,12 @@ use mathlib.Core.List.{List}
 use Prim.Native.Nat.{ℕ}
 use Rattle.wire.specs.Pick.{pick}
 use Rattle.wire.specs.Refusal.{contentLengthWrong}
-use Rattle.names.specs.declared.length.Decimal.{Decimal}
-use Rattle.names.specs.declared.length.Declared.{Declared}
-use Rattle.names.specs.declared.length.LengthRead.{LengthRead}
-use Rattle.names.specs.Length.{decimalOf, decimalDeclared, lengthAfter}
-use Rattle.names.proofs.length.first_length.Statement.{statement}
-use Rattle.names.proofs.length.first_length.Tie as tie
+use Rattle.headers.specs.declared.length.Decimal.{Decimal}
+use Rattle.headers.specs.declared.length.Declared.{Declared}
+use Rattle.headers.specs.declared.length.LengthRead.{LengthRead}
+use Rattle.headers.specs.Length.{decimalOf, decimalDeclared, lengthAfter}
+use Rattle.headers.proofs.length.first_length.Statement.{statement}
+use Rattle.headers.proofs.length.first_length.Tie as tie
 
 -- what null and the number make
 answer : (null : Bool) (text : List ℕ) (t : Bool) (number : Decimal) → null ≡ t → decimalOf text ≡ number

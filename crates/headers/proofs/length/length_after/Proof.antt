@@ -5,10 +5,10 @@ use mathlib.Core.Path.{_≡_, sym, ap, _∙_}
 use mathlib.Core.Bool.{Bool}
 use mathlib.Core.List.{List}
 use Prim.Native.Nat.{ℕ}
-use Rattle.names.specs.declared.length.Declared.{Declared}
-use Rattle.names.specs.Length.{lengthAfter}
-use Rattle.names.proofs.length.length_after.Statement.{statement}
-use Rattle.names.proofs.length.length_after.Tie as tie
+use Rattle.headers.specs.declared.length.Declared.{Declared}
+use Rattle.headers.specs.Length.{lengthAfter}
+use Rattle.headers.proofs.length.length_after.Statement.{statement}
+use Rattle.headers.proofs.length.length_after.Tie as tie
 
 enum-told : tie.Need-enum-told
 enum-told c = search needs
@@ -29,6 +29,6 @@ returns c = case-of _ _ _ (Declared.Known _) (c .enum-told .given .1)
 returns-2 : tie.Need-returns-2
 returns-2 c = c .first-length .ensures ∙ case-of _ _ _ Declared.Absent (c .before .enum-told2 .given .1)
 
-pub declare-length-spec : {M : Type 1} → statement M
-declare-length-spec =
+pub length-after-spec : {M : Type 1} → statement M
+length-after-spec =
     tie.close (tie.spec enum-told enum-told-2 first-length-requires returns returns-2)

@@ -7,9 +7,9 @@ use mathlib.Core.Bool.{false}
 use Prim.Native.Nat.{_-_}
 use native.Mathlib.Omega.{arith}
 use lib.ListN.{length}
-use Rattle.names.proofs.Digits.{Reading, start, room, turn, stop, done, decimal-long}
-use Rattle.names.proofs.length.decimal_of.Statement.{statement}
-use Rattle.names.proofs.length.decimal_of.Tie as tie
+use Rattle.headers.proofs.ContentLength.{Reading, start, room, turn, stop, done, decimal-long}
+use Rattle.headers.proofs.length.decimal_of.Statement.{statement}
+use Rattle.headers.proofs.length.decimal_of.Tie as tie
 
 abbrev Inv-loop : tie.InvT-loop
 Inv-loop text sum₀ i₀ sum i = Reading text sum i

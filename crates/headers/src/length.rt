@@ -1,6 +1,6 @@
 // The declared length of a request's body.
 ghost use mathlib.Core.Path.{_≡_};
-ghost use Rattle.names.specs.Length.{isContentLength, decimalOf, lengthAfter, declaredLength};
+ghost use Rattle.headers.specs.Length.{isContentLength, decimalOf, lengthAfter, declaredLength};
 use wire::refusal;
 
 // Whether a request header's code is that of content-length.
