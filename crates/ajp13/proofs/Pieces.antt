@@ -18,7 +18,7 @@ use Rattle.building_record.specs.declared.Building.{Building}
 use Rattle.building_record.proofs.Laws.{possible-yes}
 use Rattle.ajp13.specs.Status as status
 use Rattle.ajp13.specs.Words.{buildingSize, buildingRoom, buildingFault, buildingIn, buildingWords}
-use Rattle.ajp13.specs.Building.{Piece, PieceEffect, pieceLeaves, afterAdding, pieceEffect}
+use Rattle.ajp13.specs.Piece.{Piece, PieceEffect, pieceLeaves, afterAdding, pieceEffect}
 use Rattle.ajp13.proofs.Records.{building-back, building-right}
 
 module _ (piece : Piece) (building buffer : List ℕ) {found : ℕ} (is : found ≡ firstFault (piece .faults)) where

@@ -8,4 +8,4 @@ pub mod Private
 pub mod View
 pub mod Name
 pub mod Fixed
-pub mod Building
+pub mod Piece

@@ -7,7 +7,7 @@ ghost use lib.ListN.{length};
 ghost use Rattle.building.specs.Fault.{firstFault};
 ghost use Rattle.pieces.specs.Meaning.{addedOutcome};
 ghost use Rattle.ajp13.specs.Words.{buildingSize, buildingFault};
-ghost use Rattle.ajp13.specs.Building.{pieceLeaves, afterAdding, pieceEffect, forwardPiece, sendHeadersPiece, codedPiece, spelledPiece, namedPiece, textPiece, integerPiece, pairPiece};
+ghost use Rattle.ajp13.specs.Piece.{pieceLeaves, afterAdding, pieceEffect, forwardPiece, sendHeadersPiece, codedPiece, spelledPiece, namedPiece, textPiece, integerPiece, pairPiece};
 use crate::fixed::fixed_fault;
 use crate::fixed::nulls_in;
 use crate::fixed::numbers_in;

@@ -2,8 +2,8 @@
 -- Assumes nothing.
 use mathlib.Core.Path.{refl, _∙_}
 use borrow.Author.Needs.{needs}
-use Rattle.ajp13.proofs.building.piece_fault.Statement.{statement}
-use Rattle.ajp13.proofs.building.piece_fault.Tie as tie
+use Rattle.ajp13.proofs.piece.piece_fault.Statement.{statement}
+use Rattle.ajp13.proofs.piece.piece_fault.Tie as tie
 
 building-fault-requires : tie.Need-building-fault-requires
 building-fault-requires c κs = search needs

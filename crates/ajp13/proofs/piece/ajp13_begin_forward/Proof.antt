@@ -3,12 +3,12 @@
 use mathlib.Core.Path.{_≡_, refl, sym, _∙_}
 use Rattle.building.specs.Fault.{firstFault}
 use Rattle.building.proofs.Faults.{Faultless, faultless}
-use Rattle.ajp13.specs.Building.{Piece, forwardPiece}
+use Rattle.ajp13.specs.Piece.{Piece, forwardPiece}
 use Rattle.ajp13.proofs.FixedWords.{fixed-fits}
 use Rattle.ajp13.proofs.Pieces.{piece-fault, piece-called, room-fits}
 use borrow.Author.Needs.{needs}
-use Rattle.ajp13.proofs.building.ajp13_begin_forward.Statement.{statement}
-use Rattle.ajp13.proofs.building.ajp13_begin_forward.Tie as tie
+use Rattle.ajp13.proofs.piece.ajp13_begin_forward.Statement.{statement}
+use Rattle.ajp13.proofs.piece.ajp13_begin_forward.Tie as tie
 
 -- the piece that is to be added
 abbrev piece : tie.After-or-else → Piece

@@ -3,13 +3,13 @@
 use mathlib.Core.Path.{_≡_, refl, sym, _∙_}
 use Rattle.building.specs.Fault.{firstFault}
 use Rattle.building.proofs.Faults.{Faultless, faultless}
-use Rattle.ajp13.specs.Building.{Piece, pairPiece}
+use Rattle.ajp13.specs.Piece.{Piece, pairPiece}
 use Rattle.ajp13.proofs.Records.{building-fits}
 use Rattle.ajp13.proofs.Effects.{number-within}
 use Rattle.ajp13.proofs.Pieces.{piece-fault, piece-called}
 use borrow.Author.Needs.{needs}
-use Rattle.ajp13.proofs.building.ajp13_attribute_pair.Statement.{statement}
-use Rattle.ajp13.proofs.building.ajp13_attribute_pair.Tie as tie
+use Rattle.ajp13.proofs.piece.ajp13_attribute_pair.Statement.{statement}
+use Rattle.ajp13.proofs.piece.ajp13_attribute_pair.Tie as tie
 
 -- the piece that is to be added
 abbrev piece : tie.After-or-else → Piece

@@ -1,34 +1,33 @@
--- `building::ajp13_attribute_text` meets its contract: a fault is told and nothing is written, else all is as the library's call leaves it.
+-- `building::ajp13_header_spelled` meets its contract: a fault is told and nothing is written, else all is as the library's call leaves it.
 -- Assumes nothing.
 use mathlib.Core.Path.{_≡_, refl, sym, _∙_}
 use Rattle.building.specs.Fault.{firstFault}
 use Rattle.building.proofs.Faults.{Faultless, faultless}
-use Rattle.ajp13.specs.Building.{Piece, textPiece}
+use Rattle.ajp13.specs.Piece.{Piece, spelledPiece}
 use Rattle.ajp13.proofs.Records.{building-fits}
-use Rattle.ajp13.proofs.Effects.{number-within}
 use Rattle.ajp13.proofs.Pieces.{piece-fault, piece-called}
 use borrow.Author.Needs.{needs}
-use Rattle.ajp13.proofs.building.ajp13_attribute_text.Statement.{statement}
-use Rattle.ajp13.proofs.building.ajp13_attribute_text.Tie as tie
+use Rattle.ajp13.proofs.piece.ajp13_header_spelled.Statement.{statement}
+use Rattle.ajp13.proofs.piece.ajp13_header_spelled.Tie as tie
 
 -- the piece that is to be added
 abbrev piece : tie.After-piece-fault → Piece
-piece c = let a = c .before .before .before .before .before .before .before .args in textPiece (a .building .now) (a .buffer .now) (a .code) (a .value .now) (a .null)
+piece c = let a = c .before .before .before .before .before .before .before .before .args in spelledPiece (a .building .now) (a .buffer .now) (a .name .now) (a .noname) (a .value .now) (a .novalue)
 
 -- what was found is the first of its faults
 found : (c : tie.After-piece-fault) → c .piece-fault .result ≡ firstFault (piece c .faults)
-unfolding textPiece
-found c = c .piece-fault .ensures ∙ rw (c .before .before .number-fault .ensures, c .before .flag-fault .ensures) refl
+unfolding spelledPiece
+found c = c .piece-fault .ensures ∙ rw (c .before .before .flag-fault .ensures, c .before .flag-fault2 .ensures) refl
 
 -- where it is none, none of them is one
 none : (c : tie.Else1) → Faultless (piece (c .before) .faults)
 none c = faultless (piece (c .before) .faults) (sym (found (c .before)) ∙ c .if1 .left)
 
-number-fault-requires : tie.Need-number-fault-requires
-number-fault-requires c κs = search needs
-
 flag-fault-requires : tie.Need-flag-fault-requires
 flag-fault-requires c κs = search needs
+
+flag-fault-requires-2 : tie.Need-flag-fault-requires-2
+flag-fault-requires-2 c κs = search needs
 
 piece-fault-requires : tie.Need-piece-fault-requires
 piece-fault-requires c κs = search needs
@@ -38,25 +37,24 @@ same-length c = search needs
 
 returns : tie.Need-returns
 returns c =
-    let a = c .before .before .before .before .before .before .before .before .args in
+    let a = c .before .before .before .before .before .before .before .before .before .args in
     piece-fault (piece (c .before)) (a .building .now) (a .buffer .now) (found (c .before)) (c .if1 .taken)
 
 building-in-requires : tie.Need-building-in-requires
-unfolding textPiece
+unfolding spelledPiece
 building-in-requires c κs = building-fits _ (none (c .before) .0)
-
-number-in-requires : tie.Need-number-in-requires
-unfolding textPiece
-number-in-requires c κs = number-within _ (none (c .before .before .before) .1 .0)
 
 flag-in-requires : tie.Need-flag-in-requires
 flag-in-requires c κs = search needs
 
-text-requires : tie.Need-text-requires
-text-requires c κs = search needs
+flag-in-requires-2 : tie.Need-flag-in-requires-2
+flag-in-requires-2 c κs = search needs
+
+spelled-requires : tie.Need-spelled-requires
+spelled-requires c κs = search needs
 
 put-added-requires : tie.Need-put-added-requires
-unfolding textPiece
+unfolding spelledPiece
 put-added-requires c κs = building-fits _ (none (c .before .before .before .before .before .before .before .before .before) .0) .all
 
 same-length-2 : tie.Need-same-length-2
@@ -66,28 +64,28 @@ same-length-3 : tie.Need-same-length-3
 same-length-3 c = search needs
 
 returns-2 : tie.Need-returns-2
-unfolding textPiece
+unfolding spelledPiece
 returns-2 c =
     let called = c .before .before .before .before .before .before in
     let none = called .before .before .before .before .before .before in
-    let a = none .before .before .before .before .before .before .before .before .args in
+    let a = none .before .before .before .before .before .before .before .before .before .args in
     piece-called (piece (none .before)) (a .building .now) (a .buffer .now) (found (none .before)) (none .if1 .left)
-    (rw (called .before .before .before .before .building-in .ensures, called .before .before .number-in .ensures, called .before .flag-in .ensures) refl)
-    (called .text .ensures .0) (called .text .ensures .1) (c .before .before .put-added .ensures _)
+    (rw (called .before .before .before .before .building-in .ensures, called .before .before .flag-in .ensures, called .before .flag-in2 .ensures) refl)
+    (called .spelled .ensures .0) (called .spelled .ensures .1) (c .before .before .put-added .ensures _)
 
-pub ajp13-attribute-text-spec : {M : Type 1} → statement M
-ajp13-attribute-text-spec =
+pub ajp13-header-spelled-spec : {M : Type 1} → statement M
+ajp13-header-spelled-spec =
     tie.close
     (tie.spec
-    number-fault-requires
     flag-fault-requires
+    flag-fault-requires-2
     piece-fault-requires
     same-length
     returns
     building-in-requires
-    number-in-requires
     flag-in-requires
-    text-requires
+    flag-in-requires-2
+    spelled-requires
     put-added-requires
     same-length-2
     same-length-3

@@ -6,10 +6,10 @@ use Prim.Native.Nat.{ℕ}
 use Rattle.pieces.specs.declared.Added.{Added}
 use Rattle.pieces.specs.Meaning.{addedOutcome}
 use Rattle.ajp13.specs.Status as status
-use Rattle.ajp13.specs.Building.{pieceLeaves, afterAdding}
+use Rattle.ajp13.specs.Piece.{pieceLeaves, afterAdding}
 use borrow.Author.Needs.{needs}
-use Rattle.ajp13.proofs.building.put_added.Statement.{statement}
-use Rattle.ajp13.proofs.building.put_added.Tie as tie
+use Rattle.ajp13.proofs.piece.put_added.Statement.{statement}
+use Rattle.ajp13.proofs.piece.put_added.Tie as tie
 
 enum-known-added : tie.Need-enum-known-added
 enum-known-added c = search needs
