@@ -46,25 +46,26 @@ enum {
     /* Accepted, written or added. */
     AJP13_DONE = 0,
 
-    /* Refusals. */
-    AJP13_LEADING_WRONG = 1,    /* the leading bytes are wrong for this direction */
-    AJP13_TOO_LONG = 2,         /* the payload's length is above 8188, or what was given to write is too long */
-    AJP13_CUT_SHORT = 3,        /* the payload ends inside a field, or before a code that is due */
-    AJP13_CODE_WRONG = 4,       /* the packet's code is not one of this direction */
-    AJP13_CODE_NOT_SERVED = 5,  /* Shutdown (7) or Ping (8), which are not served */
-    AJP13_STRING_WRONG = 6,     /* a string that is null or empty where it may not be, that holds a zero, or whose
-                                   last byte is not zero; also a body chunk's last byte */
-    AJP13_OUT_OF_RANGE = 7,     /* a method, a boolean or a status out of range */
-    AJP13_NAME_WRONG = 8,       /* a header's name: a code that is not listed, not a token, or listed but spelled out */
-    AJP13_ATTRIBUTE_WRONG = 9,  /* an attribute's code is not served, has another kind of value, or comes again */
-    AJP13_LENGTH_WRONG = 10,    /* content-length is no such number, null, or there twice; or transfer-encoding */
-    AJP13_TOO_MANY = 11,        /* over 100 headers or over 64 attributes */
-    AJP13_LEFT_OVER = 12,       /* bytes are left after the last field */
-    AJP13_NOT_NOW = 13,         /* not allowed in this state of the connection */
-    AJP13_SIZE_WRONG = 14,      /* a body packet of another size than the cycle allows now */
-    AJP13_LENT_TOO_SHORT = 15,  /* the lent table or buffer is too short */
-    AJP13_RECORD_WRONG = 16,    /* a header after an attribute, an attribute on a Send Headers, or a building record
-                                   that cannot be */
+    /* Refusals. A later version may have more: look for the names, not for a greatest number. */
+    AJP13_LEADING_WRONG = 1,          /* the leading bytes are wrong for this direction */
+    AJP13_TOO_LONG = 2,               /* the payload's length is above 8188, or what was given to write is too long */
+    AJP13_CUT_SHORT = 3,              /* the payload ends inside a field, or before a code that is due */
+    AJP13_CODE_WRONG = 4,             /* the packet's code is not one of this direction */
+    AJP13_CODE_NOT_SERVED = 5,        /* Shutdown (7) or Ping (8), which are not served */
+    AJP13_STRING_WRONG = 6,           /* a string that is null or empty where it may not be, that holds a zero, or
+                                         whose last byte is not zero; also a body chunk's last byte */
+    AJP13_OUT_OF_RANGE = 7,           /* a method, a boolean or a status out of range */
+    AJP13_NAME_WRONG = 8,             /* a header's name: a code that is not listed, not a token, or listed but
+                                         spelled out */
+    AJP13_ATTRIBUTE_WRONG = 9,        /* an attribute's code is not served, has another kind of value, or comes again */
+    AJP13_CONTENT_LENGTH_WRONG = 10,  /* content-length is no such number, null, or there twice; or transfer-encoding */
+    AJP13_TOO_MANY = 11,              /* over 100 headers or over 64 attributes */
+    AJP13_LEFT_OVER = 12,             /* bytes are left after the last field */
+    AJP13_NOT_NOW = 13,               /* not allowed in this state of the connection */
+    AJP13_BODY_SIZE_WRONG = 14,       /* a body packet of another size than the cycle allows now */
+    AJP13_BUFFER_TOO_SHORT = 15,      /* the lent buffer, or the lent table, is too short */
+    AJP13_RECORD_WRONG = 16,          /* a header after an attribute, an attribute on a Send Headers, or a building
+                                         record that cannot be */
 
     /* Only from reading: the packet is not whole yet. See ajp13_read_at_container. */
     AJP13_NEEDS = 0x10000,
@@ -97,12 +98,12 @@ static inline const char *ajp13_status_text(uint32_t status)
     case AJP13_OUT_OF_RANGE: return "number out of range";
     case AJP13_NAME_WRONG: return "bad header name";
     case AJP13_ATTRIBUTE_WRONG: return "bad attribute code";
-    case AJP13_LENGTH_WRONG: return "bad content-length, or transfer-encoding";
+    case AJP13_CONTENT_LENGTH_WRONG: return "bad content-length, or transfer-encoding";
     case AJP13_TOO_MANY: return "too many headers or attributes";
     case AJP13_LEFT_OVER: return "bytes left after the last field";
     case AJP13_NOT_NOW: return "not allowed in this state";
-    case AJP13_SIZE_WRONG: return "wrong body size";
-    case AJP13_LENT_TOO_SHORT: return "lent table or buffer too short";
+    case AJP13_BODY_SIZE_WRONG: return "wrong body size";
+    case AJP13_BUFFER_TOO_SHORT: return "lent table or buffer too short";
     case AJP13_RECORD_WRONG: return "building record does not allow this";
     case AJP13_NEEDS: return "packet not whole yet";
     case AJP13_CONNECTION_LENGTH: return "connection array of the wrong length";
@@ -151,7 +152,7 @@ enum {
  *   Busy, headers sent, none due   End Response      Idle where the connection is to be reused, else Closed
  *
  * Nothing else is allowed (AJP13_NOT_NOW). A body packet holds at least one byte and at most the least of what was
- * asked for, AJP13_MAX_BODY and what is left; where that least is 0, the body packet is empty (else AJP13_SIZE_WRONG).
+ * asked for, AJP13_MAX_BODY and what is left; where that least is 0, the body packet is empty (else AJP13_BODY_SIZE_WRONG).
  * Left, due, asked and headers sent count only in Busy, and asked only where one is due.
  */
 enum {
@@ -292,7 +293,7 @@ uint32_t ajp13_fresh(uint32_t *connection, size_t connection_length);
  *                not change that.
  *   an error     AJP13_CONNECTION_LENGTH, AJP13_CONNECTION_WORD or AJP13_ANSWER_LENGTH. Nothing is written.
  *
- * With AJP13_LENT_TOO_SHORT (15) the packet is good and the table too short for it: call again with a longer one.
+ * With AJP13_BUFFER_TOO_SHORT (15) the packet is good and the table too short for it: call again with a longer one.
  */
 uint32_t ajp13_read_at_container(uint32_t *connection, size_t connection_length,
                                  const uint8_t *bytes, size_t bytes_length,
@@ -316,8 +317,8 @@ uint32_t ajp13_read_at_server(uint32_t *connection, size_t connection_length,
  *   answer      the packet's kind and, in answer[AJP13_BYTES], its length.
  *
  * Each answers AJP13_DONE, a refusal or an error (AJP13_CONNECTION_LENGTH, AJP13_CONNECTION_WORD, AJP13_ANSWER_LENGTH,
- * AJP13_ARGUMENT). Refusals are looked for in this order: AJP13_NOT_NOW, AJP13_SIZE_WRONG, AJP13_TOO_LONG,
- * AJP13_LENT_TOO_SHORT. With a refusal or an error nothing is written and the connection has not stepped.
+ * AJP13_ARGUMENT). Refusals are looked for in this order: AJP13_NOT_NOW, AJP13_BODY_SIZE_WRONG, AJP13_TOO_LONG,
+ * AJP13_BUFFER_TOO_SHORT. With a refusal or an error nothing is written and the connection has not stepped.
  * ------------------------------------------------------------------------------------------------------------------ */
 
 /* CPing, from the server: 5 bytes. */
@@ -333,7 +334,7 @@ uint32_t ajp13_cpong(uint32_t *connection, size_t connection_length,
 /*
  * A body packet, from the server: the bytes and 6 more; 4 bytes where there are none.
  *
- *   bytes  the part of the request's body that goes now. AJP13_SIZE_WRONG (14) where the cycle allows another size.
+ *   bytes  the part of the request's body that goes now. AJP13_BODY_SIZE_WRONG (14) where the cycle allows another size.
  */
 uint32_t ajp13_body(uint32_t *connection, size_t connection_length,
                     uint8_t *buffer, size_t buffer_length,
@@ -383,7 +384,7 @@ uint32_t ajp13_end(uint32_t *connection, size_t connection_length,
  * Every call answers AJP13_DONE, a refusal or an error. With a refusal or an error nothing is written: the packet is as
  * far as it was before, and another piece may be added, or it may be closed. A piece looks for refusals in this order:
  * AJP13_RECORD_WRONG, those of its own fields from left to right, AJP13_TOO_MANY for a 101st header, AJP13_TOO_LONG,
- * AJP13_LENT_TOO_SHORT.
+ * AJP13_BUFFER_TOO_SHORT.
  *
  * A string is given as its bytes and a flag that is 1 where the string is null; the bytes do not matter then, but the
  * pointer may still not be NULL.
@@ -431,7 +432,7 @@ uint32_t ajp13_begin_send_headers(uint32_t *building, size_t building_length,
  *   code         A001 to A00E for a Forward, A001 to A00B for a Send Headers (else AJP13_NAME_WRONG); the lists are at
  *                the end of this file.
  *   value, null  the header's value, which may be null or empty. A Forward's content-length must be 1 to 10 decimal
- *                digits, at most 4294967295 (else AJP13_LENGTH_WRONG). That there are not two of them is looked for
+ *                digits, at most 4294967295 (else AJP13_CONTENT_LENGTH_WRONG). That there are not two of them is looked for
  *                when the packet is closed.
  *
  * Errors: AJP13_BUILDING_LENGTH, AJP13_BUILDING_WORD, AJP13_ARGUMENT.
@@ -445,7 +446,7 @@ uint32_t ajp13_header_coded(uint32_t *building, size_t building_length,
  * Adds a header with a name that is spelled out.
  *
  *   name, noname    a token that is not listed for this packet, case ignored (AJP13_NAME_WRONG), neither null nor empty
- *                   (AJP13_STRING_WRONG). In a Forward not transfer-encoding (AJP13_LENGTH_WRONG).
+ *                   (AJP13_STRING_WRONG). In a Forward not transfer-encoding (AJP13_CONTENT_LENGTH_WRONG).
  *   value, novalue  the header's value, which may be null or empty.
  *
  * Errors: AJP13_BUILDING_LENGTH, AJP13_BUILDING_WORD, AJP13_ARGUMENT.
@@ -520,7 +521,7 @@ uint32_t ajp13_attribute_pair(uint32_t *building, size_t building_length,
  *   answer      the packet's kind and, in answer[AJP13_BYTES], its length.
  *
  * Answers AJP13_DONE, a refusal or an error. AJP13_RECORD_WRONG is looked for first, then AJP13_NOT_NOW,
- * AJP13_TOO_LONG and AJP13_LENT_TOO_SHORT, then what the reader of the other end would refuse. Where it is refused,
+ * AJP13_TOO_LONG and AJP13_BUFFER_TOO_SHORT, then what the reader of the other end would refuse. Where it is refused,
  * the buffer is as it was before closing, the connection has not stepped, and more pieces may be added.
  *
  * Errors: AJP13_CONNECTION_LENGTH, AJP13_CONNECTION_WORD, AJP13_BUILDING_LENGTH, AJP13_BUILDING_WORD,

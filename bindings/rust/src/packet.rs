@@ -13,7 +13,7 @@ use crate::refusal::{impossible, number, Refusal};
 ///
 /// Reading is lent any `&mut [u16]`, and this is one of 328. A shorter one may do for a program that knows its packets:
 /// a packet needs two places for each header and two for each attribute, and is refused with
-/// [`LentTooShort`](Refusal::LentTooShort) where there are fewer.
+/// [`BufferTooShort`](Refusal::BufferTooShort) where there are fewer.
 ///
 /// ```
 /// use ajp13::{Connection, Packet, Places, Received};

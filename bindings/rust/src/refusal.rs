@@ -44,7 +44,7 @@ pub enum Refusal {
     /// An attribute's code is not served, has another kind of value, or comes again.
     AttributeWrong = 9,
     /// content-length is no such number, null, or there twice; or there is a transfer-encoding.
-    LengthWrong = 10,
+    ContentLengthWrong = 10,
     /// Over 100 headers or over 64 attributes.
     TooMany = 11,
     /// Bytes are left after the last field.
@@ -52,16 +52,17 @@ pub enum Refusal {
     /// Not allowed in this state of the connection.
     NotNow = 13,
     /// A body packet of another size than the cycle allows now.
-    SizeWrong = 14,
-    /// The lent table or buffer is too short.
-    LentTooShort = 15,
+    BodySizeWrong = 14,
+    /// The lent buffer, or the lent table, is too short.
+    BufferTooShort = 15,
     /// A header after an attribute, an attribute on a Send Headers, or a building record that cannot be.
     RecordWrong = 16,
 }
 
 impl Refusal {
-    /// All refusals, in the order of their numbers.
-    pub const ALL: [Refusal; 16] = [
+    /// All refusals, in the order of their numbers. A later version may have more, and numbers may be left out, so a
+    /// place in this list says nothing of a number.
+    pub const ALL: &'static [Refusal] = &[
         Refusal::LeadingWrong,
         Refusal::TooLong,
         Refusal::CutShort,
@@ -71,16 +72,16 @@ impl Refusal {
         Refusal::OutOfRange,
         Refusal::NameWrong,
         Refusal::AttributeWrong,
-        Refusal::LengthWrong,
+        Refusal::ContentLengthWrong,
         Refusal::TooMany,
         Refusal::LeftOver,
         Refusal::NotNow,
-        Refusal::SizeWrong,
-        Refusal::LentTooShort,
+        Refusal::BodySizeWrong,
+        Refusal::BufferTooShort,
         Refusal::RecordWrong,
     ];
 
-    /// The refusal's number, 1 to 16.
+    /// The refusal's number.
     #[inline]
     pub const fn number(self) -> u8 {
         self as u8
@@ -89,8 +90,7 @@ impl Refusal {
     /// The refusal with a number.
     #[inline]
     pub fn from_number(number: u32) -> Option<Refusal> {
-        let index = number.checked_sub(1)?;
-        Self::ALL.get(index as usize).copied()
+        Self::ALL.iter().copied().find(|refusal| u32::from(refusal.number()) == number)
     }
 
     /// The refusal that a call of the library answered.
@@ -142,12 +142,12 @@ impl fmt::Display for Refusal {
             Refusal::OutOfRange => "number out of range",
             Refusal::NameWrong => "bad header name",
             Refusal::AttributeWrong => "bad attribute code",
-            Refusal::LengthWrong => "bad content-length, or transfer-encoding",
+            Refusal::ContentLengthWrong => "bad content-length, or transfer-encoding",
             Refusal::TooMany => "too many headers or attributes",
             Refusal::LeftOver => "bytes left after the last field",
             Refusal::NotNow => "not allowed in this state",
-            Refusal::SizeWrong => "wrong body size",
-            Refusal::LentTooShort => "lent table or buffer too short",
+            Refusal::BodySizeWrong => "wrong body size",
+            Refusal::BufferTooShort => "lent table or buffer too short",
             Refusal::RecordWrong => "building record does not allow this",
         };
         write!(f, "refusal {}: {text}", self.number())

@@ -11,10 +11,10 @@ mod common {
     pub mod settings;
 }
 
-use ajp13::raw;
+use ajp13::{raw, Refusal};
 use common::rng::Rng;
 use common::settings;
-use std::collections::VecDeque;
+use std::collections::{BTreeMap, VecDeque};
 use std::time::Instant;
 
 /// How many events there are where `AJP13_EVENTS` sets no other number.
@@ -111,7 +111,7 @@ struct Counts {
     written: [u64; 8],
     refused: [u64; 8],
     /// Sends refused by each number.
-    refusals: [u64; 17],
+    refusals: BTreeMap<u32, u64>,
     delivered_to_container: u64,
     delivered_to_server: u64,
     delivered_with_others: u64,
@@ -297,13 +297,13 @@ impl TwoEnds {
         let index = KINDS.iter().position(|other| *other == kind).unwrap_or(0);
         if status != raw::DONE {
             // Neither end, neither pipe nor the buffer has changed.
-            assert!((1..=16).contains(&status), "{kind:?} returned {status}");
+            assert!(Refusal::from_number(status).is_some(), "{kind:?} returned {status}");
             assert_eq!(connection, *self.sender(kind));
             assert!(self.buffer == self.before, "{kind:?} wrote and was refused");
             assert_eq!(answer, [0; raw::ANSWER_WORDS]);
             assert!(!(allowed && right), "{kind:?} was refused: {status}");
             self.counts.refused[index] += 1;
-            self.counts.refusals[status as usize] += 1;
+            *self.counts.refusals.entry(status).or_default() += 1;
             return;
         }
         assert!(allowed, "{kind:?} was written in another state");
@@ -536,9 +536,9 @@ impl Counts {
                 self.written[index], self.refused[index]
             );
         }
-        let refusals: Vec<String> = (1..)
-            .zip(&self.refusals[1..])
-            .filter(|(_, times)| **times > 0)
+        let refusals: Vec<String> = self
+            .refusals
+            .iter()
             .map(|(number, times)| format!("({number}) {times}"))
             .collect();
         println!("  refused: {}", refusals.join(", "));
@@ -571,10 +571,8 @@ impl Counts {
             assert!(self.refused[index] > often, "{kind:?} seldom refused");
         }
         for number in [2, 13, 14, 15, 16] {
-            assert!(
-                self.refusals[number] > often / 10,
-                "seldom refused by {number}"
-            );
+            let times = self.refusals.get(&number).copied().unwrap_or_default();
+            assert!(times > often / 10, "seldom refused by {number}");
         }
         for times in [
             self.delivered_to_container,

@@ -185,7 +185,7 @@ fn refusals_and_needs_change_nothing() {
     assert_eq!(at_container(busy(0, None, true), GET), Ok(Refusal::NotNow));
     assert_eq!(
         at_container(busy(1, Some(8186), true), b"\x12\x34\x00\x04\x00\x02hi"),
-        Ok(Refusal::SizeWrong)
+        Ok(Refusal::BodySizeWrong)
     );
     assert_eq!(places, Places::new());
 }
@@ -202,7 +202,7 @@ fn a_table_too_short() {
     let mut table = [9; 5];
     let mut container = Connection::fresh();
     let received = container.read_at_container(packet, &mut table[..3]);
-    assert_eq!(received, Received::Refused(Refusal::LentTooShort));
+    assert_eq!(received, Received::Refused(Refusal::BufferTooShort));
     assert_eq!(container, Connection::fresh());
     assert_eq!(table, [9; 5]);
 
@@ -411,7 +411,7 @@ fn a_refused_piece_adds_nothing() {
     assert_eq!(buffer, [0; ajp13::MAX_PACKET]);
     assert_eq!(
         head().begin(&mut [0; 30]).unwrap_err(),
-        Refusal::LentTooShort
+        Refusal::BufferTooShort
     );
 
     let mut headers = head().begin(&mut buffer).unwrap();
@@ -459,7 +459,7 @@ fn closing_judges_the_packet() {
         .unwrap()
         .header(b"content-length", Some(b"1"))
         .unwrap();
-    assert_eq!(headers.close(&mut server), Err(Refusal::LengthWrong));
+    assert_eq!(headers.close(&mut server), Err(Refusal::ContentLengthWrong));
     assert_eq!(server, Connection::fresh());
 
     // An attribute twice.
@@ -483,7 +483,7 @@ fn sends() {
     let mut buffer = [0x55; 16];
 
     let mut server = Connection::fresh();
-    assert_eq!(server.cping(&mut buffer[..4]), Err(Refusal::LentTooShort));
+    assert_eq!(server.cping(&mut buffer[..4]), Err(Refusal::BufferTooShort));
     assert_eq!(server, Connection::fresh());
     assert_eq!(server.cping(&mut buffer).unwrap(), b"\x12\x34\x00\x01\x0A");
     assert_eq!(buffer[5..], [0x55; 11]);
@@ -491,7 +491,7 @@ fn sends() {
     assert_eq!(server.cpong(&mut buffer), Err(Refusal::NotNow));
 
     let mut server = busy(3, Some(2), false);
-    assert_eq!(server.body(&mut buffer, b"abc"), Err(Refusal::SizeWrong));
+    assert_eq!(server.body(&mut buffer, b"abc"), Err(Refusal::BodySizeWrong));
     let packet = server.body(&mut buffer, b"ab").unwrap();
     assert_eq!(packet, b"\x12\x34\x00\x04\x00\x02ab");
     assert_eq!(server, busy(1, None, false));
@@ -538,11 +538,13 @@ fn records_keep_their_fields() {
 
 #[test]
 fn refusals_have_their_numbers() {
-    for (index, refusal) in Refusal::ALL.into_iter().enumerate() {
-        assert_eq!(usize::from(refusal.number()), index + 1);
-        assert_eq!(Refusal::from_number(index as u32 + 1), Some(refusal));
-    }
-    for number in [0, 17, 0x10000, u32::MAX] {
-        assert_eq!(Refusal::from_number(number), None);
+    // Each number of document 01's table is there, once and in order; what more there is has a number above them.
+    let numbers: Vec<u32> = Refusal::ALL.iter().map(|refusal| refusal.number().into()).collect();
+    assert_eq!(numbers[..16], (1..=16).collect::<Vec<u32>>());
+    assert!(numbers.windows(2).all(|two| two[0] < two[1]));
+    for number in (0..0x200).chain([0x10000, u32::MAX]) {
+        let found = Refusal::from_number(number);
+        assert_eq!(found.is_some(), numbers.contains(&number));
+        assert!(found.is_none_or(|refusal| u32::from(refusal.number()) == number));
     }
 }

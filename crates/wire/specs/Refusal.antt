@@ -75,7 +75,7 @@ bufferTooShort = 15
 abbrev pub recordWrong : ℕ
 recordWrong = 16
 
--- all of them, in the order of the table
+-- all of them, in the order of the table; a later number joins at the end
 abbrev pub refusals : List ℕ
 refusals =
     leadingWrong
@@ -96,9 +96,9 @@ refusals =
     ∷ recordWrong
     ∷ []
 
--- none and all of them, each at its own place
-abbrev pub numbers : List ℕ
-numbers = none ∷ refusals
+-- none and all of them
+abbrev pub faults : List ℕ
+faults = none ∷ refusals
 
 -- a number of document 01's table of refusals
 abbrev pub isRefusal : ℕ → Bool

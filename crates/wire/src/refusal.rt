@@ -1,6 +1,6 @@
 // The refusal numbers, under the names that `specs/Refusal.antt` gives them.
 ghost use mathlib.Core.Path.{_≡_};
-ghost use Rattle.wire.specs.Refusal.{numbers};
+ghost use Rattle.wire.specs.Refusal.{faults};
 
 pub const NONE: u8 = 0;
 
@@ -36,9 +36,12 @@ pub const BUFFER_TOO_SHORT: u8 = 15;
 
 pub const RECORD_WRONG: u8 = 16;
 
-// All of them, each at its own place.
-pub fn all() -> [u8; 17]
-    ensures { λ r. ⌜ r ≡ numbers ⌝ }
+// How many there are, none among them.
+const COUNT: usize = 17;
+
+// All of them, in the order of the table. A place in the list says nothing of a number: later ones join at the end, and some may be left out.
+pub fn all() -> [u8; COUNT]
+    ensures { λ r. ⌜ r ≡ faults ⌝ }
 {
     [
         NONE,
