@@ -1,5 +1,7 @@
-//! Timing: the three ways of a row take turns, round by round, and the median of the rounds counts.
+//! Timing: the three ways of a row take turns, round by round, and the median of the rounds counts. Or counting: only one row is
+//! gone through, by the library alone, so often as the environment says, for a tool that counts instructions (`bench/count`).
 
+use std::env;
 use std::hint::black_box;
 use std::time::{Duration, Instant};
 
@@ -16,6 +18,30 @@ pub struct Row {
     pub library: f64,
     pub plain: f64,
     pub copy: f64,
+}
+
+impl Row {
+    /// A row that was not timed.
+    fn untimed(name: &str, bytes: usize) -> Row {
+        Row {
+            name: name.to_string(),
+            bytes,
+            library: 0.0,
+            plain: 0.0,
+            copy: 0.0,
+        }
+    }
+}
+
+/// The row whose instructions are counted, where the environment names one (`AJP13_COUNT_ROW`; an empty name is no row's).
+pub fn counted_row() -> Option<String> {
+    env::var("AJP13_COUNT_ROW").ok()
+}
+
+/// How often it is gone through (`AJP13_COUNT_CALLS`).
+fn counted_calls() -> usize {
+    let calls = env::var("AJP13_COUNT_CALLS").ok();
+    calls.and_then(|calls| calls.parse().ok()).unwrap_or(0)
 }
 
 /// Keeps the processor busy for a while, so that it runs at its full speed when the first row is measured.
@@ -54,6 +80,12 @@ pub fn measure(
     mut plain: impl FnMut(usize),
     mut copy: impl FnMut(usize),
 ) -> Row {
+    if let Some(row) = counted_row() {
+        if row == name {
+            library(counted_calls());
+        }
+        return Row::untimed(name, bytes);
+    }
     let ways: [&mut dyn FnMut(usize); 3] = [&mut library, &mut plain, &mut copy];
     let mut times: [Vec<f64>; 3] = Default::default();
     let mut counted = Vec::new();

@@ -9,7 +9,7 @@ mod table;
 mod plain;
 
 use ajp13::{Connection, ForwardHead, Method, Packet, Places, Received, State};
-use harness::{measure, warm_up, Row};
+use harness::{counted_row, measure, warm_up, Row};
 use requests::{Request, Value};
 use std::hint::black_box;
 use std::path::Path;
@@ -299,7 +299,10 @@ fn body_rows(rows: &mut Vec<Row>) {
 }
 
 fn main() {
-    warm_up();
+    let counted = counted_row();
+    if counted.is_none() {
+        warm_up();
+    }
     let mut rows = Vec::new();
     let requests = [
         ("a small GET", requests::small()),
@@ -327,6 +330,13 @@ fn main() {
     }
     body_rows(&mut rows);
     rows.sort_by_key(|row| row.name.starts_with("build"));
+    if let Some(row) = counted {
+        // Without a row's name, the names of all rows are told.
+        if row.is_empty() {
+            rows.iter().for_each(|row| println!("{}", row.name));
+        }
+        return;
+    }
     let text = table::markdown(&rows);
     println!("{text}");
     let results = Path::new(env!("CARGO_MANIFEST_DIR")).join("RESULTS.md");
