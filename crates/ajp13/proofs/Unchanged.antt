@@ -106,7 +106,7 @@ read-keeps direction connection bytes table answer = go (eqb (callFault connecti
         record { connection-kept = refl; table-kept = needs-keeps direction (connectionIn connection) bytes table n e; answer-kept = λ k. absurd (k refl) }
     by-answer (read.refused n) e h =
         record { connection-kept = refl; table-kept = refused-keeps direction (connectionIn connection) bytes table n e; answer-kept = λ k. refl }
-    by-answer (read.accepted t taken next) e h = absurd (h refl)
+    by-answer (read.accepted packet taken next) e h = absurd (h refl)
 
     go : (t : Bool) → (pick t (afterReading m connection after answer) (leaves (callFault connection answer) connection table answer) .status ≡ status.done → ⊥)
         → ReadKept connection table answer (pick t (afterReading m connection after answer) (leaves (callFault connection answer) connection table answer))

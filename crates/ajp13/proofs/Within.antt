@@ -35,8 +35,8 @@ read-within direction c s room = go (reading direction c s room) refl
     go : (m : read.Meaning) → reading direction c s room ≡ m → ReadWithin m
     go (read.needs n) e = needs-more direction c s room n e .1
     go (read.refused n) e = tt
-    go (read.accepted t taken after) e =
-        frame-inside direction s (FrameRead.Whole taken) (accepted-is direction c s room t taken after e .whole-is) .1 .0
+    go (read.accepted packet taken after) e =
+        frame-inside direction s (FrameRead.Whole taken) (accepted-is direction c s room packet taken after e .whole-is) .1 .0
 
 -- what sending a packet tells: its length
 pub sent-within : (c : Connection) (m : Move) (payload buffer : List ℕ) → SentWithin (outcome (sending c m payload) (length buffer))

@@ -1,17 +1,17 @@
 -- The words of an answer: the packet's kind, a number of bytes, and what the packet tells. Words that an answer does not use are 0.
 -- The C boundary.
 -- Assumes nothing.
-use mathlib.Core.Bool.{Bool, true, false}
 use mathlib.Core.List.{List, [], _∷_}
 use Prim.Native.Nat.{ℕ}
 use lib.Dec.{eqb}
 use lib.ListN.{length}
-use Rattle.wire.specs.Pick.{pick}
+use Rattle.wire.specs.Field.{booleanNumber}
+use Rattle.packet.specs.declared.Part.{Part}
+use Rattle.packet.specs.declared.Packet.{Packet}
 use Rattle.connection.specs.declared.Kind.{Kind}
 use Rattle.building.specs.Fault.{unless}
-use Rattle.reader.specs.Meaning.{Told}
 use Rattle.ajp13.specs.Status as status
-use Rattle.ajp13.specs.Words.{word, kindWord}
+use Rattle.ajp13.specs.Words.{kindWord}
 
 -- how many words an answer has
 abbrev pub answerSize : ℕ
@@ -33,32 +33,32 @@ needsWords bytes = row 0 bytes 0 0 0
 unfoldable pub writtenWords : Kind → ℕ → List ℕ
 writtenWords kind bytes = row (kindWord kind) bytes 0 0 0
 
--- a packet that holds a part, of which the start and the length are told
-abbrev pub hasPart : Kind → Bool
-hasPart Kind.CPing = false
-hasPart Kind.CPong = false
-hasPart Kind.Forward = false
-hasPart Kind.Body = true
-hasPart Kind.GetBody = false
-hasPart Kind.SendHeaders = false
-hasPart Kind.BodyChunk = true
-hasPart Kind.End = false
+-- what is told of a body packet or a chunk: its kind, the bytes taken, and where its part starts and how long it is
+abbrev pub partWords : Kind → Part → ℕ → List ℕ
+partWords kind part bytes = row (kindWord kind) bytes (part .start .0) (part .len) 0
 
--- what is told of a packet that was read: its kind and the bytes taken; its part, or else its first number and its first string; its other
--- strings; its other numbers; how many headers and attributes it has; and what length of body it declares
-unfoldable pub toldWords : Told → ℕ → List ℕ
-toldWords t bytes =
-    kindWord (t .kind)
+-- what is told of a packet that was read: its kind and the bytes taken; of a Forward the method, the places of its five strings, the port,
+-- is_ssl, how many headers and attributes it has and what length of body it declares
+unfoldable pub packetWords : Packet → ℕ → List ℕ
+packetWords Packet.CPing bytes = row (kindWord Kind.CPing) bytes 0 0 0
+packetWords Packet.CPong bytes = row (kindWord Kind.CPong) bytes 0 0 0
+packetWords (Packet.Forward f) bytes =
+    kindWord Kind.Forward
     ∷ bytes
-    ∷ pick (hasPart (t .kind)) (t .start) (word (t .numbers) 0)
-    ∷ pick (hasPart (t .kind)) (t .len) (word (t .strings) 0)
-    ∷ word (t .strings) 1
-    ∷ word (t .strings) 2
-    ∷ word (t .strings) 3
-    ∷ word (t .strings) 4
-    ∷ word (t .numbers) 1
-    ∷ word (t .numbers) 2
-    ∷ t .headers
-    ∷ t .attributes
-    ∷ t .declared
+    ∷ f .method
+    ∷ f .protocol .0
+    ∷ f .«req_uri» .0
+    ∷ f .«remote_addr» .0
+    ∷ f .«remote_host» .0
+    ∷ f .«server_name» .0
+    ∷ f .«server_port»
+    ∷ booleanNumber (f .«is_ssl»)
+    ∷ f .headers
+    ∷ f .attributes
+    ∷ f .declared .0
     ∷ []
+packetWords (Packet.Body p) bytes = partWords Kind.Body p bytes
+packetWords (Packet.GetBody asked) bytes = row (kindWord Kind.GetBody) bytes asked 0 0
+packetWords (Packet.SendHeaders h) bytes = row (kindWord Kind.SendHeaders) bytes (h .status) (h .message .0) (h .headers)
+packetWords (Packet.BodyChunk p) bytes = partWords Kind.BodyChunk p bytes
+packetWords (Packet.End reuse) bytes = row (kindWord Kind.End) bytes (booleanNumber reuse) 0 0

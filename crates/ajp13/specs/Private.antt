@@ -36,7 +36,7 @@ pub record Takes (connection answer : List ℕ) : Type 0 where
 abbrev pub ReadWithin : read.Meaning → Type 0
 ReadWithin (read.needs n) = n ≤ maxPacket
 ReadWithin (read.refused n) = Unit
-ReadWithin (read.accepted t taken after) = taken ≤ maxPacket
+ReadWithin (read.accepted packet taken after) = taken ≤ maxPacket
 
 -- and so is the length that sending tells
 abbrev pub SentWithin : call.Outcome Written → Type 0

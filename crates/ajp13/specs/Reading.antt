@@ -9,14 +9,14 @@ use Rattle.reader.specs.Meaning.{Meaning, needs, refused, accepted}
 use Rattle.reader.specs.Reading.{reading, tableAfter}
 use Rattle.ajp13.specs.Status as status
 use Rattle.ajp13.specs.Words.{connectionIn, connectionWords}
-use Rattle.ajp13.specs.Answer.{needsWords, toldWords}
+use Rattle.ajp13.specs.Answer.{needsWords, packetWords}
 use Rattle.ajp13.specs.Effect.{Effect, leaves, checked, callFault}
 
 -- by the reader's answer, with the table as the reader leaves it
 abbrev pub afterReading : Meaning → List ℕ → List ℕ → List ℕ → Effect
 afterReading (needs n) connection table answer = leaves status.needs connection table (needsWords n)
 afterReading (refused n) connection table answer = leaves n connection table answer
-afterReading (accepted t taken after) connection table answer = leaves status.done (connectionWords after) table (toldWords t taken)
+afterReading (accepted packet taken after) connection table answer = leaves status.done (connectionWords after) table (packetWords packet taken)
 
 -- reading at the end to which packets of this direction go
 unfoldable pub readEffect : Direction → List ℕ → List ℕ → List ℕ → List ℕ → Effect

@@ -1,11 +1,9 @@
 // The words of an answer, and what every call that writes one looks for first.
 ghost use mathlib.Core.Path.{_≡_};
-ghost use mathlib.Core.Bool.{true};
 ghost use Prim.Native.Nat.{_≤_};
 ghost use Rattle.connection.specs.Connection.{maxPacket};
 ghost use Rattle.packet.specs.declared.Packet.{Packet};
-ghost use Rattle.reader.specs.Meaning.{parted, told};
-ghost use Rattle.ajp13.specs.Answer.{answerFault, row, needsWords, writtenWords, hasPart, toldWords};
+ghost use Rattle.ajp13.specs.Answer.{answerFault, row, needsWords, writtenWords, partWords, packetWords};
 ghost use Rattle.ajp13.specs.Effect.{callFault};
 use crate::status;
 use crate::status::or_else;
@@ -69,8 +67,7 @@ pub fn written_words(kind: Kind, bytes: u32) -> [u32; 13]
 
 // What is told of a body packet or a chunk.
 pub fn part_words(kind: Kind, part: Part, bytes: u32) -> [u32; 13]
-    requires { ⌜ hasPart kind ≡ true ⌝ }
-    ensures { λ r. ⌜ r ≡ toldWords (parted kind (part .start .0) (part .len)) bytes ⌝ }
+    ensures { λ r. ⌜ r ≡ partWords kind part bytes ⌝ }
 {
     row(
         kind_word(kind),
@@ -83,7 +80,7 @@ pub fn part_words(kind: Kind, part: Part, bytes: u32) -> [u32; 13]
 
 // What is told of a Forward.
 fn forward_words(f: Forward, bytes: u32) -> [u32; 13]
-    ensures { λ r. ⌜ r ≡ toldWords (told (Packet.Forward f)) bytes ⌝ }
+    ensures { λ r. ⌜ r ≡ packetWords (Packet.Forward f) bytes ⌝ }
 {
     [
         kind_word(Kind::Forward),
@@ -103,8 +100,8 @@ fn forward_words(f: Forward, bytes: u32) -> [u32; 13]
 }
 
 // What is told of a packet that was read.
-pub fn told_words(packet: Packet, bytes: u32) -> [u32; 13]
-    ensures { λ r. ⌜ r ≡ toldWords (told packet) bytes ⌝ }
+pub fn packet_words(packet: Packet, bytes: u32) -> [u32; 13]
+    ensures { λ r. ⌜ r ≡ packetWords packet bytes ⌝ }
 {
     match packet {
         Packet::CPing => written_words(Kind::CPing, bytes),

@@ -1,21 +1,22 @@
 // Reading at both ends. "needs" writes the answer alone; a refusal and an error write nothing.
 // A body packet and a chunk go a short way each, from the connection's words to the answer's without a record in memory between them.
 ghost use mathlib.Core.Path.{_≡_};
-ghost use mathlib.Core.Bool.{true};
 ghost use mathlib.Core.List.{List};
 ghost use Prim.Native.Nat.{ℕ, _≤_};
 ghost use Rattle.packet.specs.declared.Direction.{Direction};
 ghost use Rattle.connection.specs.Connection.{maxPacket};
-ghost use Rattle.reader.specs.Meaning.{accepted, parted, receivedMeaning};
-ghost use Rattle.ajp13.specs.Answer.{hasPart};
+ghost use Rattle.reader.specs.Meaning.{receivedMeaning};
+ghost use Rattle.ajp13.specs.Status.{done};
+ghost use Rattle.ajp13.specs.Words.{connectionWords};
+ghost use Rattle.ajp13.specs.Answer.{partWords};
 ghost use Rattle.ajp13.specs.Effect.{leaves};
 ghost use Rattle.ajp13.specs.Reading.{afterReading, readEffect};
 ghost use Rattle.ajp13.specs.Private.{ConnectionFits, Takes, ReadWithin, soundReading};
 use crate::answer::bytes_word;
 use crate::answer::call_fault;
 use crate::answer::needs_words;
+use crate::answer::packet_words;
 use crate::answer::part_words;
-use crate::answer::told_words;
 use crate::status;
 use crate::words::connection_in;
 use crate::words::fill;
@@ -49,7 +50,7 @@ fn tell(received: Received, connection: &mut [u32], answer: &mut [u32]) -> u32
             connection: after,
         } => {
             put_connection(connection, after);
-            let words = told_words(packet, bytes_word(taken));
+            let words = packet_words(packet, bytes_word(taken));
             fill(answer, &words);
             status::DONE
         }
@@ -82,9 +83,8 @@ fn tell_part(
     answer: &mut [u32],
 ) -> u32
     requires { ⌜ Takes (now connection) (now answer) ⌝ }
-    requires { ⌜ hasPart kind ≡ true ⌝ }
     requires { ⌜ taken ≤ maxPacket ⌝ }
-    ensures { λ r. ⌜ ((table : List ℕ) → leaves r (now (connection .exit)) table (now (answer .exit)) ≡ afterReading (accepted (parted kind (part .start .0) (part .len)) taken after) (now (connection .entry)) table (now (answer .entry))) ⌝ }
+    ensures { λ r. ⌜ ((table : List ℕ) → leaves r (now (connection .exit)) table (now (answer .exit)) ≡ leaves done (connectionWords after) table (partWords kind part taken)) ⌝ }
 {
     put_connection(connection, after);
     let words = part_words(kind, part, bytes_word(taken));

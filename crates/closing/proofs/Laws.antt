@@ -25,8 +25,7 @@ use Rattle.connection.specs.declared.Kind.{Kind}
 use Rattle.connection.specs.Connection.{maxPacket, maxPayload, isIdle, isBusy}
 use Rattle.places.specs.Entries.{maxHeaders, maxPlaces}
 use Rattle.payload.specs.Code.{codeOf, codeKind, kindOfCode, kindAt}
-use Rattle.payload.specs.Kinds as payload
-use Rattle.payload.specs.Kinds.{packetAt}
+use Rattle.payload.specs.Kinds.{packetAt, packetKind}
 use Rattle.payload.specs.declared.KindRead.{KindRead}
 use Rattle.payload.specs.declared.found.PacketRead.{PacketRead}
 use Rattle.payload.proofs.Parsed.{parsed-kind}
@@ -45,7 +44,6 @@ use Rattle.reader.specs.Meaning as read
 use Rattle.reader.specs.Reading.{parsedOf, parseWhole, parseFrame, parse, readAsBody, accepting, judging, reading}
 use Rattle.reader.proofs.Framing.{length-is}
 use Rattle.reading_laws.specs.Acceptance.{Answered}
-use Rattle.reading_laws.proofs.Handed.{told-kind}
 use Rattle.reading_laws.proofs.Acceptance.{accepted-is, accepting-answers}
 use Rattle.reading_laws.proofs.Aside.{aside}
 use Rattle.closing.specs.Closing.{closedLength, closingFault, closed, closedPacket, judgement, verdict, closeOutcome, whereDone, closeBuffer}
@@ -195,28 +193,28 @@ module _ (c : Connection) (r : Building) (buffer : List ℕ) where
       frame-answered r buffer (ready-closable c r buffer (fault-ready c r buffer none)) (directionIn r) (readAsBody (directionIn r) c) c n e
 
   -- where a packet that is closed passes, all of it is taken
-  closed-taken : Ready c r buffer → (t : read.Told) (taken : ℕ) (next : Connection)
-      → judgement c r (closedPacket r buffer) ≡ read.accepted t taken next → taken ≡ closedLength r
+  closed-taken : Ready c r buffer → (packet : Packet) (taken : ℕ) (next : Connection)
+      → judgement c r (closedPacket r buffer) ≡ read.accepted packet taken next → taken ≡ closedLength r
   unfolding judgement
-  closed-taken ready t taken next e =
+  closed-taken ready packet taken next e =
       let s : List ℕ = closedPacket r buffer in
-      let reads : reading (directionIn r) c s maxPlaces ≡ read.accepted t taken next = aside (directionIn r) c s maxPlaces (omega arith) ∙ e in
-      frame-taken r buffer (ready-closable c r buffer ready) (directionIn r) taken (accepted-is (directionIn r) c s maxPlaces t taken next reads .whole-is)
+      let reads : reading (directionIn r) c s maxPlaces ≡ read.accepted packet taken next = aside (directionIn r) c s maxPlaces (omega arith) ∙ e in
+      frame-taken r buffer (ready-closable c r buffer ready) (directionIn r) taken (accepted-is (directionIn r) c s maxPlaces packet taken next reads .whole-is)
 
   -- the packet that passes is of the record's kind: its code is the record's, or what stands there is no code at all
-  closed-kind : Ready c r buffer → (t : read.Told) (taken : ℕ) (next : Connection)
-      → judgement c r (closedPacket r buffer) ≡ read.accepted t taken next → t .kind ≡ builtKind (r .kind)
+  closed-kind : Ready c r buffer → (packet : Packet) (taken : ℕ) (next : Connection)
+      → judgement c r (closedPacket r buffer) ≡ read.accepted packet taken next → packetKind packet ≡ builtKind (r .kind)
   unfolding judgement
-  closed-kind ready t taken next e =
+  closed-kind ready packet taken next e =
       let s : List ℕ = closedPacket r buffer in
       let can = possible-yes r buffer (ready .possible) in
-      let reads : reading (directionIn r) c s maxPlaces ≡ read.accepted t taken next = aside (directionIn r) c s maxPlaces (omega arith) ∙ e in
-      let a = accepted-is (directionIn r) c s maxPlaces t taken next reads in
-      let all : part s 0 taken ≡ s = all-taken r buffer (ready-closable c r buffer ready) taken (closed-taken ready t taken next e) in
+      let reads : reading (directionIn r) c s maxPlaces ≡ read.accepted packet taken next = aside (directionIn r) c s maxPlaces (omega arith) ∙ e in
+      let a = accepted-is (directionIn r) c s maxPlaces packet taken next reads in
+      let all : part s 0 taken ≡ s = all-taken r buffer (ready-closable c r buffer ready) taken (closed-taken ready packet taken next e) in
       let code : kindAt (directionIn r) false s ≡ KindRead.Kind (a .kind) =
       ap (λ (l : List ℕ). kindAt (directionIn r) false l) (sym all)
       ∙ ap (λ (body : Bool). kindAt (directionIn r) body (part s 0 taken)) (sym (none-due c (r .kind) (ready .allowed))) ∙ a .kind-is in
-      ap (λ (x : read.Told). x .kind) (a .tells) ∙ told-kind (a .packet) ∙ parsed-kind (a .kind) (part s 0 taken) (a .packet) (a .fields-are)
+      parsed-kind (a .kind) (part s 0 taken) packet (a .fields-are)
       ∙ code-kind r buffer (ready-closable c r buffer ready) (can .few) (can .code) (a .kind) code
 
   -- the bytes that `read_there` is given are read in the packet's direction as they are judged
@@ -273,21 +271,21 @@ module _ (c : Connection) (r : Building) (buffer : List ℕ) where
       by-answer (Sent.Written size connection) false q = absurd (false≢true (sym q))
 
   -- the record that holds where the judge accepts
-  done-by : Ready c r buffer → (t : read.Told) (taken : ℕ) (w : Written) → closeOutcome c r buffer ≡ done w → w .size ≡ closedLength r
-      → judgement c r (closedPacket r buffer) ≡ read.accepted t taken (w .connection) → CloseDone c r buffer w
+  done-by : Ready c r buffer → (packet : Packet) (taken : ℕ) (w : Written) → closeOutcome c r buffer ≡ done w → w .size ≡ closedLength r
+      → judgement c r (closedPacket r buffer) ≡ read.accepted packet taken (w .connection) → CloseDone c r buffer w
   unfolding judgement closedPacket
-  done-by ready t taken w o size e =
+  done-by ready packet taken w o size e =
       let stands : closeBuffer c r buffer ≡ closed r buffer = sym (outcome-buffer (done w) (sym o)) in
-      let all : judgement c r (closedPacket r buffer) ≡ read.accepted t (closedLength r) (w .connection) =
-      e ∙ ap (λ (n : ℕ). read.accepted t n (w .connection)) (closed-taken ready t taken (w .connection) e) in
+      let all : judgement c r (closedPacket r buffer) ≡ read.accepted packet (closedLength r) (w .connection) =
+      e ∙ ap (λ (n : ℕ). read.accepted packet n (w .connection)) (closed-taken ready packet taken (w .connection) e) in
       record {
         ready = ready;
         size-is = size;
         buffer-is = stands;
         packet-is = ap (λ (l : List ℕ). part l 0 (w .size)) stands ∙ ap (part (closed r buffer) 0) size;
         packet-size = packet-length r buffer (ready-closable c r buffer ready);
-        told = t;
-        kind-is = closed-kind ready t taken (w .connection) e;
+        packet = packet;
+        kind-is = closed-kind ready packet taken (w .connection) e;
         judged-is = all;
         reads = λ room h. aside (directionIn r) c (closedPacket r buffer) room h ∙ all;
       }
@@ -300,9 +298,9 @@ module _ (c : Connection) (r : Building) (buffer : List ℕ) where
       by-judge : Ready c r buffer → (m : read.Meaning) → judgement c r (closedPacket r buffer) ≡ m → verdict (closedLength r) m ≡ done w → CloseDone c r buffer w
       by-judge ready (read.needs n) j q = absurd (let z : _≡_ {A = ℕ} 0 1 = cc in omega arith)
       by-judge ready (read.refused n) j q = absurd (let z : _≡_ {A = ℕ} 0 1 = cc in omega arith)
-      by-judge ready (read.accepted t taken next) j q =
+      by-judge ready (read.accepted packet taken next) j q =
           let is : record { size = closedLength r; connection = next } ≡ w = cc in
-          done-by ready t taken w e (ap (λ (x : Written). x .size) (sym is)) (j ∙ ap (λ (x : Written). read.accepted t taken (x .connection)) is)
+          done-by ready packet taken w e (ap (λ (x : Written). x .size) (sym is)) (j ∙ ap (λ (x : Written). read.accepted packet taken (x .connection)) is)
 
       by-fault : (none : Bool) → eqb (closingFault c r buffer) 0 ≡ none
           → pick none (verdict (closedLength r) (judgement c r (closedPacket r buffer))) (refused (closingFault c r buffer)) ≡ done w → CloseDone c r buffer w
@@ -310,10 +308,10 @@ module _ (c : Connection) (r : Building) (buffer : List ℕ) where
       by-fault false f q = absurd (let z : _≡_ {A = ℕ} 0 1 = cc in omega arith)
 
   -- and the other way: where nothing is found before and the judge accepts, closing is done
-  pub done-close : Ready c r buffer → (t : read.Told) (taken : ℕ) (next : Connection)
-      → judgement c r (closedPacket r buffer) ≡ read.accepted t taken next
+  pub done-close : Ready c r buffer → (packet : Packet) (taken : ℕ) (next : Connection)
+      → judgement c r (closedPacket r buffer) ≡ read.accepted packet taken next
       → (closeOutcome c r buffer ≡ done (record { size = closedLength r; connection = next })) × (closeBuffer c r buffer ≡ closed r buffer)
-  done-close ready t taken next e =
+  done-close ready packet taken next e =
       let w : Written = record { size = closedLength r; connection = next } in
       let o : done w ≡ closeOutcome c r buffer =
       ap (verdict (closedLength r)) (sym e) ∙ found-judged (closingFault c r buffer) refl (ready-fault c r buffer ready) in

@@ -46,7 +46,7 @@ judge-refusal c r packet size n (read.refused k) j e =
     let same : k ≡ n = cc in
     subst (λ (k : ℕ). isRefusal k ≡ true) same
     (reading-refusal (directionIn r) c packet maxPlaces k (read-there c r packet (directionIn r) maxPlaces refl (omega arith) ∙ j))
-judge-refusal c r packet size n (read.accepted t taken next) j e = absurd (let z : _≡_ {A = ℕ} 0 1 = cc in omega arith)
+judge-refusal c r packet size n (read.accepted found taken next) j e = absurd (let z : _≡_ {A = ℕ} 0 1 = cc in omega arith)
 
 -- closing
 pub close-refusal : (c : Connection) (r : Building) (buffer : List ℕ) (n : ℕ) → closeOutcome c r buffer ≡ refused n → isRefusal n ≡ true

@@ -65,7 +65,7 @@ judgement c r packet = judging c (parse (directionIn r) (readAsBody (directionIn
 abbrev pub verdict : ℕ → read.Meaning → Outcome Written
 verdict size (read.needs n) = refused cutShort
 verdict size (read.refused n) = refused n
-verdict size (read.accepted told taken after) = done (record { size = size; connection = after })
+verdict size (read.accepted packet taken after) = done (record { size = size; connection = after })
 
 -- what closing comes to
 unfoldable pub closeOutcome : Connection → Building → List ℕ → Outcome Written

@@ -11,6 +11,8 @@ use Rattle.connection.specs.Connection.{maxPacket}
 use Rattle.connection.specs.Cycle.{inState}
 use Rattle.connection.specs.declared.Connection.{Connection}
 use Rattle.places.specs.Entries.{maxPlaces}
+use Rattle.packet.specs.declared.Packet.{Packet}
+use Rattle.payload.specs.Kinds.{packetKind}
 use Rattle.building_record.specs.declared.Building.{Building}
 use Rattle.building_record.specs.Record.{builtKind, directionIn, isPossible}
 use Rattle.writer.specs.Meaning.{Written}
@@ -41,12 +43,12 @@ pub record CloseDone (c : Connection) (r : Building) (buffer : List ℕ) (w : Wr
   pub packet-is : part (closeBuffer c r buffer) 0 (w .size) ≡ closedPacket r buffer
   -- and has its length
   pub packet-size : length (closedPacket r buffer) ≡ closedLength r
-  -- what the end to which it goes is told of it
-  pub told : read.Told
+  -- the end to which it goes reads it as this
+  pub packet : Packet
   -- it is the packet that the record says
-  pub kind-is : told .kind ≡ builtKind (r .kind)
+  pub kind-is : packetKind packet ≡ builtKind (r .kind)
   -- this end accepts it, all of it, and has the connection that is answered after it
-  pub judged-is : judgement c r (closedPacket r buffer) ≡ read.accepted told (closedLength r) (w .connection)
+  pub judged-is : judgement c r (closedPacket r buffer) ≡ read.accepted packet (closedLength r) (w .connection)
   -- and so it reads it with every table that is long enough for all packets
   pub reads : (room : ℕ) → maxPlaces ≤ room
-      → reading (directionIn r) c (closedPacket r buffer) room ≡ read.accepted told (closedLength r) (w .connection)
+      → reading (directionIn r) c (closedPacket r buffer) room ≡ read.accepted packet (closedLength r) (w .connection)

@@ -48,7 +48,7 @@ use Rattle.payload.specs.declared.field.FieldRead.{FieldRead}
 use Rattle.payload.specs.declared.lists.ListsRead.{ListsRead}
 use Rattle.payload.specs.declared.found.PacketRead.{PacketRead}
 use Rattle.payload.proofs.Listing.{headers-places}
-use Rattle.reader.specs.Meaning.{Told, accepted, told}
+use Rattle.reader.specs.Meaning.{accepted, bodyDeclared}
 use Rattle.reader.specs.Reading.{reading, tableAfter}
 use Rattle.reading_laws.proofs.Shown.{text-shown, code-shown, spelled-shown}
 use Rattle.messages.specs.Message.{Text, null, text, MessageName, coded, spelled, Header, isNull, contentOf}
@@ -363,7 +363,7 @@ forward-by method protocol uri addr host name port ssl count headers (ListsRead.
 
 -- a Forward declares what the headers at its places in the table do
 forward-declares : (s table : List ℕ) (f : Forward) → forwardAt s .end ≡ PacketRead.Packet (Packet.Forward f)
-    → (let p = Packet.Forward f in LengthDeclared (f .declared .0) (lengthValues (headersShown s (headerPlaces (told p) (tableOf p s table)))))
+    → (let p = Packet.Forward f in LengthDeclared (f .declared .0) (lengthValues (headersShown s (headerPlaces p (tableOf p s table)))))
 unfolding forwardAt listsAt
 forward-declares s table f e =
     let method = byteAfter s firstMethod lastMethod outOfRange afterCode in
@@ -378,7 +378,7 @@ forward-declares s table f e =
     let headers = headersAfter Direction.ToContainer s count in
     let by = forward-by method protocol uri addr host name port ssl count (headers .end) (listsAt s count .end) f (lists-declare s count) e in
     let many = headers-places Direction.ToContainer s count (HeadersRead.Headers (by .0) (by .1)) (by .2) in
-    let places : headerPlaces (told (Packet.Forward f)) (tableOf (Packet.Forward f) s table) ≡ headers .places =
+    let places : headerPlaces (Packet.Forward f) (tableOf (Packet.Forward f) s table) ≡ headers .places =
     header-places (Packet.Forward f) s table (headers .places) (behindHeaders s (headers .end) .places) refl (omega (arith, many, by .4)) in
     let make : MakeAll Declared.Absent (by .0) (lengthValues (headersShown s (headers .places))) =
     subst (HeadersMake s Declared.Absent (headers .places)) (by .2) (headers-behind s count) in
@@ -387,7 +387,7 @@ forward-declares s table f e =
 
 -- a packet declares what the message that it shows does
 packet-declares : (p : Packet) (s table : List ℕ) → packetAt (packetKind p) s .end ≡ PacketRead.Packet p
-    → MessageDeclares (told p .declared) (messageShown (told p) s (tableOf p s table))
+    → MessageDeclares (bodyDeclared p) (messageShown p s (tableOf p s table))
 unfolding messageShown
 packet-declares Packet.CPing s table e = refl
 packet-declares Packet.CPong s table e = refl
@@ -399,15 +399,9 @@ packet-declares (Packet.BodyChunk p) s table e = refl
 packet-declares (Packet.End reuse) s table e = refl
 
 -- what is told as declared of an accepted packet is what the message that it shows declares
-pub accepted-declares : (d : Direction) (c : Connection) (s table : List ℕ) (t : Told) (n : ℕ) (next : Connection)
-    → reading d c s (length table) ≡ accepted t n next
-    → MessageDeclares (t .declared) (messageShown t (part s 0 n) (tableAfter d c s table))
-accepted-declares d c s table t n next e =
-    let a = accepted-parses d c s (length table) t n next e in
-    let p : Packet = a .packet in
-    let own : List ℕ = part s 0 n in
-    let places : tableAfter d c s table ≡ tableOf p own table =
-    table-filled d c s table p n next (e ∙ ap (λ (u : Told). accepted u n next) (a .tells)) in
-    subst (λ (l : List ℕ). MessageDeclares (t .declared) (messageShown t own l)) (sym places)
-    (subst (λ (u : Told). MessageDeclares (u .declared) (messageShown u own (tableOf p own table))) (sym (a .tells))
-    (packet-declares p own table (a .parses .fields-are)))
+pub accepted-declares : (d : Direction) (c : Connection) (s table : List ℕ) (p : Packet) (n : ℕ) (next : Connection)
+    → reading d c s (length table) ≡ accepted p n next
+    → MessageDeclares (bodyDeclared p) (messageShown p (part s 0 n) (tableAfter d c s table))
+accepted-declares d c s table p n next e =
+    subst (λ (l : List ℕ). MessageDeclares (bodyDeclared p) (messageShown p (part s 0 n) l)) (sym (table-filled d c s table p n next e))
+    (packet-declares p (part s 0 n) table (accepted-parses d c s (length table) p n next e .parses .fields-are))

@@ -29,7 +29,7 @@ use Rattle.building.specs.Field.{Field}
 use Rattle.building_record.specs.Record as building
 use Rattle.building_record.specs.declared.BuildingKind.{BuildingKind}
 use Rattle.writer.specs.Meaning.{Written}
-use Rattle.reader.specs.Meaning.{accepted, told}
+use Rattle.reader.specs.Meaning.{accepted}
 use Rattle.reader.specs.Reading.{parse, readAsBody, judging, reading}
 use Rattle.reading_laws.proofs.Aside.{aside}
 use Rattle.messages.specs.Message.{Request, Response, Message, forward, sendHeaders, Header, Attribute, messageDirection}
@@ -92,10 +92,10 @@ pieces-stand : {c : Connection} {own : List Field} {headers : List Header} {attr
 pieces-stand {c} {buffer = buffer} {left = left} {w = w} kind m rest bytes way k each =
     let d : Direction = directionOf (building.builtKind kind) in
     let whole : List ℕ = messageBytes m in
-    let reads : reading d c whole maxPlaces ≡ accepted (k .tells) (length whole) (w .connection) = aside d c whole maxPlaces (omega arith) ∙ k .judged in
-    let a = accepted-parses d c whole maxPlaces (k .tells) (length whole) (w .connection) reads in
-    let p : Packet = a .packet in
-    let r : Parses d whole p = all-parses d c whole maxPlaces (k .tells) (w .connection) reads in
+    let p : Packet = k .found in
+    let reads : reading d c whole maxPlaces ≡ accepted p (length whole) (w .connection) = aside d c whole maxPlaces (omega arith) ∙ k .judged in
+    let a = accepted-parses d c whole maxPlaces p (length whole) (w .connection) reads in
+    let r : Parses d whole p = all-parses d c whole maxPlaces p (w .connection) reads in
     let is : packetKind p ≡ building.builtKind kind = kind-found c kind rest p (subst (λ (s : List ℕ). Parses d s p) bytes r) (a .allows) (k .state) in
     let Showing : Packet → Type 0 = λ q. Parses d whole q → Shows q whole m in
     let shows : Shows p whole m = of-kind Showing p (subst (OfKind Showing) (sym is) each) r in
@@ -130,7 +130,7 @@ send-headers-forth response c buffer w left fit e =
 
 -- a packet that parses is judged good by a connection that allows its move
 parses-judged : {d : Direction} {s : List ℕ} {p : Packet} → Parses d s p → (c : Connection) → allowed c (packetMove p) ≡ true
-    → judging c (parse d (readAsBody d c) s) ≡ accepted (told p) (length s) (after c (packetMove p))
+    → judging c (parse d (readAsBody d c) s) ≡ accepted p (length s) (after c (packetMove p))
 parses-judged {d} {s} r c a = sym (aside d c s maxPlaces (omega arith)) ∙ parses-alone r c a maxPlaces (parses-places r)
 
 -- a packet in pieces whose fields are kept is written back as its bytes
@@ -142,10 +142,10 @@ kept-back : {c : Connection} {s buffer : List ℕ} {p : Packet} {m : Message} {o
 kept-back {c} {s} {buffer} {p} {m} kind r a in-state fits kept writes =
     let d : Direction = directionOf (building.builtKind kind) in
     let size : length (messageBytes m) ≡ length s = ap length (kept .bytes-are) in
-    let judged : judging c (parse d (readAsBody d c) (messageBytes m)) ≡ accepted (told p) (length s) (after c (packetMove p)) =
+    let judged : judging c (parse d (readAsBody d c) (messageBytes m)) ≡ accepted p (length s) (after c (packetMove p)) =
     ap (λ (l : List ℕ). judging c (parse d (readAsBody d c) l)) (kept .bytes-are) ∙ parses-judged r c a in
     let written =
-    writes (told p) (length s) (after c (packetMove p)) (kept .own-fine) (kept .headers-fine) (kept .attributes-fine) (kept .few)
+    writes p (length s) (after c (packetMove p)) (kept .own-fine) (kept .headers-fine) (kept .attributes-fine) (kept .few)
     (omega (arith, parses-most r, size)) (omega (arith, size)) in-state judged in
     record {
       written = rw (kept .bytes-are) at written;
@@ -162,8 +162,8 @@ forward-back f d c s table bytes r a room buffer fits =
     let places = forward-table s table f (q .fields-are) in
     let lists = forward-handed s f (q .fields-are) .lists in
     let kept =
-    forward-kept s f (headerPlaces (told (Packet.Forward f)) (tableOf (Packet.Forward f) s table))
-    (attributePlaces (told (Packet.Forward f)) (tableOf (Packet.Forward f) s table)) bytes q
+    forward-kept s f (headerPlaces (Packet.Forward f) (tableOf (Packet.Forward f) s table))
+    (attributePlaces (Packet.Forward f) (tableOf (Packet.Forward f) s table)) bytes q
     (rw (places .0, places .1) (lists .are)) (rw (places .0) (lists .headers-many)) in
     kept-back BuildingKind.Forward q a (both-first (inState c Kind.Forward) true a) fits (kept .2)
     (rw (kept .1) (forward-writes c (kept .0) buffer)))

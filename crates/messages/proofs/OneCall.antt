@@ -50,13 +50,11 @@ use Rattle.building.proofs.Calls.{done-own, done-fits, after-written, fits-done
 use Rattle.building.proofs.Faults.{faultless}
 use Rattle.writer.specs.Meaning.{Written}
 use Rattle.writer.specs.Sending.{packetOf, sendingFaults, sending, bodyPayload, chunkPayload, bareCall, bodyCall, chunkCall, getCall, endCall}
-use Rattle.reader.specs.Meaning.{told}
 use Rattle.messages.specs.Message as messages
 use Rattle.messages.specs.Message.{Message, cping, cpong, forward, body, getBody, sendHeaders, bodyChunk, end, messageDirection, Fit}
 use Rattle.messages.specs.Bytes.{payloadOf, messageBytes}
 use Rattle.messages.specs.Writing.{wrote, wroteBy, oneCall, writing}
 use Rattle.messages.specs.Shown.{messageShown}
-use Rattle.messages.proofs.Fixed.{boolean-back}
 use Rattle.messages.proofs.Frames.{frame-written, head-kept}
 use Rattle.messages.proofs.Parses.{isBody, Parses, parses-most, coded-parses, coded-kept}
 use Rattle.messages.proofs.Tables.{tableOf}
@@ -345,7 +343,7 @@ one-packet (end reuse) one fit = record {
   packet = Packet.End reuse;
   calls = end-calls reuse;
   parses = λ h. end-parses reuse;
-  shows = record { asks = refl; shown = λ table. ap end (boolean-back reuse) };
+  shows = record { asks = refl; shown = λ table. refl };
 }
 
 -- what a call wrote stands at the start of the buffer
@@ -550,7 +548,7 @@ record OneShown (d : Direction) (s : List ℕ) (p : Packet) (m : Message) : Type
 
 -- each such packet shows such a message
 one-shown : (d : Direction) (s table : List ℕ) (p : Packet) → IsOne (packetKind p) → Bytes s → Parses d s p
-    → OneShown d s p (messageShown (told p) s table)
+    → OneShown d s p (messageShown p s table)
 unfolding messageShown
 one-shown d s table Packet.CPing one bytes r = record { calls = cping-calls; kept = cping-kept bytes r; fit = tt; way = r .way }
 one-shown d s table Packet.CPong one bytes r = record { calls = cpong-calls; kept = cpong-kept bytes r; fit = tt; way = r .way }
@@ -565,13 +563,12 @@ one-shown d s table (Packet.SendHeaders h) one bytes r = absurd one
 one-shown d s table (Packet.BodyChunk p) one bytes r =
     let k = chunk-kept bytes p r in
     record { calls = chunk-calls (part s (p .start .0) (p .len)) p (k .1); kept = k .0; fit = tt; way = r .way }
-one-shown d s table (Packet.End reuse) one bytes r =
-    rw (boolean-back reuse) (record { calls = end-calls reuse; kept = end-kept bytes reuse r; fit = tt; way = r .way })
+one-shown d s table (Packet.End reuse) one bytes r = record { calls = end-calls reuse; kept = end-kept bytes reuse r; fit = tt; way = r .way }
 
 -- a packet that one call writes, once read, is written back
 pub one-back : (p : Packet) → IsOne (packetKind p) → Back p
 one-back p one d c s table bytes r a places buffer room =
-    let m : Message = messageShown (told p) s (tableOf p s table) in
+    let m : Message = messageShown p s (tableOf p s table) in
     let k = one-shown d s (tableOf p s table) p one bytes r in
     let same : packetOf (packetMove p) (payloadOf m) ≡ s = k .calls .bytes-are ∙ sym (k .kept) in
     let most : length (packetOf (packetMove p) (payloadOf m)) ≤ maxPacket = rw same (parses-most r) in

@@ -42,14 +42,14 @@ use Rattle.payload.proofs.Parsed.{parsed-kind, move-kind}
 use Rattle.building_record.specs.Record as building
 use Rattle.building_record.specs.declared.BuildingKind.{BuildingKind}
 use Rattle.reader.specs.Frame.{frameAt}
-use Rattle.reader.specs.Meaning.{Told, accepted, told, placesNeeded}
+use Rattle.reader.specs.Meaning.{accepted, placesNeeded}
 use Rattle.reader.specs.Reading.{readAsBody, reading}
 use Rattle.reader.specs.declared.frame.FrameRead.{FrameRead}
 use Rattle.reader.proofs.Framing.{frame-inside}
 use Rattle.reading_laws.proofs.Acceptance.{accepted-by, accepted-is}
 use Rattle.reading_laws.specs.Acceptance.{Answered}
 use Rattle.reading_laws.proofs.Later.{later-answer}
-use Rattle.reading_laws.proofs.Inside.{told-inside}
+use Rattle.reading_laws.proofs.Inside.{packet-inside}
 use Rattle.messages.proofs.Frames.{part-whole, frame-written, head-kept}
 
 -- a body packet's kind
@@ -101,7 +101,7 @@ none-due c BuildingKind.SendHeaders e = refl
 
 -- a packet that parses is accepted by every connection that allows its move
 pub parses-alone : {d : Direction} {s : List ℕ} {p : Packet} → Parses d s p → (c : Connection) → allowed c (packetMove p) ≡ true
-    → (room : ℕ) → placesNeeded (told p) ≤ room → reading d c s room ≡ accepted (told p) (length s) (after c (packetMove p))
+    → (room : ℕ) → placesNeeded p ≤ room → reading d c s room ≡ accepted p (length s) (after c (packetMove p))
 unfolding part
 parses-alone {d} {s} {p} r c a room h =
     let all : part s 0 (length s) ≡ s = take-length s in
@@ -110,8 +110,8 @@ parses-alone {d} {s} {p} r c a room h =
 
 -- whatever stands behind it
 pub parses-accepted : {d : Direction} {s : List ℕ} {p : Packet} → Parses d s p → (c : Connection) → allowed c (packetMove p) ≡ true
-    → (rest : List ℕ) (room : ℕ) → placesNeeded (told p) ≤ room
-    → reading d c (s ++ rest) room ≡ accepted (told p) (length s) (after c (packetMove p))
+    → (rest : List ℕ) (room : ℕ) → placesNeeded p ≤ room
+    → reading d c (s ++ rest) room ≡ accepted p (length s) (after c (packetMove p))
 parses-accepted {d} {s} {p} r c a rest room h =
     let alone = parses-alone r c a room h in
     later-answer s rest d c room (subst Answered (sym alone) tt) ∙ alone
@@ -121,14 +121,12 @@ pub parses-most : {d : Direction} {s : List ℕ} {p : Packet} → Parses d s p �
 parses-most {d} {s} r = frame-inside d s (FrameRead.Whole (length s)) (r .whole-is) .1 .0
 
 -- it asks for at most 328 places
-pub parses-places : {d : Direction} {s : List ℕ} {p : Packet} → Parses d s p → placesNeeded (told p) ≤ maxPlaces
-parses-places {d} {s} {p} r = told-inside (packetKind p) s p (r .fields-are) .places-most
+pub parses-places : {d : Direction} {s : List ℕ} {p : Packet} → Parses d s p → placesNeeded p ≤ maxPlaces
+parses-places {d} {s} {p} r = packet-inside (packetKind p) s p (r .fields-are) .places-most
 
 -- what an accepted packet is
-pub record AcceptedAs (d : Direction) (c : Connection) (s : List ℕ) (t : Told) (n : ℕ) (next : Connection) : Type 0 where
-  pub packet : Packet
+pub record AcceptedAs (d : Direction) (c : Connection) (s : List ℕ) (packet : Packet) (n : ℕ) (next : Connection) : Type 0 where
   pub parses : Parses d (part s 0 n) packet
-  pub tells : t ≡ told packet
   pub allows : allowed c (packetMove packet) ≡ true
   pub steps : next ≡ after c (packetMove packet)
   pub size : n ≡ length (part s 0 n)
@@ -146,36 +144,33 @@ read-way Direction.ToContainer c s kind e = go (bodyDue c) refl
         ap directionOf (sym b)
 
 -- a packet that is accepted parses
-pub accepted-parses : (d : Direction) (c : Connection) (s : List ℕ) (room : ℕ) (t : Told) (n : ℕ) (next : Connection)
-    → reading d c s room ≡ accepted t n next → AcceptedAs d c s t n next
-accepted-parses d c s room t n next e =
-    let a = accepted-is d c s room t n next e in
+pub accepted-parses : (d : Direction) (c : Connection) (s : List ℕ) (room : ℕ) (p : Packet) (n : ℕ) (next : Connection)
+    → reading d c s room ≡ accepted p n next → AcceptedAs d c s p n next
+accepted-parses d c s room p n next e =
+    let a = accepted-is d c s room p n next e in
     let inside = frame-inside d s (FrameRead.Whole n) (a .whole-is) in
     let there : n ≤ length s = inside .1 .1 in
     let size : length (part s 0 n) ≡ n = length-part s 0 n (rw (zero-add n) there) in
-    let kind : packetKind (a .packet) ≡ a .kind = parsed-kind (a .kind) (part s 0 n) (a .packet) (a .fields-are) in
-    let way : directionOf (packetKind (a .packet)) ≡ d = ap directionOf kind ∙ read-way d c (part s 0 n) (a .kind) (a .kind-is) in
+    let kind : packetKind p ≡ a .kind = parsed-kind (a .kind) (part s 0 n) p (a .fields-are) in
+    let way : directionOf (packetKind p) ≡ d = ap directionOf kind ∙ read-way d c (part s 0 n) (a .kind) (a .kind-is) in
     record {
-      packet = a .packet;
       parses = record {
         way = way;
         whole-is = part-whole d s n (a .whole-is) ∙ ap FrameRead.Whole (sym size);
-        kind-is = rw (← packet-as-body c d (a .packet) way (a .allows), kind) (a .kind-is);
+        kind-is = rw (← packet-as-body c d p way (a .allows), kind) (a .kind-is);
         fields-are = rw kind (a .fields-are);
       };
-      tells = a .tells;
       allows = a .allows;
       steps = a .steps;
       size = sym size;
     }
 
 -- where all of some bytes is accepted, it is these bytes that parse
-pub all-parses : (d : Direction) (c : Connection) (s : List ℕ) (room : ℕ) (t : Told) (next : Connection)
-    → (e : reading d c s room ≡ accepted t (length s) next) → Parses d s (accepted-parses d c s room t (length s) next e .packet)
+pub all-parses : (d : Direction) (c : Connection) (s : List ℕ) (room : ℕ) (p : Packet) (next : Connection)
+    → reading d c s room ≡ accepted p (length s) next → Parses d s p
 unfolding part
-all-parses d c s room t next e =
-    let a = accepted-parses d c s room t (length s) next e in
-    subst (λ (l : List ℕ). Parses d l (a .packet)) (take-length s) (a .parses)
+all-parses d c s room p next e =
+    subst (λ (l : List ℕ). Parses d l p) (take-length s) (accepted-parses d c s room p (length s) next e .parses)
 
 -- a packet that was written with a kind's code first in its payload is of that kind; a body packet has no code
 pub kind-written : (k : Kind) (rest : List ℕ) → isBody k ≡ false

@@ -12,7 +12,7 @@ use lib.ListN.{length, getD, drop}
 use Rattle.wire.specs.Pick.{pick, between}
 use Rattle.wire.specs.Refusal.{outOfRange, cutShort, tooMany, leftOver}
 use Rattle.wire.specs.Bytes.{part, integerBytes}
-use Rattle.wire.specs.Field.{byteAt, integerAt, booleanAt, booleanBytes, stringAt, isOptional, booleanNumber}
+use Rattle.wire.specs.Field.{byteAt, integerAt, booleanAt, booleanBytes, stringAt, isOptional}
 use Rattle.wire.specs.Packet.{packet, afterCodePlace}
 use Rattle.packet.specs.declared.Direction.{Direction}
 use Rattle.wire.specs.declared.StringField.{StringField}
@@ -50,7 +50,6 @@ use Rattle.building.specs.Field.{Field, plain, byteWithin, integerWithin, field
 use Rattle.building.proofs.Faults.{range-most}
 use Rattle.building_record.specs.Record.{builtKind}
 use Rattle.building_record.specs.declared.BuildingKind.{BuildingKind}
-use Rattle.reader.specs.Meaning.{told}
 use Rattle.closing.specs.Closing.{lastBytes}
 use Rattle.messages.specs.Message.{Header, Attribute, Request, Response, Message, forward, sendHeaders, messageDirection, Fit}
 use Rattle.messages.specs.Bytes.{attributesBytes, requestFields, responseFields, piecesPayload, payloadOf, messageBytes}
@@ -287,11 +286,11 @@ ResponseKept s m =
 
 -- the message that a Forward shows, by where its headers and attributes are
 abbrev pub forwardShown : List ℕ → Forward → List ℕ → List ℕ → Message
-forwardShown s f headers attributes = shownBy (told (Packet.Forward f)) s headers attributes Kind.Forward
+forwardShown s f headers attributes = shownBy (Packet.Forward f) s headers attributes
 
 -- and that of a Send Headers
 abbrev pub sendHeadersShown : List ℕ → SendHeaders → List ℕ → Message
-sendHeadersShown s h headers = shownBy (told (Packet.SendHeaders h)) s headers [] Kind.SendHeaders
+sendHeadersShown s h headers = shownBy (Packet.SendHeaders h) s headers []
 
 -- what is held up to the end is what stands there
 held-rest : (s : List ℕ) (at : ℕ) (bytes : List ℕ) → Held s at (length s) bytes → drop at s ≡ bytes
@@ -354,10 +353,8 @@ module _ (s : List ℕ) (packed : s ≡ packet Direction.ToContainer (codeOf Kin
       let k2 = protocol-behind (fieldPlace uri .0) (k3 .0) in
       let k1 = method-behind (fieldPlace protocol .0) (k2 .0) in
       let lists = h .2 (k9 .1 .held .inside) in
-      let shown : FieldKept s (fieldPlace ssl .0) (fieldPlace count .0) (plain (booleanBytes (eqb (booleanNumber (eqb (fieldNumber ssl) 1)) 1))) =
-      subst (λ (b : Bool). FieldKept s (fieldPlace ssl .0) (fieldPlace count .0) (plain (booleanBytes b))) (sym (boolean-back (eqb (fieldNumber ssl) 1))) (k8 .1) in
       let fixed = fields-front (k1 .1) (fields-front (k2 .1) (fields-front (k3 .1) (fields-front (k4 .1) (fields-front (k5 .1)
-      (fields-front (k6 .1) (fields-front (k7 .1) (fields-last shown))))))) in
+      (fields-front (k6 .1) (fields-front (k7 .1) (fields-last (k8 .1)))))))) in
       subst (λ (g : Forward). (length headers ≡ g .headers + g .headers) × RequestKept s (forwardShown s g headers attributes)) (forward-same _ f e) (
         lists .of-headers .placed,
         (

@@ -34,7 +34,6 @@ use Rattle.payload.proofs.Handed.{forward-handed, head-handed, finished-is}
 use Rattle.building.specs.Field.{opening, faultsOf, fieldsBytes}
 use Rattle.building.proofs.Sizes.{boolean-one}
 use Rattle.building.proofs.Faults.{faultless, range-most}
-use Rattle.reader.specs.Meaning.{told}
 use Rattle.messages.specs.Message.{Request, Response, forward, sendHeaders, isNull, contentOf, AttributesFit}
 use Rattle.messages.specs.Bytes.{headersBytes, attributesBytes, numbersOf, nullsOf, requestFields, responseFields, payloadOf, messageBytes}
 use Rattle.messages.specs.Shown.{headersShown, attributesShown, shownBy, messageShown}
@@ -73,7 +72,7 @@ module _ {s : List ℕ} (short : length s ≤ maxPacket) (request : Request) (ow
   forward-counts : (f : Forward) → forwardAt s .end ≡ PacketRead.Packet (Packet.Forward f) → length (contentOf (request .protocol)) ≤ maxPacket
       → length (contentOf (request .uri)) ≤ maxPacket → length (contentOf (request .addr)) ≤ maxPacket → length (contentOf (request .host)) ≤ maxPacket
       → length (contentOf (request .name)) ≤ maxPacket
-      → (f .method ≡ request .method) × (f .«server_port» ≡ request .port) × (eqb (booleanNumber (f .«is_ssl»)) 1 ≡ request .ssl)
+      → (f .method ≡ request .method) × (f .«server_port» ≡ request .port) × (f .«is_ssl» ≡ request .ssl)
       × (f .headers ≡ length (request .headers))
   forward-counts f e h1 h2 h3 h4 h5 =
       let count : ℕ = length (request .headers) in
@@ -94,11 +93,11 @@ module _ {s : List ℕ} (short : length s ≤ maxPacket) (request : Request) (ow
       subst (λ (l : List ℕ). forwardAt l .end ≡ PacketRead.Packet (Packet.Forward f)) (stands .is) e in
       let numbers =
       forward-numbers f1 f2 f3 f4 f5 f6 f7 f8 f9 (listsAt l f9 .end) f (sym (ap (λ (x : Entries PacketRead). x .end) read) ∙ there) in
-      (numbers .0, numbers .1, rw (numbers .2, boolean-back (request .ssl), boolean-back (request .ssl)), numbers .3)
+      (numbers .0, numbers .1, numbers .2 ∙ boolean-back (request .ssl), numbers .3)
 
   -- and its fields and the places of its lists show the message
   forward-shows : (f : Forward) (e : forwardAt s .end ≡ PacketRead.Packet (Packet.Forward f)) → let lists = forward-handed s f e .lists in
-      shownBy (told (Packet.Forward f)) s (lists .of-headers) (lists .of-attributes) Kind.Forward ≡ forward request
+      shownBy (Packet.Forward f) s (lists .of-headers) (lists .of-attributes) ≡ forward request
   forward-shows f e =
       let b : List ℕ = behindCount request in
       let t8 : List ℕ = integerBytes (length (request .headers)) ++ b in
@@ -184,7 +183,7 @@ module _ {s : List ℕ} (short : length s ≤ maxPacket) (response : Response) (
 
   -- and its fields and the places of its headers show the message
   send-headers-shows : (h : SendHeaders) → sendHeadersAt s .end ≡ PacketRead.Packet (Packet.SendHeaders h)
-      → shownBy (told (Packet.SendHeaders h)) s (sendHeadersAt s .places) [] Kind.SendHeaders ≡ sendHeaders response
+      → shownBy (Packet.SendHeaders h) s (sendHeadersAt s .places) [] ≡ sendHeaders response
   send-headers-shows h e =
       let t3 : List ℕ = headersBytes Direction.ToServer (response .headers) ++ [] in
       let t2 : List ℕ = integerBytes (length (response .headers)) ++ t3 in

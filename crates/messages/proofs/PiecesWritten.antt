@@ -11,6 +11,7 @@ use lib.ListN.{length, length-append}
 use Rattle.wire.specs.Bytes.{over, part, integerBytes}
 use Rattle.wire.specs.Packet.{leading, packetHead, packet, afterCodePlace, payloadPlace}
 use Rattle.packet.specs.declared.Direction.{Direction}
+use Rattle.packet.specs.declared.Packet.{Packet}
 use Rattle.wire.proofs.Bytes.{length-over, over-over, over-there}
 use Rattle.wire.proofs.Field.{length-leading, head-four}
 use Rattle.wire.proofs.Parts.{over-inside}
@@ -27,7 +28,7 @@ use Rattle.building_record.specs.declared.BuildingKind.{BuildingKind}
 use Rattle.building_record.specs.declared.Building.{Building}
 use Rattle.building_record.proofs.Laws.{possible-yes}
 use Rattle.writer.specs.Meaning.{Written}
-use Rattle.reader.specs.Meaning.{Told, accepted}
+use Rattle.reader.specs.Meaning.{accepted}
 use Rattle.reader.specs.Reading.{parse, readAsBody, judging}
 use Rattle.closing.specs.Closing.{lastBytes, closedLength, closed, closedPacket, judgement, closeOutcome, closeBuffer}
 use Rattle.closing.specs.Done.{Ready, CloseDone}
@@ -190,16 +191,16 @@ pub record PiecesWritten (c : Connection) (kind : BuildingKind) (own : List Fiel
   pub size : w .size ≡ length whole
   pub is : after ≡ over buffer 0 whole
   pub state : inState c (builtKind kind) ≡ true
-  pub tells : Told
+  pub found : Packet
   pub judged : judging c (parse (directionOf (builtKind kind)) (readAsBody (directionOf (builtKind kind)) c) whole)
-      ≡ accepted tells (length whole) (w .connection)
+      ≡ accepted found (length whole) (w .connection)
 
 -- and the other way: where no piece has a fault, all fit, and the packet is judged good, it is written
 abbrev pub Writes : Connection → BuildingKind → List Field → List Header → List Attribute → List ℕ → List ℕ → Wrote → Type 0
-Writes c kind own headers attributes whole buffer answer = (t : Told) (taken : ℕ) (next : Connection) → FieldsFine own
+Writes c kind own headers attributes whole buffer answer = (p : Packet) (taken : ℕ) (next : Connection) → FieldsFine own
     → HeadersFine (directionOf (builtKind kind)) headers → AttributesFine attributes → length headers ≤ maxHeaders → length whole ≤ maxPacket
     → length whole ≤ length buffer → inState c (builtKind kind) ≡ true
-    → judging c (parse (directionOf (builtKind kind)) (readAsBody (directionOf (builtKind kind)) c) whole) ≡ accepted t taken next
+    → judging c (parse (directionOf (builtKind kind)) (readAsBody (directionOf (builtKind kind)) c) whole) ≡ accepted p taken next
     → answer ≡ wrote (record { size = length whole; connection = next }) (over buffer 0 whole)
 
 module _ (c : Connection) (kind : BuildingKind) (own : List Field) (headers : List Header) (attributes : List Attribute) (buffer : List ℕ) where
@@ -267,10 +268,10 @@ module _ (c : Connection) (kind : BuildingKind) (own : List Field) (headers : Li
         size = closes .size-is ∙ size;
         is = sym (shut .1) ∙ closes .buffer-is ∙ closed-bytes kind own headers attributes buffer came (here .room);
         state = closes .ready .allowed;
-        tells = closes .told;
+        found = closes .packet;
         judged =
-            subst (λ (n : ℕ). judging c (parse d (readAsBody d c) whole) ≡ accepted (closes .told) n (w .connection)) size
-            (subst (λ (l : List ℕ). judging c (parse d (readAsBody d c) l) ≡ accepted (closes .told) (closedLength r) (w .connection))
+            subst (λ (n : ℕ). judging c (parse d (readAsBody d c) whole) ≡ accepted (closes .packet) n (w .connection)) size
+            (subst (λ (l : List ℕ). judging c (parse d (readAsBody d c) l) ≡ accepted (closes .packet) (closedLength r) (w .connection))
             (closed-packet kind own headers attributes buffer came fits) (closes .judged-is));
       }
 
@@ -278,7 +279,7 @@ module _ (c : Connection) (kind : BuildingKind) (own : List Field) (headers : Li
   pieces-write : Takes kind attributes
       → Writes c kind own headers attributes (wholePacket kind own headers attributes) buffer (inPieces c (fixedCall kind own) headers attributes buffer)
   unfolding judgement
-  pieces-write takes t taken next own-fine headers-fine attributes-fine few within fits state judged =
+  pieces-write takes p taken next own-fine headers-fine attributes-fine few within fits state judged =
       let came : Bool = cameAfter false attributes in
       let d : Direction = directionOf (builtKind kind) in
       let whole : List ℕ = wholePacket kind own headers attributes in
@@ -296,7 +297,7 @@ module _ (c : Connection) (kind : BuildingKind) (own : List Field) (headers : Li
         inside = omega arith;
       } in
       let closes =
-      done-close c r x ready t taken next
+      done-close c r x ready p taken next
       (ap (λ (l : List ℕ). judging c (parse d (readAsBody d c) l)) (closed-packet kind own headers attributes buffer came fits) ∙ judged) in
       ap (closeBuilt c) (here .is)
       ∙ ap (wroteBy (closeBuffer c r x)) (closes .0)

@@ -18,7 +18,7 @@ use Rattle.payload.specs.Kinds.{packetKind, packetMove}
 use Rattle.packet.specs.declared.Packet.{Packet}
 use Rattle.building.specs.Call.{Outcome, refused, done}
 use Rattle.writer.specs.Meaning.{Written}
-use Rattle.reader.specs.Meaning.{Told, accepted, told, placesNeeded}
+use Rattle.reader.specs.Meaning.{accepted, placesNeeded}
 use Rattle.reader.specs.Reading.{reading, tableAfter}
 use Rattle.reading_laws.proofs.Acceptance.{accepted-is}
 use Rattle.messages.specs.Message.{Message, messageDirection, placesFor, Fit}
@@ -37,12 +37,12 @@ Forth m = (c : Connection) (buffer : List ℕ) (w : Written) (left : List ℕ) �
 -- a packet is written again as its bytes: the message that it shows, by each connection that allows its move
 abbrev pub Back : Packet → Type 0
 Back p = (d : Direction) (c : Connection) (s table : List ℕ) → Bytes s → Parses d s p → allowed c (packetMove p) ≡ true
-    → placesNeeded (told p) ≤ length table → (buffer : List ℕ) → length s ≤ length buffer
-    → WrittenBack d c s buffer (messageShown (told p) s (tableOf p s table)) (length s) (after c (packetMove p))
+    → placesNeeded p ≤ length table → (buffer : List ℕ) → length s ≤ length buffer
+    → WrittenBack d c s buffer (messageShown p s (tableOf p s table)) (length s) (after c (packetMove p))
 
 -- a packet that parses is read back, whatever stands behind it, as the message that it shows
 read-back : {d : Direction} {s : List ℕ} {p : Packet} → Parses d s p → (c : Connection) → allowed c (packetMove p) ≡ true
-    → (rest table : List ℕ) → placesNeeded (told p) ≤ length table → (m : Message) → messageShown (told p) s (tableOf p s table) ≡ m
+    → (rest table : List ℕ) → placesNeeded p ≤ length table → (m : Message) → messageShown p s (tableOf p s table) ≡ m
     → ReadBack d c (s ++ rest) table m (length s) (after c (packetMove p))
 unfolding part
 read-back {d} {s} {p} r c a rest table h m shows =
@@ -50,7 +50,7 @@ read-back {d} {s} {p} r c a rest table h m shows =
     let answer = parses-accepted r c a rest (length table) h in
     let places = table-filled d c (s ++ rest) table p (length s) (after c (packetMove p)) answer in
     record {
-      told = told p;
+      packet = p;
       answer = answer;
       message = rw (places, alone) shows;
     }
@@ -67,8 +67,8 @@ wrote-done buffer (done v) e = (cc, cc)
 
 -- a packet shows a message: it asks for the message's places, and in a table with its own places it is the message that is shown
 pub record Shows (p : Packet) (s : List ℕ) (m : Message) : Type 0 where
-  pub asks : placesNeeded (told p) ≡ placesFor m
-  pub shown : (table : List ℕ) → messageShown (told p) s (tableOf p s table) ≡ m
+  pub asks : placesNeeded p ≡ placesFor m
+  pub shown : (table : List ℕ) → messageShown p s (tableOf p s table) ≡ m
 
 -- a call that writes a message left its packet at the start of the buffer: the packet parses, its move is allowed, and it shows the message
 pub record Stands (m : Message) (c : Connection) (w : Written) (left : List ℕ) : Type 0 where
@@ -94,17 +94,14 @@ own-way {p} {c} {s} {buffer} {m} {n} {next} back r =
     subst (λ (x : Direction). Parses x s p → WrittenBack x c s buffer m n next) (r .way) back r
 
 -- where every packet is written back, so is every one that is accepted
-pub back-by : ((p : Packet) → Back p) → (d : Direction) (c : Connection) (s table : List ℕ) (t : Told) (n : ℕ) (next : Connection) → Bytes s
-    → reading d c s (length table) ≡ accepted t n next → (buffer : List ℕ) → n ≤ length buffer
-    → WrittenBack d c (part s 0 n) buffer (messageShown t (part s 0 n) (tableAfter d c s table)) n next
-back-by each d c s table t n next bytes e buffer h =
-    let a = accepted-parses d c s (length table) t n next e in
-    let p : Packet = a .packet in
+pub back-by : ((p : Packet) → Back p) → (d : Direction) (c : Connection) (s table : List ℕ) (p : Packet) (n : ℕ) (next : Connection) → Bytes s
+    → reading d c s (length table) ≡ accepted p n next → (buffer : List ℕ) → n ≤ length buffer
+    → WrittenBack d c (part s 0 n) buffer (messageShown p (part s 0 n) (tableAfter d c s table)) n next
+back-by each d c s table p n next bytes e buffer h =
+    let a = accepted-parses d c s (length table) p n next e in
     let own : List ℕ = part s 0 n in
-    let room : placesNeeded (told p) ≤ length table = rw (← a .tells) (accepted-is d c s (length table) t n next e .has-room) in
-    let places : tableAfter d c s table ≡ tableOf p own table =
-    table-filled d c s table p n next (e ∙ ap (λ (u : Told). accepted u n next) (a .tells)) in
-    let shows : messageShown (told p) own (tableOf p own table) ≡ messageShown t own (tableAfter d c s table) =
-    ap (λ (u : Told). messageShown u own (tableOf p own table)) (sym (a .tells)) ∙ ap (messageShown t own) (sym places) in
+    let room : placesNeeded p ≤ length table = accepted-is d c s (length table) p n next e .has-room in
+    let shows : messageShown p own (tableOf p own table) ≡ messageShown p own (tableAfter d c s table) =
+    ap (messageShown p own) (sym (table-filled d c s table p n next e)) in
     rw (shows, ← a .size, ← a .steps) at
     (each p d c own table (bytes-part s 0 n bytes) (a .parses) (a .allows) room buffer (rw (← a .size) h))

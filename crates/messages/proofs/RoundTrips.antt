@@ -13,7 +13,7 @@ use Rattle.connection.specs.declared.Connection.{Connection}
 use Rattle.payload.specs.Kinds.{packetMove}
 use Rattle.packet.specs.declared.Packet.{Packet}
 use Rattle.writer.specs.Meaning.{Written}
-use Rattle.reader.specs.Meaning.{Told, accepted}
+use Rattle.reader.specs.Meaning.{accepted}
 use Rattle.reader.specs.Reading.{reading, tableAfter}
 use Rattle.messages.specs.Message.{Message, messageKind, cping, cpong, forward, body, getBody, sendHeaders, bodyChunk, end, messageDirection, placesFor, Fit}
 use Rattle.messages.specs.Bytes.{payloadOf, messageBytes}
@@ -84,7 +84,7 @@ back (Packet.End reuse) = one-back (Packet.End reuse) tt
 
 -- writing a message that was read, from an equal connection and into a buffer that is long enough: it is written, the packet's bytes stand
 -- from the buffer's first place on and all else is as it was, and the connection after it is the reader's
-pub read-writes : (d : Direction) (c : Connection) (s table : List ℕ) (t : Told) (n : ℕ) (next : Connection) → Bytes s
-    → reading d c s (length table) ≡ accepted t n next → (buffer : List ℕ) → n ≤ length buffer
-    → WrittenBack d c (part s 0 n) buffer (messageShown t (part s 0 n) (tableAfter d c s table)) n next
+pub read-writes : (d : Direction) (c : Connection) (s table : List ℕ) (p : Packet) (n : ℕ) (next : Connection) → Bytes s
+    → reading d c s (length table) ≡ accepted p n next → (buffer : List ℕ) → n ≤ length buffer
+    → WrittenBack d c (part s 0 n) buffer (messageShown p (part s 0 n) (tableAfter d c s table)) n next
 read-writes = back-by back

@@ -20,9 +20,8 @@ use Rattle.packet.specs.declared.Packet.{Packet}
 use Rattle.payload.specs.declared.found.PacketRead.{PacketRead}
 use Rattle.payload.proofs.Parsed.{parsed-kind}
 use Rattle.payload.proofs.Handed.{forward-handed, head-handed}
-use Rattle.reader.specs.Meaning.{Told, accepted, told}
+use Rattle.reader.specs.Meaning.{accepted, headersIn, attributesIn}
 use Rattle.reader.specs.Reading.{reading, tableAfter}
-use Rattle.reading_laws.proofs.Handed.{told-kind}
 use Rattle.reading_laws.proofs.Acceptance.{accepted-is, accepted-fills}
 use Rattle.messages.specs.Shown.{headerPlaces, attributePlaces}
 
@@ -32,23 +31,21 @@ tableOf p s table = over table 0 (packetAt (packetKind p) s .places)
 
 -- an accepted packet fills the table with its own places
 pub table-filled : (d : Direction) (c : Connection) (s table : List ℕ) (p : Packet) (n : ℕ) (next : Connection)
-    → reading d c s (length table) ≡ accepted (told p) n next → tableAfter d c s table ≡ tableOf p (part s 0 n) table
+    → reading d c s (length table) ≡ accepted p n next → tableAfter d c s table ≡ tableOf p (part s 0 n) table
 table-filled d c s table p n next e =
-    let a = accepted-is d c s (length table) (told p) n next e in
-    let kind : a .kind ≡ packetKind p =
-    sym (parsed-kind (a .kind) (part s 0 n) (a .packet) (a .fields-are)) ∙ sym (told-kind (a .packet))
-    ∙ ap (λ (t : Told). t .kind) (sym (a .tells)) ∙ told-kind p in
-    accepted-fills d c s table (told p) n next e .0 ∙ ap (λ (k : Kind). over table 0 (packetAt k (part s 0 n) .places)) kind
+    let a = accepted-is d c s (length table) p n next e in
+    let kind : a .kind ≡ packetKind p = sym (parsed-kind (a .kind) (part s 0 n) p (a .fields-are)) in
+    accepted-fills d c s table p n next e .0 ∙ ap (λ (k : Kind). over table 0 (packetAt k (part s 0 n) .places)) kind
 
 -- a packet's places, parted into those of its headers and those of its attributes
 module _ (p : Packet) (s table headers attributes : List ℕ) (are : packetAt (packetKind p) s .places ≡ headers ++ attributes)
-    (many : length headers ≡ 2 * told p .headers) where
+    (many : length headers ≡ 2 * headersIn p) where
   -- the places of its headers in the table, whatever its length
-  pub header-places : headerPlaces (told p) (tableOf p s table) ≡ headers
+  pub header-places : headerPlaces p (tableOf p s table) ≡ headers
   header-places = rw (are, ← many) (over-first table headers attributes)
 
   -- and those of its attributes
-  attribute-places : length attributes ≡ 2 * told p .attributes → attributePlaces (told p) (tableOf p s table) ≡ attributes
+  attribute-places : length attributes ≡ 2 * attributesIn p → attributePlaces p (tableOf p s table) ≡ attributes
   attribute-places more = rw (are, ← many, ← more) (over-second table headers attributes)
 
 -- a Forward has two places for each header and two for each attribute
@@ -61,7 +58,7 @@ forward-many s f e =
 -- they are those in the table
 pub forward-table : (s table : List ℕ) (f : Forward) (e : forwardAt s .end ≡ PacketRead.Packet (Packet.Forward f)) → (let lists = forward-handed s f e .lists in
     let p = Packet.Forward f in
-    (headerPlaces (told p) (tableOf p s table) ≡ lists .of-headers) × (attributePlaces (told p) (tableOf p s table) ≡ lists .of-attributes))
+    (headerPlaces p (tableOf p s table) ≡ lists .of-headers) × (attributePlaces p (tableOf p s table) ≡ lists .of-attributes))
 forward-table s table f e =
     let lists = forward-handed s f e .lists in
     let many = forward-many s f e in (
@@ -76,6 +73,6 @@ send-headers-many s h e = omega (arith, head-handed s h e .headers-many)
 
 -- they are those in the table
 pub send-headers-table : (s table : List ℕ) (h : SendHeaders) → sendHeadersAt s .end ≡ PacketRead.Packet (Packet.SendHeaders h)
-    → headerPlaces (told (Packet.SendHeaders h)) (tableOf (Packet.SendHeaders h) s table) ≡ sendHeadersAt s .places
+    → headerPlaces (Packet.SendHeaders h) (tableOf (Packet.SendHeaders h) s table) ≡ sendHeadersAt s .places
 send-headers-table s table h e =
     header-places (Packet.SendHeaders h) s table (sendHeadersAt s .places) [] (sym (append-nil (sendHeadersAt s .places))) (send-headers-many s h e)

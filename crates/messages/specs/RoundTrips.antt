@@ -7,9 +7,10 @@ use Prim.Native.Nat.{ℕ, _≤_}
 use lib.ListN.{length}
 use Rattle.wire.specs.Bytes.{part, over}
 use Rattle.packet.specs.declared.Direction.{Direction}
+use Rattle.packet.specs.declared.Packet.{Packet}
 use Rattle.connection.specs.declared.Connection.{Connection}
 use Rattle.writer.specs.Meaning.{Written}
-use Rattle.reader.specs.Meaning.{Told, accepted}
+use Rattle.reader.specs.Meaning.{accepted}
 use Rattle.reader.specs.Reading.{reading, tableAfter}
 use Rattle.messages.specs.Message.{Message, messageDirection, Fit}
 use Rattle.messages.specs.Bytes.{messageBytes}
@@ -24,9 +25,9 @@ pub record WrittenBytes (m : Message) (buffer : List ℕ) (w : Written) (left : 
 
 -- reading these bytes is accepted, shows this message, takes so many bytes and steps to this connection
 pub record ReadBack (d : Direction) (c : Connection) (s table : List ℕ) (m : Message) (n : ℕ) (next : Connection) : Type 0 where
-  pub told : Told
-  pub answer : reading d c s (length table) ≡ accepted told n next
-  pub message : messageShown told (part s 0 n) (tableAfter d c s table) ≡ m
+  pub packet : Packet
+  pub answer : reading d c s (length table) ≡ accepted packet n next
+  pub message : messageShown packet (part s 0 n) (tableAfter d c s table) ≡ m
 
 -- a message is written as these bytes from the buffer's first place on, goes this way and steps to this connection
 pub record WrittenBack (d : Direction) (c : Connection) (s buffer : List ℕ) (m : Message) (n : ℕ) (next : Connection) : Type 0 where

@@ -5,16 +5,14 @@
 -- Assumes nothing.
 use mathlib.Core.List.{List, [], _∷_}
 use Prim.Native.Nat.{ℕ, _+_, _*_}
-use lib.Dec.{eqb}
 use lib.ListN.{getD}
 use Rattle.wire.specs.Pick.{pick}
 use Rattle.wire.specs.Bytes.{part}
 use Rattle.names.specs.Attribute.{attributeKind}
 use Rattle.packet.specs.declared.AttributeKind.{AttributeKind}
-use Rattle.connection.specs.declared.Kind.{Kind}
 use Rattle.packet.specs.declared.HeaderName.{HeaderName}
-use Rattle.reader.specs.Meaning.{Told}
-use Rattle.reading_laws.specs.Handed.{numberTold, placeTold}
+use Rattle.packet.specs.declared.Packet.{Packet}
+use Rattle.reader.specs.Meaning.{headersIn, attributesIn}
 use Rattle.views.specs.View.{integerView, nullView, textView, nameView}
 use Rattle.messages.specs.Message.{Text, null, text, MessageName, coded, spelled, Header, Value, string, integer, pair, Attribute, Message, cping, cpong, forward, body, getBody, sendHeaders, bodyChunk, end}
 
@@ -50,43 +48,39 @@ attributesShown s (at ∷ []) = []
 attributesShown s (at ∷ value ∷ later) =
     record { code = getD s at 0; value = valueBy s at value (attributeKind (getD s at 0)) } ∷ attributesShown s later
 
--- the places of headers in a table, and behind them those of attributes
-abbrev pub headerPlaces : Told → List ℕ → List ℕ
-headerPlaces t table = part table 0 (2 * t .headers)
+-- the places of a packet's headers in a table, and behind them those of its attributes
+abbrev pub headerPlaces : Packet → List ℕ → List ℕ
+headerPlaces packet table = part table 0 (2 * headersIn packet)
 
-abbrev pub attributePlaces : Told → List ℕ → List ℕ
-attributePlaces t table = part table (2 * t .headers) (2 * t .attributes)
+abbrev pub attributePlaces : Packet → List ℕ → List ℕ
+attributePlaces packet table = part table (2 * headersIn packet) (2 * attributesIn packet)
 
--- the string that is told at an index
-abbrev pub stringTold : List ℕ → Told → ℕ → Text
-stringTold s t i = textShown s (placeTold t i)
-
--- the message of a packet, by its kind and by where its headers and attributes are
-abbrev pub shownBy : Told → List ℕ → List ℕ → List ℕ → Kind → Message
-shownBy t s headers attributes Kind.CPing = cping
-shownBy t s headers attributes Kind.CPong = cpong
-shownBy t s headers attributes Kind.Forward = forward (record {
-  method = numberTold t 0;
-  protocol = stringTold s t 0;
-  uri = stringTold s t 1;
-  addr = stringTold s t 2;
-  host = stringTold s t 3;
-  name = stringTold s t 4;
-  port = numberTold t 1;
-  ssl = eqb (numberTold t 2) 1;
+-- the message of a packet, by where its headers and attributes are
+abbrev pub shownBy : Packet → List ℕ → List ℕ → List ℕ → Message
+shownBy Packet.CPing s headers attributes = cping
+shownBy Packet.CPong s headers attributes = cpong
+shownBy (Packet.Forward f) s headers attributes = forward (record {
+  method = f .method;
+  protocol = textShown s (f .protocol .0);
+  uri = textShown s (f .«req_uri» .0);
+  addr = textShown s (f .«remote_addr» .0);
+  host = textShown s (f .«remote_host» .0);
+  name = textShown s (f .«server_name» .0);
+  port = f .«server_port»;
+  ssl = f .«is_ssl»;
   headers = headersShown s headers;
   attributes = attributesShown s attributes;
 })
-shownBy t s headers attributes Kind.Body = body (part s (t .start) (t .len))
-shownBy t s headers attributes Kind.GetBody = getBody (numberTold t 0)
-shownBy t s headers attributes Kind.SendHeaders = sendHeaders (record {
-  status = numberTold t 0;
-  message = stringTold s t 0;
+shownBy (Packet.Body p) s headers attributes = body (part s (p .start .0) (p .len))
+shownBy (Packet.GetBody asked) s headers attributes = getBody asked
+shownBy (Packet.SendHeaders h) s headers attributes = sendHeaders (record {
+  status = h .status;
+  message = textShown s (h .message .0);
   headers = headersShown s headers;
 })
-shownBy t s headers attributes Kind.BodyChunk = bodyChunk (part s (t .start) (t .len))
-shownBy t s headers attributes Kind.End = end (eqb (numberTold t 0) 1)
+shownBy (Packet.BodyChunk p) s headers attributes = bodyChunk (part s (p .start .0) (p .len))
+shownBy (Packet.End reuse) s headers attributes = end reuse
 
--- the message that was read: of what was told, the packet, and the table as reading left it
-unfoldable pub messageShown : Told → List ℕ → List ℕ → Message
-messageShown t packet table = shownBy t packet (headerPlaces t table) (attributePlaces t table) (t .kind)
+-- the message that was read: of the packet as handed out, its bytes, and the table as reading left it
+unfoldable pub messageShown : Packet → List ℕ → List ℕ → Message
+messageShown packet s table = shownBy packet s (headerPlaces packet table) (attributePlaces packet table)

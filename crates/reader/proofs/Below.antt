@@ -11,12 +11,12 @@ use Rattle.payload.specs.Kinds.{packetAt, packetKind}
 use Rattle.packet.specs.declared.Packet.{Packet}
 use Rattle.payload.specs.declared.found.PacketRead.{PacketRead}
 use Rattle.payload.proofs.Parsed.{forward-places, send-headers-places, parsed-kind}
-use Rattle.reader.specs.Meaning.{told, placesNeeded}
+use Rattle.reader.specs.Meaning.{placesNeeded}
 
 -- a packet that was read asks for so many places, at most 328
 abbrev pub PlacesFit : ℕ → PacketRead → Type 0
 PlacesFit many (PacketRead.Refused n) = Unit
-PlacesFit many (PacketRead.Packet packet) = (many ≡ placesNeeded (told packet)) × (many ≤ maxPlaces)
+PlacesFit many (PacketRead.Packet packet) = (many ≡ placesNeeded packet) × (many ≤ maxPlaces)
 
 module _ (s : List ℕ) where
   -- a packet that is read as its own kind

@@ -44,7 +44,7 @@ pub room-short : (m : Meaning) (places table : List ℕ) → leb (needed m) (len
 unfolding tableGiven
 room-short (needs n) places table e = absurd (false≢true (sym e ∙ le-leb 0 (length table) (omega arith)))
 room-short (refused n) places table e = absurd (false≢true (sym e ∙ le-leb 0 (length table) (omega arith)))
-room-short (accepted t taken after) places table e = rw e (refl, refl)
+room-short (accepted packet taken after) places table e = rw e (refl, refl)
 
 -- room enough for them
 pub room-filled : (m : Meaning) (places table exit : List ℕ) → leb (needed m) (length table) ≡ true
@@ -52,7 +52,7 @@ pub room-filled : (m : Meaning) (places table exit : List ℕ) → leb (needed m
 unfolding tableGiven
 room-filled (needs n) places table exit e h = (refl, h ∙ over-none table 0)
 room-filled (refused n) places table exit e h = (refl, h ∙ over-none table 0)
-room-filled (accepted t taken after) places table exit e h = rw e (refl, h)
+room-filled (accepted packet taken after) places table exit e h = rw e (refl, h)
 
 -- the table after a list's first places were copied into it, where it has room for them
 pub laid-first : (places table exit own : List ℕ) (count n : ℕ) → exit ≡ put table 0 own → own ≡ take count places → count ≡ n
@@ -66,7 +66,7 @@ laid-first places table exit own count n e p q h =
 abbrev pub NeedsPlaces : ℕ → Meaning → Type 0
 NeedsPlaces many (needs n) = Unit
 NeedsPlaces many (refused n) = Unit
-NeedsPlaces many (accepted t taken after) = many ≡ placesNeeded t
+NeedsPlaces many (accepted packet taken after) = many ≡ placesNeeded packet
 
 -- the step leaves the places that a packet asks for
 pub accepting-places : (c : Connection) (taken many : ℕ) (end : PacketRead) → PlacesFit many end → NeedsPlaces many (accepting c taken end)
@@ -88,11 +88,11 @@ fill-own : (m : Meaning) (room : ℕ) (places blank table : List ℕ) → NeedsP
     → filled (withRoom room m) (take (needed m) (over blank 0 places)) table ≡ filled (withRoom room m) places table
 fill-own (needs n) room places blank table h = refl
 fill-own (refused n) room places blank table h = refl
-fill-own (accepted t taken after) room places blank table h = go (leb (placesNeeded t) room)
+fill-own (accepted packet taken after) room places blank table h = go (leb (placesNeeded packet) room)
   where
     go : (enough : Bool)
-        → filled (pick enough (accepted t taken after) (refused bufferTooShort)) (take (placesNeeded t) (over blank 0 places)) table
-        ≡ filled (pick enough (accepted t taken after) (refused bufferTooShort)) places table
+        → filled (pick enough (accepted packet taken after) (refused bufferTooShort)) (take (placesNeeded packet) (over blank 0 places)) table
+        ≡ filled (pick enough (accepted packet taken after) (refused bufferTooShort)) places table
     go true = ap (over table 0) (ap (λ (n : ℕ). take n (over blank 0 places)) (sym h) ∙ take-laid blank places)
     go false = refl
 
@@ -118,8 +118,8 @@ none-needed : (m : Meaning) (table : List ℕ) → NeedsPlaces 0 m
     → (m ≡ withRoom (length table) m) × (table ≡ filled (withRoom (length table) m) [] table)
 none-needed (needs n) table h = (refl, refl)
 none-needed (refused n) table h = (refl, refl)
-none-needed (accepted t taken after) table h =
-    let e : leb (placesNeeded t) (length table) ≡ true = le-leb (placesNeeded t) (length table) (omega (arith, h)) in
+none-needed (accepted packet taken after) table h =
+    let e : leb (placesNeeded packet) (length table) ≡ true = le-leb (placesNeeded packet) (length table) (omega (arith, h)) in
     rw e (refl, sym (over-none table 0))
 
 -- a packet without headers: it was stepped by, and the table is as it was

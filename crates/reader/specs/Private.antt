@@ -15,7 +15,7 @@ use Rattle.reader.specs.Reading.{parseWhole, readAsBody, accepting, judg
 abbrev pub needed : Meaning → ℕ
 needed (needs n) = 0
 needed (refused n) = 0
-needed (accepted t taken after) = placesNeeded t
+needed (accepted packet taken after) = placesNeeded packet
 
 -- the table after an answer, filled with the first of these places
 unfoldable pub tableGiven : Meaning → List ℕ → List ℕ → List ℕ

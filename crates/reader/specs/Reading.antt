@@ -24,7 +24,7 @@ use Rattle.packet.specs.declared.Packet.{Packet}
 use Rattle.payload.specs.declared.found.PacketRead.{PacketRead}
 use Rattle.reader.specs.declared.frame.FrameRead.{FrameRead}
 use Rattle.reader.specs.Frame.{frameAt}
-use Rattle.reader.specs.Meaning.{Meaning, needs, refused, accepted, told, placesNeeded}
+use Rattle.reader.specs.Meaning.{Meaning, needs, refused, accepted, placesNeeded}
 
 -- what bytes are, with no connection in it: too few, wrong, or a whole packet of a kind, with its length and what its fields say
 pub data Parsed : Type 0 where
@@ -59,7 +59,7 @@ readAsBody Direction.ToServer c = false
 -- the step that a packet makes: refused (14), or the connection after it
 abbrev pub stepped : Packet → ℕ → Step → Meaning
 stepped packet taken (Step.Refused n) = refused n
-stepped packet taken (Step.Next after) = accepted (told packet) taken after
+stepped packet taken (Step.Next after) = accepted packet taken after
 
 -- a packet whose fields were read, 12 among them, and then the step
 unfoldable pub accepting : Connection → ℕ → PacketRead → Meaning
@@ -76,7 +76,7 @@ judging c (whole kind taken found) = pick (inState c kind) (accepting c taken (f
 abbrev pub withRoom : ℕ → Meaning → Meaning
 withRoom room (needs n) = needs n
 withRoom room (refused n) = refused n
-withRoom room (accepted t taken after) = pick (leb (placesNeeded t) room) (accepted t taken after) (refused bufferTooShort)
+withRoom room (accepted packet taken after) = pick (leb (placesNeeded packet) room) (accepted packet taken after) (refused bufferTooShort)
 
 -- the answer of reading, at the end to which packets of this direction go
 unfoldable pub reading : Direction → Connection → List ℕ → ℕ → Meaning
@@ -93,7 +93,7 @@ placesOf (whole kind taken found) = found .places
 abbrev pub filled : Meaning → List ℕ → List ℕ → List ℕ
 filled (needs n) places table = table
 filled (refused n) places table = table
-filled (accepted t taken after) places table = over table 0 places
+filled (accepted packet taken after) places table = over table 0 places
 
 -- the table after reading
 unfoldable pub tableAfter : Direction → Connection → List ℕ → List ℕ → List ℕ

@@ -5,7 +5,7 @@ ghost use Prim.Native.Nat.{_≤_};
 ghost use lib.ListN.{length};
 ghost use Rattle.connection.specs.Connection.{maxPacket};
 ghost use Rattle.payload.specs.Kinds.{packetMove};
-ghost use Rattle.reader.specs.Meaning.{receivedMeaning, told, placesNeeded};
+ghost use Rattle.reader.specs.Meaning.{receivedMeaning, placesNeeded};
 ghost use Rattle.reader.specs.Reading.{readAsBody, stepped, accepting, withRoom, reading, tableAfter};
 ghost use Rattle.reader.specs.Private.{needed, tableGiven, allowedReading, allowedTable, wholeOf, tableWhole};
 use connection::Connection;
@@ -185,7 +185,7 @@ fn stepped(packet: Packet, taken: usize, step: Step) -> Received
 
 // How many places a packet needs: two for each header and each attribute.
 pub fn places_needed(packet: Packet) -> usize
-    ensures { λ r. ⌜ r ≡ placesNeeded (told packet) ⌝ }
+    ensures { λ r. ⌜ r ≡ placesNeeded packet ⌝ }
 {
     match packet {
         Packet::CPing => 0,

@@ -29,7 +29,7 @@ use Rattle.payload.specs.declared.found.PacketRead.{PacketRead}
 use Rattle.payload.proofs.Parsed.{parsed-kind, move-kind}
 use Rattle.reader.specs.declared.frame.FrameRead.{FrameRead}
 use Rattle.reader.specs.Frame.{frameAt}
-use Rattle.reader.specs.Meaning.{Told, Meaning, needs, refused, accepted, told, placesNeeded}
+use Rattle.reader.specs.Meaning.{Meaning, needs, refused, accepted, placesNeeded}
 use Rattle.reader.specs.Reading.{parsedOf, parseWhole, parseFrame, parse, readAsBody, stepped, accepting, judging, withRoom, reading, tableAfter}
 use Rattle.reader.proofs.Framing.{frame-inside}
 use Rattle.reader.proofs.Below.{places-fit}
@@ -39,7 +39,7 @@ use Rattle.reading_laws.specs.Acceptance.{Acceptance, Answered, NeedsMor
 abbrev Accepts : Direction → Connection → List ℕ → ℕ → Meaning → Type 0
 Accepts direction c s room (needs n) = Unit
 Accepts direction c s room (refused n) = Unit
-Accepts direction c s room (accepted t taken next) = Acceptance direction c s room t taken next
+Accepts direction c s room (accepted packet taken next) = Acceptance direction c s room packet taken next
 
 -- the kind of a packet's move is the kind that it was read as
 move-is : (kind : Kind) (s : List ℕ) (packet : Packet) → packetAt kind s .end ≡ PacketRead.Packet packet → moveKind (packetMove packet) ≡ kind
@@ -56,15 +56,15 @@ module _ (direction : Direction) (c : Connection) (s : List ℕ) where
     -- from what is read to the answer
     pub accepted-by : (kind : Kind) (packet : Packet) (taken : ℕ) → frameAt direction s ≡ FrameRead.Whole taken
         → kindAt direction (readAsBody direction c) (part s 0 taken) ≡ KindRead.Kind kind
-        → packetAt kind (part s 0 taken) .end ≡ PacketRead.Packet packet → allowed c (packetMove packet) ≡ true → placesNeeded (told packet) ≤ room
-        → reading direction c s room ≡ accepted (told packet) taken (after c (packetMove packet))
+        → packetAt kind (part s 0 taken) .end ≡ PacketRead.Packet packet → allowed c (packetMove packet) ≡ true → placesNeeded packet ≤ room
+        → reading direction c s room ≡ accepted packet taken (after c (packetMove packet))
     unfolding reading parse parseWhole accepting
     accepted-by kind packet taken w k f a h =
         let m = packetMove packet in
         let in-state : inState c (moveKind m) ≡ true = both-first (inState c (moveKind m)) (inSize c m) a in
         let in-kind : inState c kind ≡ true = ap (inState c) (sym (move-is kind (part s 0 taken) packet f)) ∙ in-state in
         let step : stepOf c m ≡ Step.Next (after c m) = step-by c m true true in-state (both-second (inState c (moveKind m)) (inSize c m) a) in
-        rw (w, k, in-kind, f, step, le-leb (placesNeeded (told packet)) room h, taken-is taken w)
+        rw (w, k, in-kind, f, step, le-leb (placesNeeded packet) room h, taken-is taken w)
 
     accepts : Accepts direction c s room (reading direction c s room)
     unfolding reading parse parseWhole accepting
@@ -73,22 +73,20 @@ module _ (direction : Direction) (c : Connection) (s : List ℕ) where
         by-room : (n : ℕ) (kind : Kind) (packet : Packet) → frameAt direction s ≡ FrameRead.Whole n
             → kindAt direction (readAsBody direction c) (part s 0 n) ≡ KindRead.Kind kind
             → packetAt kind (part s 0 n) .end ≡ PacketRead.Packet packet → allowed c (packetMove packet) ≡ true
-            → (enough : Bool) → leb (placesNeeded (told packet)) room ≡ enough
+            → (enough : Bool) → leb (placesNeeded packet) room ≡ enough
             → Accepts direction c s room
-            (pick enough (accepted (told packet) (length (part s 0 n)) (after c (packetMove packet))) (refused bufferTooShort))
+            (pick enough (accepted packet (length (part s 0 n)) (after c (packetMove packet))) (refused bufferTooShort))
         by-room n kind packet w k f a false e = tt
         by-room n kind packet w k f a true e =
-            subst (λ (taken : ℕ). Acceptance direction c s room (told packet) taken (after c (packetMove packet))) (sym (taken-is n w))
+            subst (λ (taken : ℕ). Acceptance direction c s room packet taken (after c (packetMove packet))) (sym (taken-is n w))
             (record {
               kind = kind;
-              packet = packet;
               whole-is = w;
               kind-is = k;
               fields-are = f;
               allows = a;
-              tells = refl;
               steps = refl;
-              has-room = leb-true (placesNeeded (told packet)) room e;
+              has-room = leb-true (placesNeeded packet) room e;
             })
 
         by-size : (n : ℕ) (kind : Kind) (packet : Packet) → frameAt direction s ≡ FrameRead.Whole n
@@ -99,7 +97,7 @@ module _ (direction : Direction) (c : Connection) (s : List ℕ) where
             (withRoom room (stepped packet (length (part s 0 n)) (pick size (Step.Next (after c (packetMove packet))) (Step.Refused bodySizeWrong))))
         by-size n kind packet w k f a false e = tt
         by-size n kind packet w k f a true e =
-            by-room n kind packet w k f (rw (a, e)) (leb (placesNeeded (told packet)) room) refl
+            by-room n kind packet w k f (rw (a, e)) (leb (placesNeeded packet) room) refl
 
         by-fields : (n : ℕ) (kind : Kind) → frameAt direction s ≡ FrameRead.Whole n
             → kindAt direction (readAsBody direction c) (part s 0 n) ≡ KindRead.Kind kind → inState c kind ≡ true
@@ -130,41 +128,39 @@ module _ (direction : Direction) (c : Connection) (s : List ℕ) where
         by-frame (FrameRead.Whole n) e = by-kind n e (kindAt direction (readAsBody direction c) (part s 0 n)) refl
 
     -- from the answer to what was read
-    pub accepted-is : (t : Told) (taken : ℕ) (next : Connection) → reading direction c s room ≡ accepted t taken next
-        → Acceptance direction c s room t taken next
-    accepted-is t taken next e = subst (Accepts direction c s room) e accepts
+    pub accepted-is : (packet : Packet) (taken : ℕ) (next : Connection) → reading direction c s room ≡ accepted packet taken next
+        → Acceptance direction c s room packet taken next
+    accepted-is packet taken next e = subst (Accepts direction c s room) e accepts
 
--- two connections that accept the same bytes, and read them both as a body packet or both by their code, are told the same
-pub same-told : (direction : Direction) (c e : Connection) (s : List ℕ) (room more : ℕ) (t u : Told) (taken used : ℕ) (next other : Connection)
-    → readAsBody direction c ≡ readAsBody direction e → reading direction c s room ≡ accepted t taken next
-    → reading direction e s more ≡ accepted u used other → (t ≡ u) × (taken ≡ used)
-same-told direction c e s room more t u taken used next other b p q =
-    let a = accepted-is direction c s room t taken next p in
-    let o = accepted-is direction e s more u used other q in
+-- two connections that accept the same bytes, and read them both as a body packet or both by their code, are handed the same packet
+pub same-packet : (direction : Direction) (c e : Connection) (s : List ℕ) (room more : ℕ) (packet found : Packet) (taken used : ℕ)
+    (next other : Connection) → readAsBody direction c ≡ readAsBody direction e → reading direction c s room ≡ accepted packet taken next
+    → reading direction e s more ≡ accepted found used other → (packet ≡ found) × (taken ≡ used)
+same-packet direction c e s room more packet found taken used next other b p q =
+    let a = accepted-is direction c s room packet taken next p in
+    let o = accepted-is direction e s more found used other q in
     let w : FrameRead.Whole taken ≡ FrameRead.Whole used = sym (a .whole-is) ∙ o .whole-is in
     let n : taken ≡ used = cc in
     let k : KindRead.Kind (a .kind) ≡ KindRead.Kind (o .kind) =
     sym (a .kind-is) ∙ ap (λ (body : Bool). kindAt direction body (part s 0 taken)) b
     ∙ ap (λ (m : ℕ). kindAt direction (readAsBody direction e) (part s 0 m)) n ∙ o .kind-is in
     let i : a .kind ≡ o .kind = cc in
-    let f : PacketRead.Packet (a .packet) ≡ PacketRead.Packet (o .packet) =
+    let f : PacketRead.Packet packet ≡ PacketRead.Packet found =
     sym (a .fields-are) ∙ ap (λ (kind : Kind). packetAt kind (part s 0 taken) .end) i
     ∙ ap (λ (m : ℕ). packetAt (o .kind) (part s 0 m) .end) n ∙ o .fields-are in
-    let same : a .packet ≡ o .packet = cc in
-    (a .tells ∙ ap told same ∙ sym (o .tells), n)
+    (cc, n)
 
 -- an accepted packet fills the table with its own places, as many as it asks for
-pub accepted-fills : (direction : Direction) (c : Connection) (s table : List ℕ) (t : Told) (taken : ℕ) (next : Connection)
-    (e : reading direction c s (length table) ≡ accepted t taken next) → let a = accepted-is direction c s (length table) t taken next e in
+pub accepted-fills : (direction : Direction) (c : Connection) (s table : List ℕ) (packet : Packet) (taken : ℕ) (next : Connection)
+    (e : reading direction c s (length table) ≡ accepted packet taken next)
+    → let a = accepted-is direction c s (length table) packet taken next e in
     let places = packetAt (a .kind) (part s 0 taken) .places in
-    (tableAfter direction c s table ≡ over table 0 places) × ((length places ≡ placesNeeded t) × (placesNeeded t ≤ maxPlaces))
+    (tableAfter direction c s table ≡ over table 0 places) × ((length places ≡ placesNeeded packet) × (placesNeeded packet ≤ maxPlaces))
 unfolding tableAfter parse parseWhole
-accepted-fills direction c s table t taken next e =
-    let a = accepted-is direction c s (length table) t taken next e in
+accepted-fills direction c s table packet taken next e =
+    let a = accepted-is direction c s (length table) packet taken next e in
     let fit = rw (a .fields-are) at (places-fit (part s 0 taken) (a .kind)) in
-    let same : placesNeeded (told (a .packet)) ≡ placesNeeded t = ap placesNeeded (sym (a .tells)) in
-    let many : length (packetAt (a .kind) (part s 0 taken) .places) ≡ placesNeeded t = fit .0 ∙ same in
-    (rw (e, a .whole-is, a .kind-is), (many, rw (sym many) (fit .1)))
+    (rw (e, a .whole-is, a .kind-is), (fit .0, rw (sym (fit .0)) (fit .1)))
 
 -- a refusal and a "needs" leave the table
 pub refused-keeps : (direction : Direction) (c : Connection) (s table : List ℕ) (n : ℕ) → reading direction c s (length table) ≡ refused n
@@ -181,7 +177,7 @@ needs-keeps direction c s table n e = rw e
 abbrev Asks : ℕ → Meaning → Type 0
 Asks size (needs n) = NeedsMore size n
 Asks size (refused n) = Unit
-Asks size (accepted t taken next) = Unit
+Asks size (accepted packet taken next) = Unit
 
 -- a packet that was read is not answered with "needs"
 pub accepting-answers : (c : Connection) (taken : ℕ) (r : PacketRead) → Answered (accepting c taken r)
@@ -202,9 +198,9 @@ needs-more direction c s room n e = subst (Asks (length s)) e (by-frame (frameAt
     lent : (m : Meaning) → Answered m → Asks (length s) (withRoom room m)
     lent (needs k) h = absurd h
     lent (refused k) h = tt
-    lent (accepted t taken next) h = go (leb (placesNeeded t) room)
+    lent (accepted packet taken next) h = go (leb (placesNeeded packet) room)
       where
-        go : (enough : Bool) → Asks (length s) (pick enough (accepted t taken next) (refused bufferTooShort))
+        go : (enough : Bool) → Asks (length s) (pick enough (accepted packet taken next) (refused bufferTooShort))
         go true = tt
         go false = tt
 

@@ -34,8 +34,8 @@ use Rattle.payload.proofs.Fields.{string-after-inside, integer-after-inside}
 use Rattle.payload.specs.Facts.{FieldInside}
 use Rattle.payload.proofs.Laws.{body-inside, chunk-inside}
 use Rattle.payload.proofs.Parsed.{forward-places, send-headers-places, parsed-kind}
-use Rattle.reader.specs.Meaning.{Told, told}
-use Rattle.reading_laws.specs.Inside.{AllBelow, ToldInside}
+use Rattle.reader.specs.Meaning.{headersIn, attributesIn}
+use Rattle.reading_laws.specs.Inside.{AllBelow, FieldsInside, PacketInside}
 
 -- where every element passes a test, it passes a weaker one
 all-weaker : (p q : ℕ → Bool) → ((n : ℕ) → p n ≡ true → q n ≡ true) → (l : List ℕ) → all p l ≡ true → all q l ≡ true
@@ -91,34 +91,35 @@ places-inside Kind.SendHeaders s = headers-below Direction.ToServer s _
 places-inside Kind.BodyChunk s = none-below (length s)
 places-inside Kind.End s = none-below (length s)
 
--- the places of the strings that are told, where a packet is read, are inside a packet of `size` bytes
-abbrev StringsIn : ℕ → PacketRead → Type 0
-StringsIn size (PacketRead.Refused n) = Unit
-StringsIn size (PacketRead.Packet packet) = AllBelow size (told packet .strings)
+-- the fields of a packet that is read are inside a packet of `size` bytes
+abbrev FoundInside : ℕ → PacketRead → Type 0
+FoundInside size (PacketRead.Refused n) = Unit
+FoundInside size (PacketRead.Packet packet) = FieldsInside size packet
 
 -- a field's place is inside a packet that has a byte, also where it is told as 0 because the field is refused
-place-below : (size : ℕ) (f : FieldRead) → 0 < size → FieldInside size f → ltb (fieldPlace f .0) size ≡ true
-place-below size (FieldRead.Refused n) some h = lt-ltb 0 size some
-place-below size (FieldRead.Field at value next) some h = lt-ltb at size (h .0)
+place-below : (size : ℕ) (f : FieldRead) → 0 < size → FieldInside size f → fieldPlace f .0 < size
+place-below size (FieldRead.Refused n) some h = some
+place-below size (FieldRead.Field at value next) some h = h .0
 
 -- the strings of a Forward, whatever its fields are, if those that are read lie inside
 forward-strings : (s : List ℕ) (method protocol uri addr host name port ssl headers : FieldRead) → FieldInside (length s) protocol
     → FieldInside (length s) uri → FieldInside (length s) addr → FieldInside (length s) host → FieldInside (length s) name
     → FieldInside (length s) headers
-    → StringsIn (length s) (forwardOf method protocol uri addr host name port ssl headers (listsAt s headers .end))
-unfolding listsAt headersAfter all
+    → FoundInside (length s) (forwardOf method protocol uri addr host name port ssl headers (listsAt s headers .end))
+unfolding listsAt headersAfter
 forward-strings s method protocol uri addr host name port ssl (FieldRead.Refused n) h1 h2 h3 h4 h5 h = tt
 forward-strings s method protocol uri addr host name port ssl (FieldRead.Field at value next) h1 h2 h3 h4 h5 h =
     go (listsAt s (FieldRead.Field at value next) .end)
   where
-    go : (r : ListsRead) → StringsIn (length s) (forwardOf method protocol uri addr host name port ssl (FieldRead.Field at value next) r)
+    go : (r : ListsRead) → FoundInside (length s) (forwardOf method protocol uri addr host name port ssl (FieldRead.Field at value next) r)
     go (ListsRead.Refused n) = tt
     go (ListsRead.Lists declared attributes) =
         let some : 0 < length s = omega (arith, h .0) in
-        rw (place-below (length s) protocol some h1, place-below (length s) uri some h2, place-below (length s) addr some h3, place-below (length s) host some h4, place-below (length s) name some h5)
+        let in-packet : (f : FieldRead) → FieldInside (length s) f → fieldPlace f .0 < length s = λ f. place-below (length s) f some in
+        (in-packet protocol h1, in-packet uri h2, in-packet addr h3, in-packet host h4, in-packet name h5)
 
 -- so those of a Forward that was read
-forward-in : (s : List ℕ) → StringsIn (length s) (forwardAt s .end)
+forward-in : (s : List ℕ) → FoundInside (length s) (forwardAt s .end)
 unfolding forwardAt
 forward-in s =
     let method = byteAfter s firstMethod lastMethod outOfRange afterCode in
@@ -136,22 +137,22 @@ forward-in s =
 
 -- the string of Send Headers, whatever its fields are, if those that are read lie inside
 head-strings : (s : List ℕ) (status message headers : FieldRead) → FieldInside (length s) message → FieldInside (length s) headers
-    → StringsIn (length s) (sendHeadersOf (length s) status message headers (headersAfter Direction.ToServer s headers .end))
-unfolding headersAfter all
+    → FoundInside (length s) (sendHeadersOf (length s) status message headers (headersAfter Direction.ToServer s headers .end))
+unfolding headersAfter
 head-strings s status message (FieldRead.Refused n) h1 h = tt
 head-strings s status message (FieldRead.Field at value next) h1 h = go (headersAfter Direction.ToServer s (FieldRead.Field at value next) .end)
   where
-    by : (t : Bool) (head : SendHeaders) → AllBelow (length s) (head .message .0 ∷ [])
-        → StringsIn (length s) (pick t (PacketRead.Packet (Packet.SendHeaders head)) (PacketRead.Refused leftOver))
+    by : (t : Bool) (head : SendHeaders) → head .message .0 < length s
+        → FoundInside (length s) (pick t (PacketRead.Packet (Packet.SendHeaders head)) (PacketRead.Refused leftOver))
     by true head e = e
     by false head e = tt
 
-    go : (r : HeadersRead) → StringsIn (length s) (sendHeadersOf (length s) status message (FieldRead.Field at value next) r)
+    go : (r : HeadersRead) → FoundInside (length s) (sendHeadersOf (length s) status message (FieldRead.Field at value next) r)
     go (HeadersRead.Refused n) = tt
-    go (HeadersRead.Headers declared end) = by (eqb end (length s)) _ (rw (place-below (length s) message (omega (arith, h .0)) h1))
+    go (HeadersRead.Headers declared end) = by (eqb end (length s)) _ (place-below (length s) message (omega (arith, h .0)) h1)
 
 -- so that of a Send Headers that was read
-head-in : (s : List ℕ) → StringsIn (length s) (sendHeadersAt s .end)
+head-in : (s : List ℕ) → FoundInside (length s) (sendHeadersAt s .end)
 unfolding sendHeadersAt
 head-in s =
     let status = integerAfter s leastStatus greatestStatus outOfRange afterCode in
@@ -159,48 +160,44 @@ head-in s =
     head-strings s status message (integerAfter s 0 maxHeaders tooMany message)
     (string-after-inside s StringField.Message status) (integer-after-inside s 0 maxHeaders tooMany message)
 
--- a packet that has no strings, no headers and no attributes
-plain-told : (size : ℕ) (t : Told) → t .strings ≡ [] → t .headers ≡ 0 → t .attributes ≡ 0 → t .start + t .len ≤ size → ToldInside size t
-unfolding all
-plain-told size t strings headers attributes part =
+-- a packet that has no headers and no attributes
+plain-inside : (size : ℕ) (packet : Packet) → headersIn packet ≡ 0 → attributesIn packet ≡ 0 → FieldsInside size packet → PacketInside size packet
+plain-inside size packet headers attributes fields =
     record {
-      strings-in = rw strings;
-      part-in = part;
+      fields-in = fields;
       headers-most = omega arith;
       attributes-most = omega arith;
       places-most = omega arith;
     }
 
 -- a packet that was read as its own kind
-told-by : (s : List ℕ) (packet : Packet) → packetAt (packetKind packet) s .end ≡ PacketRead.Packet packet → ToldInside (length s) (told packet)
-told-by s Packet.CPing e = plain-told (length s) (told Packet.CPing) refl refl refl (omega arith)
-told-by s Packet.CPong e = plain-told (length s) (told Packet.CPong) refl refl refl (omega arith)
-told-by s (Packet.Forward forward) e =
+own-inside : (s : List ℕ) (packet : Packet) → packetAt (packetKind packet) s .end ≡ PacketRead.Packet packet → PacketInside (length s) packet
+own-inside s Packet.CPing e = plain-inside (length s) Packet.CPing refl refl tt
+own-inside s Packet.CPong e = plain-inside (length s) Packet.CPong refl refl tt
+own-inside s (Packet.Forward forward) e =
     let f = forward-places s forward e in
     record {
-      strings-in = subst (StringsIn (length s)) e (forward-in s);
-      part-in = omega arith;
+      fields-in = subst (FoundInside (length s)) e (forward-in s);
       headers-most = f .headers-most;
       attributes-most = f .attributes-most;
       places-most = omega (arith, f .headers-most, f .attributes-most);
     }
-told-by s (Packet.Body part) e =
-    plain-told (length s) (told (Packet.Body part)) refl refl refl (omega (arith, body-inside s (PacketRead.Packet (Packet.Body part)) e))
-told-by s (Packet.GetBody asked) e = plain-told (length s) (told (Packet.GetBody asked)) refl refl refl (omega arith)
-told-by s (Packet.SendHeaders head) e =
+own-inside s (Packet.Body part) e =
+    plain-inside (length s) (Packet.Body part) refl refl (omega (arith, body-inside s (PacketRead.Packet (Packet.Body part)) e))
+own-inside s (Packet.GetBody asked) e = plain-inside (length s) (Packet.GetBody asked) refl refl tt
+own-inside s (Packet.SendHeaders head) e =
     let f = send-headers-places s head e in
     record {
-      strings-in = subst (StringsIn (length s)) e (head-in s);
-      part-in = omega arith;
+      fields-in = subst (FoundInside (length s)) e (head-in s);
       headers-most = f .headers-most;
       attributes-most = omega arith;
       places-most = omega (arith, f .headers-most);
     }
-told-by s (Packet.BodyChunk part) e =
-    plain-told (length s) (told (Packet.BodyChunk part)) refl refl refl (omega (arith, chunk-inside s (PacketRead.Packet (Packet.BodyChunk part)) e .1))
-told-by s (Packet.End reuse) e = plain-told (length s) (told (Packet.End reuse)) refl refl refl (omega arith)
+own-inside s (Packet.BodyChunk part) e =
+    plain-inside (length s) (Packet.BodyChunk part) refl refl (omega (arith, chunk-inside s (PacketRead.Packet (Packet.BodyChunk part)) e .1))
+own-inside s (Packet.End reuse) e = plain-inside (length s) (Packet.End reuse) refl refl tt
 
--- what a packet that was read tells lies inside it
-pub told-inside : (kind : Kind) (s : List ℕ) (packet : Packet) → packetAt kind s .end ≡ PacketRead.Packet packet → ToldInside (length s) (told packet)
-told-inside kind s packet e =
-    told-by s packet (subst (λ (k : Kind). packetAt k s .end ≡ PacketRead.Packet packet) (sym (parsed-kind kind s packet e)) e)
+-- what is handed out of a packet that was read lies inside it
+pub packet-inside : (kind : Kind) (s : List ℕ) (packet : Packet) → packetAt kind s .end ≡ PacketRead.Packet packet → PacketInside (length s) packet
+packet-inside kind s packet e =
+    own-inside s packet (subst (λ (k : Kind). packetAt k s .end ≡ PacketRead.Packet packet) (sym (parsed-kind kind s packet e)) e)

@@ -34,7 +34,7 @@ use Rattle.wire.specs.Packet.{payloadPlace, lengthPlace}
 abbrev Numbered : Meaning → Type 0
 Numbered (needs n) = Unit
 Numbered (refused n) = isRefusal n ≡ true
-Numbered (accepted t taken next) = Unit
+Numbered (accepted packet taken next) = Unit
 
 -- so a frame
 abbrev FrameNumbered : FrameRead → Type 0
@@ -62,9 +62,9 @@ frame-numbered direction s = go (leadingDiffers direction s) (integerAt s length
 room-numbered : (room : ℕ) (m : Meaning) → Numbered m → Numbered (withRoom room m)
 room-numbered room (needs n) h = tt
 room-numbered room (refused n) h = h
-room-numbered room (accepted t taken next) h = go (leb (placesNeeded t) room)
+room-numbered room (accepted packet taken next) h = go (leb (placesNeeded packet) room)
   where
-    go : (t′ : Bool) → Numbered (pick t′ (accepted t taken next) (refused bufferTooShort))
+    go : (enough : Bool) → Numbered (pick enough (accepted packet taken next) (refused bufferTooShort))
     go true = tt
     go false = refl
 

@@ -18,27 +18,25 @@ use Rattle.payload.specs.declared.KindRead.{KindRead}
 use Rattle.payload.specs.declared.found.PacketRead.{PacketRead}
 use Rattle.reader.specs.declared.frame.FrameRead.{FrameRead}
 use Rattle.reader.specs.Frame.{frameAt}
-use Rattle.reader.specs.Meaning.{Told, Meaning, needs, refused, accepted, told, placesNeeded}
+use Rattle.reader.specs.Meaning.{Meaning, needs, refused, accepted, placesNeeded}
 use Rattle.reader.specs.Reading.{readAsBody}
 
 -- what is behind a packet that is accepted, of whose bytes so many are taken: its frame is whole, its kind and its fields are read, the
--- connection allows its move and then steps by it, the packet is told, and the table has room for its places
-pub record Acceptance (direction : Direction) (c : Connection) (s : List ℕ) (room : ℕ) (t : Told) (taken : ℕ) (next : Connection) : Type 0 where
+-- connection allows its move and then steps by it, and the table has room for its places
+pub record Acceptance (direction : Direction) (c : Connection) (s : List ℕ) (room : ℕ) (packet : Packet) (taken : ℕ) (next : Connection) : Type 0 where
   pub kind : Kind
-  pub packet : Packet
   pub whole-is : frameAt direction s ≡ FrameRead.Whole taken
   pub kind-is : kindAt direction (readAsBody direction c) (part s 0 taken) ≡ KindRead.Kind kind
   pub fields-are : packetAt kind (part s 0 taken) .end ≡ PacketRead.Packet packet
   pub allows : allowed c (packetMove packet) ≡ true
-  pub tells : t ≡ told packet
   pub steps : next ≡ after c (packetMove packet)
-  pub has-room : placesNeeded t ≤ room
+  pub has-room : placesNeeded packet ≤ room
 
 -- an answer that is not "needs"
 abbrev pub Answered : Meaning → Type 0
 Answered (needs n) = ⊥
 Answered (refused n) = Unit
-Answered (accepted t taken after) = Unit
+Answered (accepted packet taken after) = Unit
 
 -- so many bytes are more than the `size` bytes that are there, and no more than a packet may have
 abbrev pub NeedsMore : ℕ → ℕ → Type 0

@@ -1,4 +1,3 @@
 pub mod Acceptance
 pub mod Inside
-pub mod Handed
 pub mod Starred

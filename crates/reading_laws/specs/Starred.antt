@@ -6,16 +6,16 @@ use mathlib.Core.List.{List, [], _∷_}
 use Prim.Native.Nat.{ℕ}
 use Rattle.wire.specs.Bytes.{part}
 use Rattle.packet.specs.declared.Direction.{Direction}
+use Rattle.packet.specs.declared.Packet.{Packet}
 use Rattle.names.specs.Names.{ascii, nameFor}
 use Rattle.names.specs.declared.NameList.{NameList}
 use Rattle.connection.specs.Connection.{connectionFields, rest, fresh}
 use Rattle.connection.specs.declared.State.{State}
-use Rattle.connection.specs.declared.Kind.{Kind}
 use Rattle.connection.specs.declared.Connection.{Connection}
-use Rattle.reader.specs.Meaning.{Told, Meaning, needs, refused, accepted, numbered, parted}
+use Rattle.payload.specs.Packet.{partFrom}
+use Rattle.reader.specs.Meaning.{Meaning, needs, refused, accepted}
 use Rattle.reader.specs.Reading.{reading}
 use Rattle.views.specs.View.{textView}
-use Rattle.reading_laws.specs.Handed.{numberTold, placeTold}
 
 -- a packet that comes in a direction to an end with this connection, its answer, and the texts that it shows; no table is lent
 pub record Case : Type 0 where
@@ -27,21 +27,21 @@ pub record Case : Type 0 where
 
 -- the texts that a packet shows, as the views show them: a Forward the name of its method, its protocol and its req_uri; a Send Headers its
 -- message; a body packet and a chunk their bytes
-abbrev pub textsBy : List ℕ → Told → Kind → List (List ℕ)
-textsBy s t Kind.CPing = []
-textsBy s t Kind.CPong = []
-textsBy s t Kind.Forward = nameFor NameList.Methods (numberTold t 0) ∷ textView s (placeTold t 0) ∷ textView s (placeTold t 1) ∷ []
-textsBy s t Kind.Body = part s (t .start) (t .len) ∷ []
-textsBy s t Kind.GetBody = []
-textsBy s t Kind.SendHeaders = textView s (placeTold t 0) ∷ []
-textsBy s t Kind.BodyChunk = part s (t .start) (t .len) ∷ []
-textsBy s t Kind.End = []
+abbrev pub textsBy : List ℕ → Packet → List (List ℕ)
+textsBy s Packet.CPing = []
+textsBy s Packet.CPong = []
+textsBy s (Packet.Forward f) = nameFor NameList.Methods (f .method) ∷ textView s (f .protocol .0) ∷ textView s (f .«req_uri» .0) ∷ []
+textsBy s (Packet.Body p) = part s (p .start .0) (p .len) ∷ []
+textsBy s (Packet.GetBody asked) = []
+textsBy s (Packet.SendHeaders h) = textView s (h .message .0) ∷ []
+textsBy s (Packet.BodyChunk p) = part s (p .start .0) (p .len) ∷ []
+textsBy s (Packet.End reuse) = []
 
 -- the texts that an answer shows of the lent bytes
 abbrev pub textsShown : List ℕ → Meaning → List (List ℕ)
 textsShown s (needs n) = []
 textsShown s (refused n) = []
-textsShown s (accepted t taken after) = textsBy s t (t .kind)
+textsShown s (accepted packet taken after) = textsBy s packet
 
 -- what reading answers, and shows
 abbrev pub observed : Case → Meaning × List (List ℕ)
@@ -130,47 +130,41 @@ abbrev getRoot : List ℕ
 getRoot =
     0x12 ∷ 0x34 ∷ 0x00 ∷ 0x1D ∷ 0x02 ∷ 0x02 ∷ 0x00 ∷ 0x08 ∷ 0x48 ∷ 0x54 ∷ 0x54 ∷ 0x50 ∷ 0x2F ∷ 0x31 ∷ 0x2E ∷ 0x31 ∷ 0x00 ∷ 0x00 ∷ 0x01 ∷ 0x2F ∷ 0x00 ∷ 0xFF ∷ 0xFF ∷ 0xFF ∷ 0xFF ∷ 0xFF ∷ 0xFF ∷ 0x00 ∷ 0x50 ∷ 0x00 ∷ 0x00 ∷ 0x00 ∷ 0xFF ∷ []
 
--- what Send Headers tells here
-abbrev okTold : Told
-okTold = record {
-  kind = Kind.SendHeaders;
-  numbers = 200 ∷ [];
-  strings = 7 ∷ [];
-  headers = 0;
-  attributes = 0;
-  declared = 0;
-  start = 0;
-  len = 0;
-}
+-- what Send Headers says here
+abbrev okPacket : Packet
+okPacket = Packet.SendHeaders (record { status = 200; message = record { 0 = 7 }; headers = 0 })
 
--- what the Forward tells: method 2, port 80, no TLS, and where its five strings are
-abbrev getTold : Told
-getTold = record {
-  kind = Kind.Forward;
-  numbers = 2 ∷ 80 ∷ 0 ∷ [];
-  strings = 6 ∷ 17 ∷ 21 ∷ 23 ∷ 25 ∷ [];
+-- what the Forward says: method 2, port 80, no TLS, and where its five strings are
+abbrev getPacket : Packet
+getPacket = Packet.Forward (record {
+  method = 2;
+  protocol = record { 0 = 6 };
+  «req_uri» = record { 0 = 17 };
+  «remote_addr» = record { 0 = 21 };
+  «remote_host» = record { 0 = 23 };
+  «server_name» = record { 0 = 25 };
+  «server_port» = 80;
+  «is_ssl» = false;
   headers = 0;
   attributes = 0;
-  declared = 0;
-  start = 0;
-  len = 0;
-}
+  declared = record { 0 = 0 };
+})
 
 -- the starred set
 abbrev pub starred : List Case
 starred =
-    toContainer fresh cping (accepted (numbered Kind.CPing []) 5 (rest State.Pinged)) []
-    ∷ toServer (rest State.Pinged) cpong (accepted (numbered Kind.CPong []) 5 fresh) []
-    ∷ toContainer (due 0 8186) emptyBody (accepted (parted Kind.Body 4 0) 4 unanswered) (ascii "" ∷ [])
+    toContainer fresh cping (accepted Packet.CPing 5 (rest State.Pinged)) []
+    ∷ toServer (rest State.Pinged) cpong (accepted Packet.CPong 5 fresh) []
+    ∷ toContainer (due 0 8186) emptyBody (accepted (Packet.Body (partFrom 4 0)) 4 unanswered) (ascii "" ∷ [])
     ∷ toContainer (due 1 1) emptyBody (refused 14) []
     ∷ toContainer fresh emptyBody (refused 3) []
-    ∷ toContainer (due 2 8186) hiBody (accepted (parted Kind.Body 6 2) 8 unanswered) (ascii "hi" ∷ [])
+    ∷ toContainer (due 2 8186) hiBody (accepted (Packet.Body (partFrom 6 2)) 8 unanswered) (ascii "hi" ∷ [])
     ∷ toContainer (due 1 8186) hiBody (refused 14) []
-    ∷ toServer answering endReuse (accepted (numbered Kind.End (1 ∷ [])) 6 fresh) []
+    ∷ toServer answering endReuse (accepted (Packet.End true) 6 fresh) []
     ∷ toServer answering endTwo (refused 7) []
-    ∷ toServer unanswered getAll (accepted (numbered Kind.GetBody (8186 ∷ [])) 7 (due 0 8186)) []
-    ∷ toServer answering okChunk (accepted (parted Kind.BodyChunk 7 2) 10 answering) (ascii "ok" ∷ [])
+    ∷ toServer unanswered getAll (accepted (Packet.GetBody 8186) 7 (due 0 8186)) []
+    ∷ toServer answering okChunk (accepted (Packet.BodyChunk (partFrom 7 2)) 10 answering) (ascii "ok" ∷ [])
     ∷ toServer answering openChunk (refused 6) []
-    ∷ toServer unanswered okHead (accepted okTold 14 answering) (ascii "OK" ∷ [])
-    ∷ toContainer fresh getRoot (accepted getTold 33 unanswered) (ascii "GET" ∷ ascii "HTTP/1.1" ∷ ascii "/" ∷ [])
+    ∷ toServer unanswered okHead (accepted okPacket 14 answering) (ascii "OK" ∷ [])
+    ∷ toContainer fresh getRoot (accepted getPacket 33 unanswered) (ascii "GET" ∷ ascii "HTTP/1.1" ∷ ascii "/" ∷ [])
     ∷ []

@@ -17,7 +17,6 @@ use Rattle.places.specs.Entries.{ended}
 use Rattle.connection.specs.Connection.{bodyDue}
 use Rattle.connection.specs.Cycle.{inState, stepOf}
 use Rattle.connection.specs.declared.Kind.{Kind}
-use Rattle.connection.specs.declared.Move.{Move}
 use Rattle.connection.specs.declared.Connection.{Connection}
 use Rattle.connection.specs.declared.Step.{Step}
 use Rattle.payload.specs.Code.{codeKind, kindOfCode, kindAt}
@@ -31,7 +30,7 @@ use Rattle.payload.proofs.Parsed.{parsed-kind}
 use Rattle.reader.specs.declared.frame.FrameRead.{FrameRead}
 use Rattle.reader.specs.Frame.{frameAt}
 use Rattle.short_ways.specs.declared.PartRead.{PartRead}
-use Rattle.reader.specs.Meaning.{Meaning, Told, accepted, told, parted}
+use Rattle.reader.specs.Meaning.{Meaning}
 use Rattle.reader.specs.Reading.{readAsBody, stepped, accepting, reading, tableAfter}
 use Rattle.short_ways.specs.Short.{wholeSize, isChunk, bodySize, chunkSize, shortSize, PartMeaning, other, answered, partMeaning, shortReading}
 use Rattle.short_ways.specs.Private.{partIn, steppedPart}
@@ -113,64 +112,48 @@ short-is d c s table kind n packet end r short p q e =
     (whole-kind d c packet table kind r table (ap (kindAt d (readAsBody d c)) p ∙ short .kind-read) (short .allowed)
     (plain-is c kind kind packet table end end r refl q refl e))
 
--- the move of a packet of a kind: of a body packet and of a chunk by its size
-abbrev pub movedBy : Kind → Move → ℕ → Move
-movedBy Kind.CPing m k = m
-movedBy Kind.CPong m k = m
-movedBy Kind.Forward m k = m
-movedBy Kind.Body m k = Move.Body k
-movedBy Kind.GetBody m k = m
-movedBy Kind.SendHeaders m k = m
-movedBy Kind.BodyChunk m k = Move.BodyChunk k
-movedBy Kind.End m k = m
+-- a packet of a kind with a part: a body packet and a chunk are no more than theirs
+abbrev pub withPart : Kind → Packet → Part → Packet
+withPart Kind.CPing packet part = packet
+withPart Kind.CPong packet part = packet
+withPart Kind.Forward packet part = packet
+withPart Kind.Body packet part = Packet.Body part
+withPart Kind.GetBody packet part = packet
+withPart Kind.SendHeaders packet part = packet
+withPart Kind.BodyChunk packet part = Packet.BodyChunk part
+withPart Kind.End packet part = packet
 
--- what a packet of a kind tells: a body packet and a chunk its part
-abbrev pub toldBy : Kind → Told → Part → Told
-toldBy Kind.CPing t p = t
-toldBy Kind.CPong t p = t
-toldBy Kind.Forward t p = t
-toldBy Kind.Body t p = parted Kind.Body (p .start .0) (p .len)
-toldBy Kind.GetBody t p = t
-toldBy Kind.SendHeaders t p = t
-toldBy Kind.BodyChunk t p = parted Kind.BodyChunk (p .start .0) (p .len)
-toldBy Kind.End t p = t
+-- every packet is the one of its own kind with its own part
+own : (packet : Packet) → packet ≡ withPart (packetKind packet) packet (partIn packet)
+own Packet.CPing = refl
+own Packet.CPong = refl
+own (Packet.Forward forward) = refl
+own (Packet.Body part) = refl
+own (Packet.GetBody asked) = refl
+own (Packet.SendHeaders head) = refl
+own (Packet.BodyChunk part) = refl
+own (Packet.End reuse) = refl
 
--- every packet moves and tells so by its own kind
-own : (p : Packet) → (packetMove p ≡ movedBy (packetKind p) (packetMove p) (partIn p .len)) × (told p ≡ toldBy (packetKind p) (told p) (partIn p))
-own Packet.CPing = (refl, refl)
-own Packet.CPong = (refl, refl)
-own (Packet.Forward forward) = (refl, refl)
-own (Packet.Body part) = (refl, refl)
-own (Packet.GetBody asked) = (refl, refl)
-own (Packet.SendHeaders head) = (refl, refl)
-own (Packet.BodyChunk part) = (refl, refl)
-own (Packet.End reuse) = (refl, refl)
+-- a part that was stepped by means the packet that was stepped by
+part-step : (of : Part → Packet) (part : Part) (taken : ℕ) (step : Step) (m : Meaning) → stepped (of part) taken step ≡ m
+    → partMeaning of (steppedPart part taken step) ≡ answered m
+part-step of part taken (Step.Refused n) m e = ap answered e
+part-step of part taken (Step.Next after) m e = ap answered e
 
--- a part that was stepped by means the packet that was stepped by, which tells so
-part-step : (kind : Kind) (packet : Packet) (part : Part) (taken : ℕ) (step : Step) (m : Meaning) → told packet ≡ parted kind (part .start .0) (part .len)
-    → stepped packet taken step ≡ m → partMeaning kind (steppedPart part taken step) ≡ answered m
-part-step kind packet part taken (Step.Refused n) m t e = ap answered e
-part-step kind packet part taken (Step.Next after) m t e = ap answered (ap (λ (x : Told). accepted x taken after) (sym t) ∙ e)
-
--- a packet that was read as of a kind with a part, and stepped by the move of that kind with the part's size
-pub part-stepped : (kind : Kind) (c : Connection) (s : List ℕ) (taken : ℕ) (packet : Packet) (part : Part) (step : Step) (r : PartRead)
-    → ((t : Told) → toldBy kind t part ≡ parted kind (part .start .0) (part .len))
-    → packetAt kind s .end ≡ PacketRead.Packet packet → part ≡ partIn packet → step ≡ stepOf c (movedBy kind (packetMove packet) (part .len))
-    → r ≡ steppedPart part taken step → partMeaning kind r ≡ answered (accepting c taken (packetAt kind s .end))
-part-stepped kind c s taken packet part step r tells e q f is =
-    let is-kind : packetKind packet ≡ kind = parsed-kind kind s packet e in
-    let moves : packetMove packet ≡ movedBy kind (packetMove packet) (part .len) =
-    own packet .0
-    ∙ ap (λ (k : Kind). movedBy k (packetMove packet) (partIn packet .len)) is-kind
-    ∙ ap (λ (p : Part). movedBy kind (packetMove packet) (p .len)) (sym q) in
-    let says : told packet ≡ parted kind (part .start .0) (part .len) =
-    own packet .1
-    ∙ ap (λ (k : Kind). toldBy k (told packet) (partIn packet)) is-kind
-    ∙ ap (toldBy kind (told packet)) (sym q)
-    ∙ tells (told packet) in
-    ap (partMeaning kind) is
-    ∙ part-step kind packet part taken step _ says
-    (accepting-is c taken packet step (ap (stepOf c) moves ∙ sym f) ∙ ap (accepting c taken) (sym e))
+-- a packet that was read as of a kind with a part, and stepped by the move of the packet with that part
+pub part-stepped : (kind : Kind) (of : Part → Packet) (c : Connection) (s : List ℕ) (taken : ℕ) (packet : Packet) (part : Part) (step : Step)
+    (r : PartRead) → withPart kind packet part ≡ of part → packetAt kind s .end ≡ PacketRead.Packet packet → part ≡ partIn packet
+    → step ≡ stepOf c (packetMove (of part)) → r ≡ steppedPart part taken step
+    → partMeaning of r ≡ answered (accepting c taken (packetAt kind s .end))
+part-stepped kind of c s taken packet part step r with-part e q f is =
+    let same : packet ≡ of part =
+    own packet
+    ∙ ap (λ (k : Kind). withPart k packet (partIn packet)) (parsed-kind kind s packet e)
+    ∙ ap (withPart kind packet) (sym q)
+    ∙ with-part in
+    ap (partMeaning of) is
+    ∙ part-step of part taken step _
+    (accepting-is c taken (of part) step (sym f) ∙ ap (accepting c taken) (ap PacketRead.Packet (sym same) ∙ sym e))
 
 -- a packet that goes no short way is another one
 pub short-other : (d : Direction) (c : Connection) (s : List ℕ) (n : ℕ) → n ≡ shortSize d c s → n ≡ 0 → other ≡ shortReading d c s

@@ -8,6 +8,8 @@ use Rattle.wire.specs.Pick.{pick}
 use Rattle.wire.specs.Bytes.{part}
 use Rattle.wire.specs.Field.{byteAt}
 use Rattle.packet.specs.declared.Direction.{Direction}
+use Rattle.packet.specs.declared.Part.{Part}
+use Rattle.packet.specs.declared.Packet.{Packet}
 use Rattle.wire.specs.declared.read.NumberRead.{NumberRead}
 use Rattle.connection.specs.Cycle.{inState}
 use Rattle.connection.specs.declared.Kind.{Kind}
@@ -16,7 +18,7 @@ use Rattle.payload.specs.Code.{codeOf}
 use Rattle.reader.specs.declared.frame.FrameRead.{FrameRead}
 use Rattle.short_ways.specs.declared.PartRead.{PartRead}
 use Rattle.reader.specs.Frame.{frameAt}
-use Rattle.reader.specs.Meaning.{Meaning, refused, accepted, parted}
+use Rattle.reader.specs.Meaning.{Meaning, refused, accepted}
 use Rattle.reader.specs.Reading.{reading}
 use Rattle.wire.specs.Packet.{codePlace}
 
@@ -53,11 +55,11 @@ pub data PartMeaning : Type 0 where
   other : PartMeaning
   answered : Meaning → PartMeaning
 
--- what each case of the answer says; the part is that of a packet of this kind
-abbrev pub partMeaning : Kind → PartRead → PartMeaning
-partMeaning kind PartRead.Other = other
-partMeaning kind (PartRead.Refused n) = answered (refused n)
-partMeaning kind (PartRead.Part part taken after) = answered (accepted (parted kind (part .start .0) (part .len)) taken after)
+-- what each case of the answer says, where a part is handed out for the packet `of` it
+abbrev pub partMeaning : (Part → Packet) → PartRead → PartMeaning
+partMeaning of PartRead.Other = other
+partMeaning of (PartRead.Refused n) = answered (refused n)
+partMeaning of (PartRead.Part part taken after) = answered (accepted (of part) taken after)
 
 -- the answer of a short way, at the end to which packets of this direction go: another packet where it goes none, else what reading
 -- answers with a table of no places, which is what it answers with any table

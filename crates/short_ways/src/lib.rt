@@ -4,7 +4,7 @@ ghost use mathlib.Core.Path.{_≡_};
 ghost use lib.ListN.{length};
 ghost use Rattle.wire.specs.Field.{byteAt};
 ghost use Rattle.packet.specs.declared.Direction.{Direction};
-ghost use Rattle.connection.specs.declared.Kind.{Kind};
+ghost use Rattle.packet.specs.declared.Packet.{Packet};
 ghost use Rattle.payload.specs.Body.{bodyAt};
 ghost use Rattle.payload.specs.BodyChunk.{chunkAt};
 ghost use Rattle.reader.specs.Frame.{frameAt};
@@ -42,7 +42,7 @@ pub enum PartRead {
 
 // The container's end reads the first packet of the bytes where it is whole and a body packet is due. It has no places for the table.
 pub fn read_body(connection: Connection, bytes: &[u8]) -> PartRead
-    ensures { λ r. ⌜ partMeaning Kind.Body r ≡ shortReading Direction.ToContainer connection (now (bytes .entry)) ⌝ }
+    ensures { λ r. ⌜ partMeaning Packet.Body r ≡ shortReading Direction.ToContainer connection (now (bytes .entry)) ⌝ }
 {
     let size = body_size(connection, bytes);
     if size == 0 {
@@ -53,7 +53,7 @@ pub fn read_body(connection: Connection, bytes: &[u8]) -> PartRead
 
 // The server's end reads the first packet of the bytes where it is whole and a Send Body Chunk that is allowed, in the same way.
 pub fn read_body_chunk(connection: Connection, bytes: &[u8]) -> PartRead
-    ensures { λ r. ⌜ partMeaning Kind.BodyChunk r ≡ shortReading Direction.ToServer connection (now (bytes .entry)) ⌝ }
+    ensures { λ r. ⌜ partMeaning Packet.BodyChunk r ≡ shortReading Direction.ToServer connection (now (bytes .entry)) ⌝ }
 {
     let size = chunk_size(connection, bytes);
     if size == 0 {
@@ -109,7 +109,7 @@ fn is_chunk(packet: &[u8]) -> bool
 
 // A body packet: its size, then the step.
 fn body(connection: Connection, packet: &[u8]) -> PartRead
-    ensures { λ r. ⌜ partMeaning Kind.Body r ≡ answered (accepting connection (length (now (packet .entry))) (bodyAt (now (packet .entry)))) ⌝ }
+    ensures { λ r. ⌜ partMeaning Packet.Body r ≡ answered (accepting connection (length (now (packet .entry))) (bodyAt (now (packet .entry)))) ⌝ }
 {
     match payload::body::read(packet) {
         PacketRead::Refused(n) => PartRead::Refused(n),
@@ -122,7 +122,7 @@ fn body(connection: Connection, packet: &[u8]) -> PartRead
 
 // A Send Body Chunk, in the same way.
 fn body_chunk(connection: Connection, packet: &[u8]) -> PartRead
-    ensures { λ r. ⌜ partMeaning Kind.BodyChunk r ≡ answered (accepting connection (length (now (packet .entry))) (chunkAt (now (packet .entry)))) ⌝ }
+    ensures { λ r. ⌜ partMeaning Packet.BodyChunk r ≡ answered (accepting connection (length (now (packet .entry))) (chunkAt (now (packet .entry)))) ⌝ }
 {
     match payload::body_chunk::read(packet) {
         PacketRead::Refused(n) => PartRead::Refused(n),

@@ -22,12 +22,11 @@ use Rattle.payload.specs.declared.found.PacketRead.{PacketRead}
 use Rattle.packet.specs.declared.Part.{Part}
 use Rattle.payload.proofs.Laws.{body-inside}
 use Rattle.payload.proofs.Parsed.{move-kind}
-use Rattle.reader.specs.Meaning.{Told, told}
 use Rattle.reading_laws.proofs.Shown.{bytes-lent}
 use Rattle.messages.proofs.Parses.{isBody, Parses, parses-accepted, parses-places}
 use Rattle.messages.proofs.OneCall.{BodyRead, empty, sized, body-read}
 use Rattle.two_ends_laws.specs.Ends.{PipePacket}
-use Rattle.two_ends_laws.specs.Past.{bodyPart, RequestBody, gets, countKind}
+use Rattle.two_ends_laws.specs.Past.{bodyPart, RequestBody, gets, countPacket}
 use Rattle.two_ends_laws.specs.Readable.{Carries, counting, Readable}
 
 -- the part that a body packet tells of is all that stands behind its size
@@ -68,7 +67,7 @@ carried (payload.Packet.End reuse) bytes e = refl
 
 -- they are what is handed out
 handed-out : (p : payload.Packet) (bytes rest : List ℕ) → packetAt (packetKind p) bytes .end ≡ PacketRead.Packet p
-    → bodyPart (bytes ++ rest) (told p) (told p .kind) ≡ heldBy p bytes
+    → bodyPart (bytes ++ rest) p ≡ heldBy p bytes
 handed-out payload.Packet.CPing bytes rest e = refl
 handed-out payload.Packet.CPong bytes rest e = refl
 handed-out (payload.Packet.Forward f) bytes rest e = refl
@@ -80,7 +79,7 @@ handed-out (payload.Packet.End reuse) bytes rest e = refl
 
 -- and what is counted
 counted-as : (p : payload.Packet) (bytes rest : List ℕ) (before : List RequestBody) → packetAt (packetKind p) bytes .end ≡ PacketRead.Packet p
-    → countKind (bytes ++ rest) (told p) (told p .kind) before ≡ counting (packetMove p) (heldBy p bytes) before
+    → countPacket (bytes ++ rest) p before ≡ counting (packetMove p) (heldBy p bytes) before
 counted-as payload.Packet.CPing bytes rest before e = refl
 counted-as payload.Packet.CPong bytes rest before e = refl
 counted-as (payload.Packet.Forward f) bytes rest before e = refl
@@ -91,20 +90,20 @@ counted-as (payload.Packet.BodyChunk p) bytes rest before e = refl
 counted-as (payload.Packet.End reuse) bytes rest before e = refl
 
 -- a packet in a pipe that makes a move and tells this
-pub record ReadableAs (direction : Direction) (packet : PipePacket) (m : Move) (t : Told) : Type 0 where
+pub record ReadableAs (direction : Direction) (packet : PipePacket) (m : Move) (t : payload.Packet) : Type 0 where
   pub readable : Readable direction packet m
   pub tells-is : readable .tells ≡ t
 
 -- a packet that parses, in a pipe, where it is a body packet exactly if a body call wrote it
 pub readable-as : {direction : Direction} {bytes : List ℕ} {p : payload.Packet} → Parses direction bytes p → (ofBody : Bool)
-    → isBody (packetKind p) ≡ ofBody → ReadableAs direction (record { bytes = bytes; ofBody = ofBody }) (packetMove p) (told p)
+    → isBody (packetKind p) ≡ ofBody → ReadableAs direction (record { bytes = bytes; ofBody = ofBody }) (packetMove p) p
 readable-as {direction} {bytes} {p} parses ofBody same =
-    subst (λ (b : Bool). ReadableAs direction (record { bytes = bytes; ofBody = b }) (packetMove p) (told p)) same
+    subst (λ (b : Bool). ReadableAs direction (record { bytes = bytes; ofBody = b }) (packetMove p) p) same
     (record {
       readable = record {
         way = ap directionOf (move-kind p) ∙ parses .way;
         carries = carried p bytes (parses .fields-are);
-        tells = told p;
+        tells = p;
         handed = λ rest. handed-out p bytes rest (parses .fields-are);
         counts = λ rest before. counted-as p bytes rest before (parses .fields-are);
         reads = λ c rest f. parses-accepted parses c f rest maxPlaces (parses-places parses);

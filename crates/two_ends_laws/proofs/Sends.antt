@@ -28,12 +28,11 @@ use Rattle.building_record.specs.declared.BuildingKind.{BuildingKind}
 use Rattle.building_record.specs.declared.Building.{Building}
 use Rattle.writer.specs.Meaning.{Written}
 use Rattle.writer.specs.Sending.{packetOf, barePayload, bodyPayload, chunkPayload, getPayload, endPayload, bareCall, bodyCall, chunkCall, getCall, endCall}
-use Rattle.reader.specs.Meaning.{Told, told, accepted}
+use Rattle.reader.specs.Meaning.{bodyDeclared, accepted}
 use Rattle.reader.specs.Reading.{readAsBody, reading}
 use Rattle.closing.specs.Closing.{closedPacket, closeOutcome, closeBuffer}
 use Rattle.closing.specs.Done.{CloseDone}
 use Rattle.closing.proofs.Laws.{close-done}
-use Rattle.reading_laws.proofs.Handed.{told-kind}
 use Rattle.messages.specs.Bytes.{messageBytes}
 use Rattle.messages.proofs.Parses.{isBody, Parses, packet-as-body, none-due, AcceptedAs, accepted-parses, all-parses}
 use Rattle.messages.proofs.OneCall as one
@@ -46,9 +45,9 @@ use Rattle.two_ends_laws.proofs.Packets.{ReadableAs, readable-as}
 -- a packet that parses, sent by a call whose move it makes
 made : (c : Connection) (call : Send) (bytes : List ℕ) (next : Connection) (p : payload.Packet) → Parses (callDirection call) bytes p
     → isBody (packetKind p) ≡ isBodyCall call → heldIn (packetBy call bytes) ≡ bodyGiven call → allowed c (packetMove p) ≡ true
-    → next ≡ after c (packetMove p) → packetMove p ≡ moveOf call (told p) → Made c call bytes next
+    → next ≡ after c (packetMove p) → packetMove p ≡ moveOf call p → Made c call bytes next
 made c call bytes next p parses same holds allows steps is =
-    let shown : ReadableAs (callDirection call) (packetBy call bytes) (packetMove p) (told p) = readable-as parses (isBodyCall call) same in
+    let shown : ReadableAs (callDirection call) (packetBy call bytes) (packetMove p) p = readable-as parses (isBodyCall call) same in
     record {
       move = packetMove p;
       allows = allows;
@@ -60,7 +59,7 @@ made c call bytes next p parses same holds allows steps is =
 
 -- a packet that one call wrote
 one-made : {c : Connection} {m : Move} {own buffer left : List ℕ} {w : Written} (call : Send) (p : payload.Packet)
-    → OneWritten c m own buffer w left → packetMove p ≡ m → m ≡ moveOf call (told p) → Parses (callDirection call) (packetOf m own) p
+    → OneWritten c m own buffer w left → packetMove p ≡ m → m ≡ moveOf call p → Parses (callDirection call) (packetOf m own) p
     → isBody (packetKind p) ≡ isBodyCall call → heldIn (packetBy call (packetOf m own)) ≡ bodyGiven call
     → Made c call (part left 0 (w .size)) (w .connection)
 one-made {c} {w = w} call p wrote e is parses same holds =
@@ -68,7 +67,7 @@ one-made {c} {w = w} call p wrote e is parses same holds =
     (made c call _ (w .connection) p parses same holds (ap (allowed c) e ∙ wrote .allows) (wrote .steps ∙ ap (after c) (sym e)) (e ∙ is))
 
 -- a Forward and a Send Headers, by their kinds: the moves that they make
-forward-move : (p : payload.Packet) → packetKind p ≡ Kind.Forward → packetMove p ≡ Move.Forward (record { 0 = told p .declared })
+forward-move : (p : payload.Packet) → packetKind p ≡ Kind.Forward → packetMove p ≡ Move.Forward (record { 0 = bodyDeclared p })
 forward-move payload.Packet.CPing e = absurd (let z : _≡_ {A = ℕ} 0 1 = cc in omega arith)
 forward-move payload.Packet.CPong e = absurd (let z : _≡_ {A = ℕ} 0 1 = cc in omega arith)
 forward-move (payload.Packet.Forward f) e = refl
@@ -98,33 +97,31 @@ body-held [] = refl
 body-held (byte ∷ later) = rw (some-bytes byte later)
 
 -- a packet that the sender's own connection accepts at the end to which it goes
-judged-made : (c : Connection) (call : Send) (bytes : List ℕ) (t : Told) (next : Connection)
-    → reading (callDirection call) c bytes maxPlaces ≡ accepted t (length bytes) next → readAsBody (callDirection call) c ≡ isBodyCall call
-    → heldIn (packetBy call bytes) ≡ bodyGiven call → ((p : payload.Packet) → t ≡ told p → packetMove p ≡ moveOf call (told p))
-    → Made c call bytes next
-judged-made c call bytes t next e same holds moves =
-    let found : AcceptedAs (callDirection call) c bytes t (length bytes) next = accepted-parses (callDirection call) c bytes maxPlaces t (length bytes) next e in
-    let parses : Parses (callDirection call) bytes (found .packet) = all-parses (callDirection call) c bytes maxPlaces t next e in
-    made c call bytes next (found .packet) parses (sym (packet-as-body c (callDirection call) (found .packet) (parses .way) (found .allows)) ∙ same) holds
-    (found .allows) (found .steps) (moves (found .packet) (found .tells))
+judged-made : (c : Connection) (call : Send) (bytes : List ℕ) (p : payload.Packet) (next : Connection)
+    → reading (callDirection call) c bytes maxPlaces ≡ accepted p (length bytes) next → readAsBody (callDirection call) c ≡ isBodyCall call
+    → heldIn (packetBy call bytes) ≡ bodyGiven call → packetMove p ≡ moveOf call p → Made c call bytes next
+judged-made c call bytes p next e same holds moves =
+    let found : AcceptedAs (callDirection call) c bytes p (length bytes) next = accepted-parses (callDirection call) c bytes maxPlaces p (length bytes) next e in
+    let parses : Parses (callDirection call) bytes p = all-parses (callDirection call) c bytes maxPlaces p next e in
+    made c call bytes next p parses (sym (packet-as-body c (callDirection call) p (parses .way) (found .allows)) ∙ same) holds
+    (found .allows) (found .steps) moves
 
 -- a packet that was closed
 close-made : (c : Connection) (call : Send) (r : Building) (buffer : List ℕ) (w : Written) → closeOutcome c r buffer ≡ done w
     → callDirection call ≡ pieces.directionIn r → isBodyCall call ≡ false → bodyGiven call ≡ []
-    → ((p : payload.Packet) → packetKind p ≡ pieces.builtKind (r .kind) → packetMove p ≡ moveOf call (told p))
+    → ((p : payload.Packet) → packetKind p ≡ pieces.builtKind (r .kind) → packetMove p ≡ moveOf call p)
     → Made c call (part (closeBuffer c r buffer) 0 (w .size)) (w .connection)
 close-made c call r buffer w e way other none moves =
     let d : CloseDone c r buffer w = close-done c r buffer w e in
     let bytes : List ℕ = closedPacket r buffer in
-    let reads : reading (callDirection call) c bytes maxPlaces ≡ accepted (d .told) (length bytes) (w .connection) =
+    let reads : reading (callDirection call) c bytes maxPlaces ≡ accepted (d .packet) (length bytes) (w .connection) =
     ap (λ (x : Direction). reading x c bytes maxPlaces) way ∙ d .reads maxPlaces (omega arith)
-    ∙ ap (λ (n : ℕ). accepted (d .told) n (w .connection)) (sym (d .packet-size)) in
+    ∙ ap (λ (n : ℕ). accepted (d .packet) n (w .connection)) (sym (d .packet-size)) in
     let same : readAsBody (callDirection call) c ≡ isBodyCall call =
     ap (λ (x : Direction). readAsBody x c) way ∙ none-due c (r .kind) (d .ready .allowed) ∙ sym other in
     let holds : heldIn (packetBy call bytes) ≡ bodyGiven call = ap (λ (t : Bool). pick t (drop bodyStart bytes) []) other ∙ sym none in
     subst (λ (l : List ℕ). Made c call l (w .connection)) (sym (d .packet-is))
-    (judged-made c call bytes (d .told) (w .connection) reads same holds
-    (λ p is. moves p (sym (ap (λ (t : Told). t .kind) is ∙ told-kind p) ∙ d .kind-is)))
+    (judged-made c call bytes (d .packet) (w .connection) reads same holds (moves (d .packet) (d .kind-is)))
 
 -- what every send owes
 pub send-made : (c : Connection) (call : Send) (w : Written) → outcomeOf c call ≡ done w

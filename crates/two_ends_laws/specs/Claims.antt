@@ -13,7 +13,7 @@ use Rattle.two_ends_laws.specs.Past.{Entry, sent, refusedSend, delivered
 abbrev pub Taken : List ℕ → read.Meaning → Type 0
 Taken packet (read.needs n) = ⊥
 Taken packet (read.refused n) = ⊥
-Taken packet (read.accepted t taken after) = taken ≡ length packet
+Taken packet (read.accepted found taken after) = taken ≡ length packet
 
 -- every packet delivered was accepted and exactly its bytes were taken
 abbrev pub AllTaken : List Entry → Type 0

@@ -182,4 +182,4 @@ answerOf direction c d packet later = reading direction c (lent d packet later) 
 abbrev pub afterAnswer : Direction → List PipePacket → Ends → read.Meaning → Ends
 afterAnswer direction later e (read.needs n) = e
 afterAnswer direction later e (read.refused n) = e
-afterAnswer direction later e (read.accepted told taken after) = withRead direction after later e
+afterAnswer direction later e (read.accepted packet taken after) = withRead direction after later e

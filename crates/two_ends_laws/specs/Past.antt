@@ -8,12 +8,11 @@ use lib.ListN.{drop}
 use Rattle.wire.specs.Pick.{pick}
 use Rattle.wire.specs.Bytes.{part}
 use Rattle.packet.specs.declared.Direction.{Direction}
-use Rattle.connection.specs.declared.Kind.{Kind}
+use Rattle.packet.specs.declared.Packet.{Packet}
 use Rattle.payload.specs.Body.{bodyStart}
 use Rattle.building.specs.Call.{Outcome, refused, done}
 use Rattle.writer.specs.Meaning.{Written}
 use Rattle.reader.specs.Meaning as read
-use Rattle.reader.specs.Meaning.{Told}
 use Rattle.two_ends_laws.specs.Ends.{Send, callDirection, outcomeOf, bodyGiven, PipePacket, Ends, freshEnds, pipeOf, senderOf, receiverOf, afterSend, Delivery, lent, answerOf, afterAnswer}
 
 -- something that happened: a send that was written, with the body bytes given to it; a refused send, with the body bytes given to it
@@ -73,20 +72,20 @@ sentBytes (refusedSend bytes e f ∷ before) = sentBytes before
 sentBytes (delivered packet lent answer ∷ before) = sentBytes before
 
 -- the bytes that an accepted packet hands out as a body, a part of the bytes lent
-abbrev pub bodyPart : List ℕ → Told → Kind → List ℕ
-bodyPart lent t Kind.CPing = []
-bodyPart lent t Kind.CPong = []
-bodyPart lent t Kind.Forward = []
-bodyPart lent t Kind.Body = part lent (t .start) (t .len)
-bodyPart lent t Kind.GetBody = []
-bodyPart lent t Kind.SendHeaders = []
-bodyPart lent t Kind.BodyChunk = []
-bodyPart lent t Kind.End = []
+abbrev pub bodyPart : List ℕ → Packet → List ℕ
+bodyPart lent Packet.CPing = []
+bodyPart lent Packet.CPong = []
+bodyPart lent (Packet.Forward f) = []
+bodyPart lent (Packet.Body p) = part lent (p .start .0) (p .len)
+bodyPart lent (Packet.GetBody asked) = []
+bodyPart lent (Packet.SendHeaders h) = []
+bodyPart lent (Packet.BodyChunk p) = []
+bodyPart lent (Packet.End reuse) = []
 
 abbrev pub bodyHanded : List ℕ → read.Meaning → List ℕ
 bodyHanded lent (read.needs n) = []
 bodyHanded lent (read.refused n) = []
-bodyHanded lent (read.accepted t taken after) = bodyPart lent t (t .kind)
+bodyHanded lent (read.accepted packet taken after) = bodyPart lent packet
 
 -- the body bytes received: those that deliveries handed out as a body, in order
 abbrev pub receivedBytes : List Entry → List ℕ
@@ -113,21 +112,21 @@ abbrev pub gets : List ℕ → List RequestBody → List RequestBody
 gets bytes [] = []
 gets bytes (request ∷ before) = record { declared = request .declared; got = request .got ++ bytes } ∷ before
 
--- an accepted packet, by its kind: a Forward is a new request, a body comes to the newest one
-abbrev pub countKind : List ℕ → Told → Kind → List RequestBody → List RequestBody
-countKind lent t Kind.CPing before = before
-countKind lent t Kind.CPong before = before
-countKind lent t Kind.Forward before = record { declared = t .declared; got = [] } ∷ before
-countKind lent t Kind.Body before = gets (part lent (t .start) (t .len)) before
-countKind lent t Kind.GetBody before = before
-countKind lent t Kind.SendHeaders before = before
-countKind lent t Kind.BodyChunk before = before
-countKind lent t Kind.End before = before
+-- an accepted packet: a Forward is a new request, a body comes to the newest one
+abbrev pub countPacket : List ℕ → Packet → List RequestBody → List RequestBody
+countPacket lent Packet.CPing before = before
+countPacket lent Packet.CPong before = before
+countPacket lent (Packet.Forward f) before = record { declared = f .declared .0; got = [] } ∷ before
+countPacket lent (Packet.Body p) before = gets (part lent (p .start .0) (p .len)) before
+countPacket lent (Packet.GetBody asked) before = before
+countPacket lent (Packet.SendHeaders h) before = before
+countPacket lent (Packet.BodyChunk p) before = before
+countPacket lent (Packet.End reuse) before = before
 
 abbrev pub countAnswer : List ℕ → read.Meaning → List RequestBody → List RequestBody
 countAnswer lent (read.needs n) before = before
 countAnswer lent (read.refused n) before = before
-countAnswer lent (read.accepted t taken after) before = countKind lent t (t .kind) before
+countAnswer lent (read.accepted packet taken after) before = countPacket lent packet before
 
 -- the requests, newest first: each Forward accepted in a delivery, with the body bytes received after it and before the next
 abbrev pub requests : List Entry → List RequestBody

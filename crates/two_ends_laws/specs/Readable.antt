@@ -1,5 +1,5 @@
--- What a packet in a pipe is: it makes a move, and every connection that allows the move accepts it, whatever stands behind it, and is told
--- the same.
+-- What a packet in a pipe is: it makes a move, and every connection that allows the move accepts it, whatever stands behind it, and is handed
+-- the same packet.
 -- Assumes nothing.
 use mathlib.Core.Path.{_≡_}
 use mathlib.Core.Bool.{true}
@@ -7,14 +7,15 @@ use mathlib.Core.List.{List, [], _∷_, _++_}
 use Prim.Native.Nat.{ℕ}
 use lib.ListN.{length}
 use Rattle.packet.specs.declared.Direction.{Direction}
+use Rattle.packet.specs.declared.Packet.{Packet}
 use Rattle.connection.specs.Cycle.{moveKind, directionOf, allowed, after}
 use Rattle.connection.specs.declared.Connection.{Connection}
 use Rattle.connection.specs.declared.Move.{Move}
 use Rattle.places.specs.Entries.{maxPlaces}
-use Rattle.reader.specs.Meaning.{Told, accepted}
+use Rattle.reader.specs.Meaning.{accepted}
 use Rattle.reader.specs.Reading.{reading}
 use Rattle.two_ends_laws.specs.Ends.{PipePacket}
-use Rattle.two_ends_laws.specs.Past.{bodyPart, heldIn, RequestBody, gets, countKind}
+use Rattle.two_ends_laws.specs.Past.{bodyPart, heldIn, RequestBody, gets, countPacket}
 
 -- the body bytes in a packet of a move: in a body packet as many as it says, in every other none
 abbrev pub Carries : Move → List ℕ → Type 0
@@ -43,9 +44,9 @@ counting (Move.End reuse) held before = before
 pub record Readable (direction : Direction) (packet : PipePacket) (m : Move) : Type 0 where
   pub way : directionOf (moveKind m) ≡ direction
   pub carries : Carries m (heldIn packet)
-  pub tells : Told
-  pub handed : (rest : List ℕ) → bodyPart (packet .bytes ++ rest) tells (tells .kind) ≡ heldIn packet
+  pub tells : Packet
+  pub handed : (rest : List ℕ) → bodyPart (packet .bytes ++ rest) tells ≡ heldIn packet
   pub counts : (rest : List ℕ) (before : List RequestBody)
-      → countKind (packet .bytes ++ rest) tells (tells .kind) before ≡ counting m (heldIn packet) before
+      → countPacket (packet .bytes ++ rest) tells before ≡ counting m (heldIn packet) before
   pub reads : (c : Connection) (rest : List ℕ) → allowed c m ≡ true
       → reading direction c (packet .bytes ++ rest) maxPlaces ≡ accepted tells (length (packet .bytes)) (after c m)

@@ -3,8 +3,7 @@
 use native.Mathlib.Omega.{arith}
 use mathlib.Core.Path.{_≡_, sym, ap, _∙_}
 use Prim.Native.Nat.{_+_, _*_}
-use Rattle.packet.specs.declared.Packet.{Packet}
-use Rattle.reader.specs.Meaning.{told, placesNeeded}
+use Rattle.reader.specs.Meaning.{placesNeeded}
 use borrow.Author.Needs.{needs}
 use Rattle.reader.proofs.places_needed.Statement.{statement}
 use Rattle.reader.proofs.places_needed.Tie as tie
@@ -52,31 +51,31 @@ enum-known-packet-6 : tie.Need-enum-known-packet-6
 enum-known-packet-6 c = search needs
 
 returns : tie.Need-returns
-returns c = sym (ap (λ (p : Packet). placesNeeded (told p)) (c .enum-told .given .1))
+returns c = sym (ap placesNeeded (c .enum-told .given .1))
 
 returns-2 : tie.Need-returns-2
-returns-2 c = sym (ap (λ (p : Packet). placesNeeded (told p)) (c .enum-told2 .given .1))
+returns-2 c = sym (ap placesNeeded (c .enum-told2 .given .1))
 
 returns-3 : tie.Need-returns-3
-returns-3 c = sym (ap (λ (p : Packet). placesNeeded (told p)) (c .before .before .before .packet .given .1))
+returns-3 c = sym (ap placesNeeded (c .before .before .before .packet .given .1))
 
 returns-4 : tie.Need-returns-4
-returns-4 c = sym (ap (λ (p : Packet). placesNeeded (told p)) (c .before .packet2 .given .1))
+returns-4 c = sym (ap placesNeeded (c .before .packet2 .given .1))
 
 returns-5 : tie.Need-returns-5
-returns-5 c = sym (ap (λ (p : Packet). placesNeeded (told p)) (c .before .packet3 .given .1))
+returns-5 c = sym (ap placesNeeded (c .before .packet3 .given .1))
 
 returns-6 : tie.Need-returns-6
 returns-6 c =
     let h = c .before .before .packet4 .given .0 .0 .headers in
     let e : 2 * h ≡ 2 * (h + 0) = omega arith in
-    e ∙ sym (ap (λ (p : Packet). placesNeeded (told p)) (c .before .before .packet4 .given .1))
+    e ∙ sym (ap placesNeeded (c .before .before .packet4 .given .1))
 
 returns-7 : tie.Need-returns-7
-returns-7 c = sym (ap (λ (p : Packet). placesNeeded (told p)) (c .before .packet5 .given .1))
+returns-7 c = sym (ap placesNeeded (c .before .packet5 .given .1))
 
 returns-8 : tie.Need-returns-8
-returns-8 c = sym (ap (λ (p : Packet). placesNeeded (told p)) (c .before .packet6 .given .1))
+returns-8 c = sym (ap placesNeeded (c .before .packet6 .given .1))
 
 pub places-needed-spec : {M : Type 1} → statement M
 places-needed-spec =

@@ -1,7 +1,7 @@
 -- `answer::forward_words` meets its contract: each word is its field's.
 -- Assumes nothing.
 use native.Mathlib.Omega.{arith}
-use Rattle.ajp13.specs.Answer.{toldWords}
+use Rattle.ajp13.specs.Answer.{packetWords}
 use borrow.Author.Needs.{needs}
 use Rattle.ajp13.proofs.answer.forward_words.Statement.{statement}
 use Rattle.ajp13.proofs.answer.forward_words.Tie as tie
@@ -40,7 +40,7 @@ cast-t14 : tie.Need-cast-t14
 cast-t14 c = omega (arith, c .struct-known9 .given)
 
 returns : tie.Need-returns
-unfolding toldWords
+unfolding packetWords
 returns c = rw (c .before .before .before .before .before .before .before .before .before .before .kind-word .ensures, c .before .before .flag-word .ensures)
 
 pub forward-words-spec : {M : Type 1} → statement M

@@ -3,9 +3,10 @@
 use mathlib.Core.Path.{refl, sym, ap, subst, _∙_}
 use lib.ListN.{length}
 use Rattle.packet.specs.declared.Direction.{Direction}
-use Rattle.connection.specs.declared.Kind.{Kind}
+use Rattle.packet.specs.declared.Packet.{Packet}
 use Rattle.short_ways.specs.Short.{partMeaning}
 use Rattle.short_ways.proofs.ShortWays.{short-reads, short-keeps}
+use Rattle.ajp13.specs.Answer.{packetWords}
 use Rattle.ajp13.specs.Reading.{readEffect}
 use Rattle.ajp13.specs.Private.{ReadWithin}
 use Rattle.ajp13.proofs.Within.{read-within}
@@ -57,8 +58,8 @@ tell-part-requires c κs =
     let found = c .before .before .before .before .before in
     let conn = found .before .connection-in in
     let a = c .before .before .before .before .before .before .before .before .before .before .before .before .before .before .before .before .args in
-    let is = ap (partMeaning Kind.Body) (sym (c .before .before .before .part .given .1)) ∙ found .read-body .ensures in
-    (right (found .before .before .before) .takes, (refl, subst ReadWithin (sym (short-reads Direction.ToContainer (conn .result) (a .bytes .now) _ is (a .table .now))) (read-within Direction.ToContainer (conn .result) (a .bytes .now) (length (a .table .now)))))
+    let is = ap (partMeaning Packet.Body) (sym (c .before .before .before .part .given .1)) ∙ found .read-body .ensures in
+    (right (found .before .before .before) .takes, subst ReadWithin (sym (short-reads Direction.ToContainer (conn .result) (a .bytes .now) _ is (a .table .now))) (read-within Direction.ToContainer (conn .result) (a .bytes .now) (length (a .table .now))))
 
 same-length-3 : tie.Need-same-length-3
 same-length-3 c = search needs
@@ -88,7 +89,7 @@ returns-3 c =
     let conn = found .before .connection-in in
     let e = found .before .before .before in
     let a = e .before .before .before .before .before .before .before .before .args in
-    let is = ap (partMeaning Kind.Body) (sym (c .before .n .given .1)) ∙ found .read-body .ensures in
+    let is = ap (partMeaning Packet.Body) (sym (c .before .n .given .1)) ∙ found .read-body .ensures in
     read-leaves Direction.ToContainer (a .connection .now) (a .bytes .now) (a .table .now) (a .answer .now) _ _
     (e .before .call-fault .ensures) (e .if1 .left)
     (sound-reading Direction.ToContainer (a .connection .now) (a .bytes .now) (a .table .now) (a .answer .now) (conn .result) _ _ _ (conn .ensures) (short-reads Direction.ToContainer (conn .result) (a .bytes .now) _ is (a .table .now)) (short-keeps Direction.ToContainer (conn .result) (a .bytes .now) _ is (a .table .now)) refl)
@@ -100,12 +101,13 @@ same-length-9 : tie.Need-same-length-9
 same-length-9 c = search needs
 
 returns-4 : tie.Need-returns-4
+unfolding packetWords
 returns-4 c =
     let found = c .before .before .before .before .before .before .before .before .before .before in
     let conn = found .before .connection-in in
     let e = found .before .before .before in
     let a = e .before .before .before .before .before .before .before .before .args in
-    let is = ap (partMeaning Kind.Body) (sym (c .before .before .before .before .before .before .before .before .part .given .1)) ∙ found .read-body .ensures in
+    let is = ap (partMeaning Packet.Body) (sym (c .before .before .before .before .before .before .before .before .part .given .1)) ∙ found .read-body .ensures in
     read-leaves Direction.ToContainer (a .connection .now) (a .bytes .now) (a .table .now) (a .answer .now) _ _
     (e .before .call-fault .ensures) (e .if1 .left)
     (sound-reading Direction.ToContainer (a .connection .now) (a .bytes .now) (a .table .now) (a .answer .now) (conn .result) _ _ _ (conn .ensures) (short-reads Direction.ToContainer (conn .result) (a .bytes .now) _ is (a .table .now)) (short-keeps Direction.ToContainer (conn .result) (a .bytes .now) _ is (a .table .now)) (c .before .before .before .before .tell-part .ensures (a .table .now)))

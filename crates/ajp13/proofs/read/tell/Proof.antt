@@ -1,9 +1,9 @@
 -- `read::tell` meets its contract, by what the reader answered.
 -- Assumes nothing.
 use mathlib.Core.Path.{refl, sym, ap, subst, _∙_}
-use Rattle.reader.specs.Meaning.{told, receivedMeaning}
+use Rattle.reader.specs.Meaning.{receivedMeaning}
 use Rattle.reader.specs.declared.Received.{Received}
-use Rattle.ajp13.specs.Answer.{needsWords, toldWords}
+use Rattle.ajp13.specs.Answer.{needsWords, packetWords}
 use Rattle.ajp13.specs.Status as status
 use Rattle.ajp13.specs.Reading.{afterReading}
 use Rattle.ajp13.specs.Private.{ReadWithin}
@@ -42,8 +42,8 @@ put-connection-requires c κs = search needs
 bytes-word-requires-2 : tie.Need-bytes-word-requires-2
 bytes-word-requires-2 c κs = subst ReadWithin (ap receivedMeaning (c .before .before .before .before .before .received3 .given .1)) (c .before .before .before .before .before .before .before .before .before .pre .1)
 
-told-words-requires : tie.Need-told-words-requires
-told-words-requires c κs = search needs
+packet-words-requires : tie.Need-packet-words-requires
+packet-words-requires c κs = search needs
 
 slice-aggregate-fill-2 : tie.Need-slice-aggregate-fill-2
 slice-aggregate-fill-2 c = search needs
@@ -76,7 +76,7 @@ returns-3 c = λ table.
     let a = c .before .before .before .before .before .before .before .before .before .before .before .before .before .before .before .before .args in
     let packet = c .before .before .before .before .before .before .before .before .before .before .before .before .received3 .given .0 .0 in
     leaves-same status.done table (c .before .before .before .before .before .before .before .before .before .put-connection .ensures)
-    (c .before .before .fill2 .ensures ∙ c .before .before .before .before .before .told-words .ensures ∙ ap (toldWords (told packet)) (c .before .before .before .before .before .before .bytes-word2 .ensures))
+    (c .before .before .fill2 .ensures ∙ c .before .before .before .before .before .packet-words .ensures ∙ ap (packetWords packet) (c .before .before .before .before .before .before .bytes-word2 .ensures))
     ∙ sym (ap (λ (x : Received). afterReading (receivedMeaning x) (a .connection .now) table (a .answer .now)) (c .before .before .before .before .before .before .before .before .before .before .before .before .received3 .given .1))
 
 pub tell-spec : {M : Type 1} → statement M
@@ -93,7 +93,7 @@ tell-spec =
     enum-known-received-3
     put-connection-requires
     bytes-word-requires-2
-    told-words-requires
+    packet-words-requires
     slice-aggregate-fill-2
     fill-requires-2
     same-length

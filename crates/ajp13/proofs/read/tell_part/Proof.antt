@@ -1,9 +1,8 @@
 -- `read::tell_part` meets its contract: the words of the connection and of the part are written.
 -- Assumes nothing.
 use mathlib.Core.Path.{ap, _∙_}
-use Rattle.reader.specs.Meaning.{parted}
 use Rattle.ajp13.specs.Status as status
-use Rattle.ajp13.specs.Answer.{toldWords}
+use Rattle.ajp13.specs.Answer.{partWords}
 use Rattle.ajp13.proofs.Effects.{leaves-same}
 use borrow.Author.Needs.{needs}
 use Rattle.ajp13.proofs.read.tell_part.Statement.{statement}
@@ -34,7 +33,7 @@ returns : tie.Need-returns
 returns c = λ table.
     let a = c .before .before .before .before .before .before .before .before .before .before .before .before .before .args in
     leaves-same status.done table (c .before .before .before .before .before .before .before .before .before .put-connection .ensures)
-    (c .before .before .fill .ensures ∙ c .before .before .before .before .before .part-words .ensures ∙ ap (toldWords (parted (a .kind) (a .part .start .0) (a .part .len))) (c .before .before .before .before .before .before .bytes-word .ensures))
+    (c .before .before .fill .ensures ∙ c .before .before .before .before .before .part-words .ensures ∙ ap (partWords (a .kind) (a .part)) (c .before .before .before .before .before .before .bytes-word .ensures))
 
 pub tell-part-spec : {M : Type 1} → statement M
 tell-part-spec =

@@ -1,12 +1,11 @@
--- `answer::told_words` meets its contract, packet by packet.
+-- `answer::packet_words` meets its contract, packet by packet.
 -- Assumes nothing.
 use mathlib.Core.Path.{sym, ap, _∙_}
 use Rattle.packet.specs.declared.Packet.{Packet}
-use Rattle.reader.specs.Meaning.{told}
-use Rattle.ajp13.specs.Answer.{writtenWords, toldWords}
+use Rattle.ajp13.specs.Answer.{writtenWords, packetWords}
 use borrow.Author.Needs.{needs}
-use Rattle.ajp13.proofs.answer.told_words.Statement.{statement}
-use Rattle.ajp13.proofs.answer.told_words.Tie as tie
+use Rattle.ajp13.proofs.answer.packet_words.Statement.{statement}
+use Rattle.ajp13.proofs.answer.packet_words.Tie as tie
 
 enum-told : tie.Need-enum-told
 enum-told c = search needs
@@ -81,36 +80,38 @@ row-requires-3 : tie.Need-row-requires-3
 row-requires-3 c κs = search needs
 
 returns : tie.Need-returns
-unfolding writtenWords toldWords
-returns c = c .written-words .ensures ∙ sym (ap (λ (p : Packet). toldWords (told p) (c .before .before .before .args .bytes)) (c .before .enum-told .given .1))
+unfolding writtenWords packetWords
+returns c = c .written-words .ensures ∙ sym (ap (λ (p : Packet). packetWords p (c .before .before .before .args .bytes)) (c .before .enum-told .given .1))
 
 returns-2 : tie.Need-returns-2
-unfolding writtenWords toldWords
-returns-2 c = c .written-words2 .ensures ∙ sym (ap (λ (p : Packet). toldWords (told p) (c .before .before .before .args .bytes)) (c .before .enum-told2 .given .1))
+unfolding writtenWords packetWords
+returns-2 c = c .written-words2 .ensures ∙ sym (ap (λ (p : Packet). packetWords p (c .before .before .before .args .bytes)) (c .before .enum-told2 .given .1))
 
 returns-3 : tie.Need-returns-3
-returns-3 c = c .forward-words .ensures ∙ sym (ap (λ (p : Packet). toldWords (told p) (c .before .before .before .before .args .bytes)) (c .before .before .packet .given .1))
+returns-3 c = c .forward-words .ensures ∙ sym (ap (λ (p : Packet). packetWords p (c .before .before .before .before .args .bytes)) (c .before .before .packet .given .1))
 
 returns-4 : tie.Need-returns-4
-returns-4 c = c .part-words .ensures ∙ sym (ap (λ (p : Packet). toldWords (told p) (c .before .before .before .before .args .bytes)) (c .before .before .packet2 .given .1))
+unfolding packetWords
+returns-4 c = c .part-words .ensures ∙ sym (ap (λ (p : Packet). packetWords p (c .before .before .before .before .args .bytes)) (c .before .before .packet2 .given .1))
 
 returns-5 : tie.Need-returns-5
-unfolding toldWords
-returns-5 c = rw (c .row .ensures, c .before .kind-word .ensures) (sym (ap (λ (p : Packet). toldWords (told p) (c .before .before .before .before .before .args .bytes)) (c .before .before .before .packet3 .given .1)))
+unfolding packetWords
+returns-5 c = rw (c .row .ensures, c .before .kind-word .ensures) (sym (ap (λ (p : Packet). packetWords p (c .before .before .before .before .before .args .bytes)) (c .before .before .before .packet3 .given .1)))
 
 returns-6 : tie.Need-returns-6
-unfolding toldWords
-returns-6 c = rw (c .row2 .ensures, c .before .before .before .before .kind-word2 .ensures) (sym (ap (λ (p : Packet). toldWords (told p) (c .before .before .before .before .before .before .before .before .args .bytes)) (c .before .before .before .before .before .before .packet4 .given .1)))
+unfolding packetWords
+returns-6 c = rw (c .row2 .ensures, c .before .before .before .before .kind-word2 .ensures) (sym (ap (λ (p : Packet). packetWords p (c .before .before .before .before .before .before .before .before .args .bytes)) (c .before .before .before .before .before .before .packet4 .given .1)))
 
 returns-7 : tie.Need-returns-7
-returns-7 c = c .part-words2 .ensures ∙ sym (ap (λ (p : Packet). toldWords (told p) (c .before .before .before .before .args .bytes)) (c .before .before .packet5 .given .1))
+unfolding packetWords
+returns-7 c = c .part-words2 .ensures ∙ sym (ap (λ (p : Packet). packetWords p (c .before .before .before .before .args .bytes)) (c .before .before .packet5 .given .1))
 
 returns-8 : tie.Need-returns-8
-unfolding toldWords
-returns-8 c = rw (c .row3 .ensures, c .before .before .kind-word3 .ensures, c .before .flag-word .ensures) (sym (ap (λ (p : Packet). toldWords (told p) (c .before .before .before .before .before .before .args .bytes)) (c .before .before .before .before .packet6 .given .1)))
+unfolding packetWords
+returns-8 c = rw (c .row3 .ensures, c .before .before .kind-word3 .ensures, c .before .flag-word .ensures) (sym (ap (λ (p : Packet). packetWords p (c .before .before .before .before .before .before .args .bytes)) (c .before .before .before .before .packet6 .given .1)))
 
-pub told-words-spec : {M : Type 1} → statement M
-told-words-spec =
+pub packet-words-spec : {M : Type 1} → statement M
+packet-words-spec =
     tie.close
     (tie.spec
     enum-told
