@@ -55,7 +55,7 @@ use Rattle.payload.specs.Lists.{headersAfter, listsOf, attributesBehind,
 use Rattle.payload.specs.Forward.{firstMethod, lastMethod, forwardReads, forwardOf, forwardAt}
 use Rattle.payload.specs.SendHeaders.{leastStatus, greatestStatus, sendHeadersReads, sendHeadersOf, sendHeadersAt}
 use Rattle.payload.specs.Kinds.{packetAt, packetKind}
-use Rattle.payload.specs.Handed.{StringEnds, NumberEnds, NameEnds, StringThere, declaringRead, readNull, readBytes, DeclaresThen, HeadersHanded, ValueThere, AttributesHanded, ListsHanded, ForwardHanded, SendHeadersHanded, bodySizeRead, BodyHanded, ChunkHanded, GetHanded, EndHanded, BareHanded, PacketHanded}
+use Rattle.payload.specs.Handed.{StringEnds, NumberEnds, NameEnds, StringThere, declaringRead, readNull, readBytes, DeclaresThen, HeadersHanded, ValueThere, AttributesHanded, ListsHanded, ForwardHanded, SendHeadersHanded, BodyHanded, ChunkHanded, GetHanded, EndHanded, BareHanded, PacketHanded}
 use Rattle.payload.proofs.Below.{attributes-many, attributes-few}
 use Rattle.payload.proofs.Listing.{HeadersPlaces, headers-places}
 use Rattle.payload.proofs.Parsed.{parsed-kind}

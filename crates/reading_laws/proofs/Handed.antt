@@ -11,13 +11,12 @@ use Rattle.wire.specs.Bytes.{part}
 use Rattle.packet.specs.declared.Direction.{Direction}
 use Rattle.packet.specs.declared.Packet.{Packet}
 use Rattle.connection.specs.declared.Connection.{Connection}
-use Rattle.connection.specs.declared.Kind.{Kind}
 use Rattle.payload.specs.Kinds.{packetKind}
-use Rattle.payload.specs.Handed.{ForwardHanded, EndHanded, PacketHanded}
+use Rattle.payload.specs.Handed.{PacketHanded}
 use Rattle.payload.proofs.Handed.{packet-handed}
 use Rattle.reader.specs.Meaning.{Told, accepted, told}
 use Rattle.reader.specs.Reading.{parse, parseWhole, placesOf, readAsBody, reading}
-use Rattle.reading_laws.specs.Handed.{numberTold, placeTold, ToldHanded}
+use Rattle.reading_laws.specs.Handed.{packetBy, ToldHanded}
 use Rattle.reading_laws.proofs.Acceptance.{accepted-is}
 use Rattle.wire.specs.Field.{booleanNumber}
 
@@ -37,49 +36,6 @@ boolean-told : (b : Bool) → b ≡ eqb (booleanNumber b) 1
 boolean-told true = refl
 boolean-told false = refl
 
--- what is told of a packet is what it hands out
-told-handed : (s : List ℕ) (packet : Packet) (places : List ℕ) → PacketHanded s packet places → ToldHanded s (told packet) places
-told-handed s Packet.CPing places h = h
-told-handed s Packet.CPong places h = h
-told-handed s (Packet.Forward f) places h =
-    subst
-    (λ (ssl : Bool).
-    ForwardHanded s (f .method) (f .protocol .0) (f .«req_uri» .0) (f .«remote_addr» .0) (f .«remote_host» .0) (f .«server_name» .0)
-    (f .«server_port») ssl (f .headers) (f .attributes) places)
-    (boolean-told (f .«is_ssl»)) h
-told-handed s (Packet.Body p) places h = h
-told-handed s (Packet.GetBody asked) places h = h
-told-handed s (Packet.SendHeaders head) places h = h
-told-handed s (Packet.BodyChunk p) places h = h
-told-handed s (Packet.End reuse) places h = subst (λ (b : Bool). EndHanded s b places) (boolean-told reuse) h
-
--- the packet of which this is told
-abbrev packetBy : Told → Kind → Packet
-packetBy t Kind.CPing = Packet.CPing
-packetBy t Kind.CPong = Packet.CPong
-packetBy t Kind.Forward = Packet.Forward (record {
-  method = numberTold t 0;
-  protocol = record { 0 = placeTold t 0 };
-  «req_uri» = record { 0 = placeTold t 1 };
-  «remote_addr» = record { 0 = placeTold t 2 };
-  «remote_host» = record { 0 = placeTold t 3 };
-  «server_name» = record { 0 = placeTold t 4 };
-  «server_port» = numberTold t 1;
-  «is_ssl» = eqb (numberTold t 2) 1;
-  headers = t .headers;
-  attributes = t .attributes;
-  declared = record { 0 = t .declared };
-})
-packetBy t Kind.Body = Packet.Body (record { start = record { 0 = t .start }; len = t .len })
-packetBy t Kind.GetBody = Packet.GetBody (numberTold t 0)
-packetBy t Kind.SendHeaders = Packet.SendHeaders (record {
-  status = numberTold t 0;
-  message = record { 0 = placeTold t 0 };
-  headers = t .headers;
-})
-packetBy t Kind.BodyChunk = Packet.BodyChunk (record { start = record { 0 = t .start }; len = t .len })
-packetBy t Kind.End = Packet.End (eqb (numberTold t 0) 1)
-
 -- all of a packet is told
 told-all : (packet : Packet) → packetBy (told packet) (told packet .kind) ≡ packet
 told-all Packet.CPing = refl
@@ -91,7 +47,11 @@ told-all (Packet.SendHeaders head) = refl
 told-all (Packet.BodyChunk p) = refl
 told-all (Packet.End reuse) = ap Packet.End (sym (boolean-told reuse))
 
--- so packets of which the same is told are the same
+-- so what is told of a packet is what it hands out
+told-handed : (s : List ℕ) (packet : Packet) (places : List ℕ) → PacketHanded s packet places → ToldHanded s (told packet) places
+told-handed s packet places h = subst (λ (p : Packet). PacketHanded s p places) (sym (told-all packet)) h
+
+-- and packets of which the same is told are the same
 pub told-same : (p q : Packet) → told p ≡ told q → p ≡ q
 told-same p q e = sym (told-all p) ∙ ap (λ (t : Told). packetBy t (t .kind)) e ∙ told-all q
 
