@@ -3,23 +3,22 @@
 use mathlib.Core.Path.{_≡_, refl, sym, subst}
 use mathlib.Core.Bool.{Bool, true, false}
 use mathlib.Core.List.{List}
-use Prim.Native.Nat.{ℕ, _≤_, _<_}
+use Prim.Native.Nat.{ℕ, _≤_}
 use native.Mathlib.Omega.{arith}
 use borrow.Author.Tests.{leb-true}
 use lib.Dec.{leb}
 use lib.ListN.{length}
 use Rattle.wire.specs.Pick.{pick, between}
-use Rattle.wire.specs.Field.{byteAt, integerAt, booleanAt, stringAt, isOptional}
+use Rattle.wire.specs.Field.{integerAt, stringAt, isOptional}
 use Rattle.wire.specs.declared.StringField.{StringField}
 use Rattle.wire.specs.declared.read.NumberRead.{NumberRead}
-use Rattle.wire.specs.declared.read.BooleanRead.{BooleanRead}
 use Rattle.wire.specs.declared.read.StringRead.{StringRead}
 use Rattle.wire.proofs.Tests.{both-second}
-use Rattle.wire.specs.Facts.{NumberInside, BooleanInside, StringInside}
-use Rattle.wire.proofs.Field.{byte-inside, integer-inside, boolean-inside, string-inside}
+use Rattle.wire.specs.Facts.{StringInside}
+use Rattle.wire.proofs.Field.{string-inside}
 use Rattle.connection.specs.Connection.{maxPacket}
 use Rattle.payload.specs.declared.field.FieldRead.{FieldRead}
-use Rattle.payload.specs.Sequence.{behind, stringAsField, stringFieldAt, stringAfter, booleanAsField, booleanFieldAt, booleanAfter, numberAsField, anyIntegerAfter, bounded, byteAfter, integerAfter, fieldNumber}
+use Rattle.payload.specs.Sequence.{behind, stringAsField, stringFieldAt, stringAfter, bounded, integerAfter, fieldNumber}
 use Rattle.payload.specs.Facts.{FieldInside}
 use Rattle.payload.specs.Private.{Within, Counts}
 
@@ -40,54 +39,6 @@ unfolding stringAfter stringFieldAt
 string-after-inside s field before =
     behind-inside (length s) (stringFieldAt s field) before
     (λ at. string-field-inside (length s) at (stringAt s at (isOptional field)) (string-inside s at (isOptional field) (stringAt s at (isOptional field)) refl))
-
--- a boolean that is read as a field lies inside
-boolean-field-inside : (size at : ℕ) (r : BooleanRead) → BooleanInside size at r → FieldInside size (booleanAsField at r)
-boolean-field-inside size at (BooleanRead.Refused n) h = tt
-boolean-field-inside size at (BooleanRead.Boolean value next) h = (omega arith, h .1)
-
--- a boolean behind a field lies inside
-pub boolean-after-inside : (s : List ℕ) (before : FieldRead) → FieldInside (length s) (booleanAfter s before)
-unfolding booleanAfter booleanFieldAt
-boolean-after-inside s before =
-    behind-inside (length s) (booleanFieldAt s) before
-    (λ at. boolean-field-inside (length s) at (booleanAt s at) (boolean-inside s at (booleanAt s at) refl))
-
--- a number that may be any lies inside, read as a field
-number-field-inside : (size at width : ℕ) (r : NumberRead) → 0 < width → NumberInside size at width r → FieldInside size (numberAsField at r)
-number-field-inside size at width (NumberRead.Refused n) some h = tt
-number-field-inside size at width (NumberRead.Number value next) some h = (omega arith, h .1)
-
--- an integer that may be any, behind a field, lies inside
-pub any-integer-after-inside : (s : List ℕ) (before : FieldRead) → FieldInside (length s) (anyIntegerAfter s before)
-unfolding anyIntegerAfter
-any-integer-after-inside s before =
-    behind-inside (length s) (λ at. numberAsField at (integerAt s at)) before
-    (λ at. number-field-inside (length s) at 2 (integerAt s at) (omega arith) (integer-inside s at (integerAt s at) refl))
-
--- a number from `low` to `high` lies inside, read as a field
-bounded-inside : (size at width low high fault : ℕ) (r : NumberRead) → 0 < width → NumberInside size at width r
-    → FieldInside size (bounded at low high fault r)
-bounded-inside size at width low high fault (NumberRead.Refused n) some h = tt
-bounded-inside size at width low high fault (NumberRead.Number value next) some h = go (between low high value)
-  where
-    go : (t : Bool) → FieldInside size (pick t (FieldRead.Field at value next) (FieldRead.Refused fault))
-    go true = (omega arith, h .1)
-    go false = tt
-
--- a byte behind a field lies inside
-pub byte-after-inside : (s : List ℕ) (low high fault : ℕ) (before : FieldRead) → FieldInside (length s) (byteAfter s low high fault before)
-unfolding byteAfter
-byte-after-inside s low high fault before =
-    behind-inside (length s) (λ at. bounded at low high fault (byteAt s at)) before
-    (λ at. bounded-inside (length s) at 1 low high fault (byteAt s at) (omega arith) (byte-inside s at (byteAt s at) refl))
-
--- an integer behind a field lies inside
-pub integer-after-inside : (s : List ℕ) (low high fault : ℕ) (before : FieldRead) → FieldInside (length s) (integerAfter s low high fault before)
-unfolding integerAfter
-integer-after-inside s low high fault before =
-    behind-inside (length s) (λ at. bounded at low high fault (integerAt s at)) before
-    (λ at. bounded-inside (length s) at 2 low high fault (integerAt s at) (omega arith) (integer-inside s at (integerAt s at) refl))
 
 -- the place of a field that lies inside is at most any number that the packet's size is at most
 pub inside-within : (size most : ℕ) (f : FieldRead) → size ≤ most → FieldInside size f → Within most f
@@ -122,9 +73,3 @@ integer-counts s low high fault before r e = subst (Counts high) (sym e) (go bef
 pub counts-value : (most : ℕ) (f : FieldRead) (value : ℕ) → value ≡ fieldNumber f → Counts most f → value ≤ most
 counts-value most (FieldRead.Refused n) value e h = omega arith
 counts-value most (FieldRead.Field at number next) value e h = omega arith
-
--- so the number that an integer behind a field tells is at most `high`
-pub integer-most : (s : List ℕ) (low high fault : ℕ) (before : FieldRead) → fieldNumber (integerAfter s low high fault before) ≤ high
-integer-most s low high fault before =
-    let f = integerAfter s low high fault before in
-    counts-value high f (fieldNumber f) refl (integer-counts s low high fault before f refl)

@@ -5,11 +5,11 @@
 use mathlib.Core.Path.{_≡_, refl, sym, ap, subst, _∙_}
 use mathlib.Core.Bool.{Bool, true, false}
 use mathlib.Core.List.{List, [], _∷_, _++_}
-use Prim.Native.Nat.{ℕ, zero, suc, _+_}
+use Prim.Native.Nat.{ℕ, zero, suc, _+_, _≤_}
 use native.Mathlib.Omega.{arith}
-use borrow.Author.Tests.{eqb-true}
+use borrow.Author.Tests.{leb-true, ltb-false, eqb-true}
 use lib.Dec.{leb, ltb, eqb}
-use lib.ListN.{length, getD}
+use lib.ListN.{length, getD, length-append}
 use Rattle.wire.specs.Pick.{pick, oneOf, between}
 use Rattle.wire.specs.Refusal.{none, outOfRange, cutShort, stringWrong, tooMany, leftOver, bodySizeWrong}
 use Rattle.wire.specs.Bytes.{part}
@@ -21,12 +21,14 @@ use Rattle.wire.specs.declared.read.BooleanRead.{BooleanRead}
 use Rattle.wire.specs.declared.read.StringRead.{StringRead}
 use Rattle.wire.proofs.Field.{integer-inside}
 use Rattle.headers.specs.Length.{declaredLength}
+use Rattle.wire.proofs.Tests.{both-second}
+use Rattle.names.specs.Header.{beginsCode, codeFault, spelledFault}
 use Rattle.names.specs.Attribute.{attributeKind, attributeFault}
 use Rattle.packet.specs.declared.AttributeKind.{AttributeKind}
 use Rattle.headers.specs.declared.length.Declared.{Declared}
 use Rattle.headers.specs.declared.length.LengthRead.{LengthRead}
 use Rattle.places.specs.Entries.{Entries, ended, maxHeaders, maxAttributes}
-use Rattle.headers.specs.Headers.{nameAt, declares, declaredAfter, headerValued, headerValueOf, headerValueAt, headerOf, headerAt, headerThen, headersAt}
+use Rattle.headers.specs.Headers.{nameUnless, codeNameOf, spelledAt, spelledOf, nameAt, declaredAfter, headerValued, headerValueOf, headerValueAt, headerOf, headerAt, headerThen, headersAt}
 use Rattle.headers.specs.declared.NameRead.{NameRead}
 use Rattle.headers.specs.declared.HeaderRead.{HeaderRead}
 use Rattle.headers.specs.declared.HeadersRead.{HeadersRead}
@@ -42,85 +44,121 @@ use Rattle.packet.specs.declared.Packet.{Packet}
 use Rattle.payload.specs.declared.field.FieldRead.{FieldRead}
 use Rattle.payload.specs.declared.lists.ListsRead.{ListsRead}
 use Rattle.payload.specs.declared.found.PacketRead.{PacketRead}
-use Rattle.payload.specs.Sequence.{afterCode, stringAsField, stringFieldAt, stringAfter, booleanAsField, booleanFieldAt, booleanAfter, numberAsField, anyIntegerAfter, bounded, byteAfter, integerAfter, fieldPlace, fieldNumber}
+use Rattle.payload.specs.Sequence.{afterCode, behind, stringAsField, stringFieldAt, stringAfter, booleanAsField, booleanFieldAt, booleanAfter, numberAsField, anyIntegerAfter, bounded, byteAfter, integerAfter, fieldPlace, fieldNumber}
+use Rattle.payload.specs.Facts.{ForwardPlaces, SendHeadersPlaces}
 use Rattle.payload.specs.Packet.{partFrom, finished}
 use Rattle.payload.specs.End.{endOf, endAt}
 use Rattle.payload.specs.GetBody.{getOf, getAt}
 use Rattle.payload.specs.Body.{bodyStart, sizedAt, sizedOf, bodyAt}
 use Rattle.payload.specs.BodyChunk.{chunkStart, chunkOf, chunkBy, chunkAt}
 use Rattle.payload.specs.Lists.{headersAfter, listsOf, attributesBehind, behindHeaders, listsAt}
-use Rattle.payload.specs.Forward.{firstMethod, lastMethod, forwardOf, forwardAt}
-use Rattle.payload.specs.SendHeaders.{leastStatus, greatestStatus, sendHeadersOf, sendHeadersAt}
+use Rattle.payload.specs.Forward.{firstMethod, lastMethod, forwardReads, forwardOf, forwardAt}
+use Rattle.payload.specs.SendHeaders.{leastStatus, greatestStatus, sendHeadersReads, sendHeadersOf, sendHeadersAt}
 use Rattle.payload.specs.Kinds.{packetAt, packetKind}
-use Rattle.payload.specs.Handed.{StringEnds, NumberEnds, NameEnds, StringThere, HeadersHanded, ValueThere, AttributesHanded, ListsHanded, ForwardHanded, SendHeadersHanded, bodySizeRead, BodyHanded, ChunkHanded, GetHanded, EndHanded, BareHanded, PacketHanded}
-use Rattle.payload.proofs.Laws.{body-inside}
-use Rattle.payload.proofs.Below.{attributes-many}
+use Rattle.payload.specs.Handed.{StringEnds, NumberEnds, NameEnds, StringThere, declaringRead, readNull, readBytes, DeclaresThen, HeadersHanded, ValueThere, AttributesHanded, ListsHanded, ForwardHanded, SendHeadersHanded, BodyHanded, ChunkHanded, GetHanded, EndHanded, BareHanded, PacketHanded}
+use Rattle.payload.proofs.Below.{attributes-many, attributes-few}
 use Rattle.payload.proofs.Listing.{HeadersPlaces, headers-places}
 use Rattle.payload.proofs.Parsed.{parsed-kind}
 use Rattle.wire.specs.Packet.{payloadPlace, afterCodePlace}
 
--- a header that is read at a place: its name up to its value, and its value up to its end
-abbrev HeaderThere : Direction → List ℕ → ℕ → HeaderRead → Type 0
-HeaderThere d s at (HeaderRead.Refused n) = Unit
-HeaderThere d s at (HeaderRead.Header value declared next) = NameEnds value (nameAt d s at) × StringThere s StringField.HeaderValue value next
+-- a header that is read with a name: the name up to its value, the value up to its end, and what is declared after it
+abbrev HeaderThere : Direction → List ℕ → NameRead → Declared → HeaderRead → Type 0
+HeaderThere d s name before (HeaderRead.Refused n) = Unit
+HeaderThere d s name before (HeaderRead.Header value after next) =
+    NameEnds value name × StringThere s StringField.HeaderValue value next
+    × DeclaresThen d s before name (stringAt s value (isOptional StringField.HeaderValue)) after
 
 -- a header whose name ends where its value is read
-value-there : (d : Direction) (s : List ℕ) (at value : ℕ) (isLength : Bool) (before : Declared) → NameEnds value (nameAt d s at)
-    → HeaderThere d s at (headerValueAt s value isLength before)
+value-there : (d : Direction) (s : List ℕ) (name : NameRead) (value : ℕ) (before : Declared) → NameEnds value name
+    → HeaderThere d s name before (headerValueAt s value (declaringRead d name) before)
 unfolding headerValueAt
-value-there d s at value isLength before named = go (stringAt s value (isOptional StringField.HeaderValue)) refl
+value-there d s name value before named = go (stringAt s value (isOptional StringField.HeaderValue)) refl
   where
-    by : (next : ℕ) → StringThere s StringField.HeaderValue value next → (r : LengthRead) → HeaderThere d s at (headerValued value next r)
-    by next h (LengthRead.Refused n) = tt
-    by next h (LengthRead.Now declared) = (named, h)
+    by : (next : ℕ) (v : StringRead) → stringAt s value (isOptional StringField.HeaderValue) ≡ v → StringEnds next v
+        → (r : LengthRead) → declaredAfter (declaringRead d name) before (readNull v) (readBytes s v) ≡ r
+        → HeaderThere d s name before (headerValued value next r)
+    by next v e h (LengthRead.Refused n) q = tt
+    by next v e h (LengthRead.Now after) q =
+        (named, subst (StringEnds next) (sym e) h, subst (λ (v : StringRead). DeclaresThen d s before name v after) (sym e) q)
 
-    go : (r : StringRead) → stringAt s value (isOptional StringField.HeaderValue) ≡ r → HeaderThere d s at (headerValueOf s value isLength before r)
+    go : (v : StringRead) → stringAt s value (isOptional StringField.HeaderValue) ≡ v
+        → HeaderThere d s name before (headerValueOf s value (declaringRead d name) before v)
     go (StringRead.Refused n) e = tt
-    go (StringRead.Null next) e = by next (subst (StringEnds next) (sym e) refl) (declaredAfter isLength before true [])
+    go (StringRead.Null next) e = by next (StringRead.Null next) e refl (declaredAfter (declaringRead d name) before true []) refl
     go (StringRead.Text start len next) e =
-        by next (subst (StringEnds next) (sym e) refl) (declaredAfter isLength before false (part s start len))
+        by next (StringRead.Text start len next) e refl (declaredAfter (declaringRead d name) before false (part s start len)) refl
 
 -- a header, where it is read at a place
-header-there : (d : Direction) (s : List ℕ) (at : ℕ) (before : Declared) → HeaderThere d s at (headerAt d s at before)
+header-there : (d : Direction) (s : List ℕ) (at : ℕ) (before : Declared) → HeaderThere d s (nameAt d s at) before (headerAt d s at before)
 unfolding headerAt
-header-there d s at before = go (nameAt d s at) refl
+header-there d s at before = go (nameAt d s at)
   where
-    go : (r : NameRead) → nameAt d s at ≡ r → HeaderThere d s at (headerOf d s before r)
-    go (NameRead.Refused n) e = tt
-    go (NameRead.Code code next) e = value-there d s at next (declares d code) before (subst (NameEnds next) (sym e) refl)
-    go (NameRead.Spelled start len next) e = value-there d s at next false before (subst (NameEnds next) (sym e) refl)
+    go : (name : NameRead) → HeaderThere d s name before (headerOf d s before name)
+    go (NameRead.Refused n) = tt
+    go (NameRead.Code code next) = value-there d s (NameRead.Code code next) next before refl
+    go (NameRead.Spelled start len next) = value-there d s (NameRead.Spelled start len next) next before refl
 
 -- headers with these places, where none is refused
-abbrev HeadersTo : Direction → List ℕ → ℕ → List ℕ → HeadersRead → Type 0
-HeadersTo d s at places (HeadersRead.Refused n) = Unit
-HeadersTo d s at places (HeadersRead.Headers declared end) = HeadersHanded d s at places end
+abbrev HeadersTo : Direction → List ℕ → ℕ → Declared → List ℕ → HeadersRead → Type 0
+HeadersTo d s at before places (HeadersRead.Refused n) = Unit
+HeadersTo d s at before places (HeadersRead.Headers after end) = HeadersHanded d s at before places end after
 
 -- a header in front of others
-header-front : (d : Direction) (s : List ℕ) (at value next : ℕ) (declared : Declared) (places : List ℕ) (r : HeadersRead)
-    → HeaderThere d s at (HeaderRead.Header value declared next) → HeadersTo d s next places r → HeadersTo d s at (at ∷ value ∷ places) r
-header-front d s at value next declared places (HeadersRead.Refused n) h later = tt
-header-front d s at value next declared places (HeadersRead.Headers after end) h later = (next, refl, h .0, h .1, later)
+header-front : (d : Direction) (s : List ℕ) (at value next : ℕ) (before declared : Declared) (places : List ℕ) (r : HeadersRead)
+    → HeaderThere d s (nameAt d s at) before (HeaderRead.Header value declared next) → HeadersTo d s next declared places r
+    → HeadersTo d s at before (at ∷ value ∷ places) r
+header-front d s at value next before declared places (HeadersRead.Refused n) h later = tt
+header-front d s at value next before declared places (HeadersRead.Headers after end) h later = (next, refl, h .0, h .1, declared, h .2, later)
 
--- so many headers from a place on
-headers-to : (d : Direction) (s : List ℕ) (at count : ℕ) (declared : Declared)
-    → HeadersTo d s at (headersAt d s at count declared .places) (headersAt d s at count declared .end)
+-- so many headers from a place on: their places are those of their names and values
+headers-to : (d : Direction) (s : List ℕ) (at count : ℕ) (before : Declared)
+    → HeadersTo d s at before (headersAt d s at count before .places) (headersAt d s at count before .end)
 unfolding headersAt
-headers-to d s at zero declared = refl
-headers-to d s at (suc count) declared =
-    go (headerAt d s at declared) (header-there d s at declared) (λ after next. headers-to d s next count after)
+headers-to d s at zero before = (refl, refl)
+headers-to d s at (suc count) before =
+    go (headerAt d s at before) (header-there d s at before) (λ after next. headers-to d s next count after)
   where
-    go : (r : HeaderRead) → HeaderThere d s at r
-        → ((after : Declared) (next : ℕ) → HeadersTo d s next (headersAt d s next count after .places) (headersAt d s next count after .end))
-        → HeadersTo d s at (headerThen at r (λ after next. headersAt d s next count after) .places) (headerThen at r (λ after next. headersAt d s next count after) .end)
+    go : (r : HeaderRead) → HeaderThere d s (nameAt d s at) before r
+        → ((after : Declared) (next : ℕ) → HeadersTo d s next after (headersAt d s next count after .places) (headersAt d s next count after .end))
+        → HeadersTo d s at before (headerThen at r (λ after next. headersAt d s next count after) .places) (headerThen at r (λ after next. headersAt d s next count after) .end)
     go (HeaderRead.Refused n) h later = tt
     go (HeaderRead.Header value after next) h later =
-        header-front d s at value next after (headersAt d s next count after .places) (headersAt d s next count after .end) h (later after next)
+        header-front d s at value next before after (headersAt d s next count after .places) (headersAt d s next count after .end) h (later after next)
 
--- headers that were read from a place on: their places are those of their names and values
-pub headers-handed : (d : Direction) (s : List ℕ) (at count : ℕ) (declared after : Declared) (end : ℕ)
-    → headersAt d s at count declared .end ≡ HeadersRead.Headers after end → HeadersHanded d s at (headersAt d s at count declared .places) end
-headers-handed d s at count declared after end e =
-    subst (HeadersTo d s at (headersAt d s at count declared .places)) e (headers-to d s at count declared)
+-- a name that is read: the integer or the string there, without fault
+abbrev pub NameFine : Direction → List ℕ → ℕ → NameRead → Type 0
+NameFine d s at (NameRead.Refused n) = Unit
+NameFine d s at (NameRead.Code code next) = (integerAt s at ≡ NumberRead.Number code next) × (codeFault d code ≡ none)
+NameFine d s at (NameRead.Spelled start len next) =
+    (stringAt s at (isOptional StringField.HeaderName) ≡ StringRead.Text start len next) × (spelledFault d (part s start len) ≡ none)
+
+-- each name that is read is
+pub name-fine : (d : Direction) (s : List ℕ) (at : ℕ) → NameFine d s at (nameAt d s at)
+unfolding nameAt codeNameOf spelledAt
+name-fine d s at = go (leb (at + 2) (length s)) (beginsCode (getD s at 0))
+  where
+    unless : (fault : ℕ) (name : NameRead) → (fault ≡ none → NameFine d s at name) → NameFine d s at (nameUnless fault name)
+    unless fault name h = by (eqb fault none) refl
+      where
+        by : (t : Bool) → eqb fault none ≡ t → NameFine d s at (pick t name (NameRead.Refused fault))
+        by true e = h (eqb-true fault none e)
+        by false e = tt
+
+    coded : (r : NumberRead) → integerAt s at ≡ r → NameFine d s at (codeNameOf d r)
+    coded (NumberRead.Refused n) e = tt
+    coded (NumberRead.Number code next) e = unless (codeFault d code) (NameRead.Code code next) (λ fine. (e, fine))
+
+    spelled : (r : StringRead) → stringAt s at (isOptional StringField.HeaderName) ≡ r → NameFine d s at (spelledOf d s r)
+    spelled (StringRead.Refused n) e = tt
+    spelled (StringRead.Null next) e = tt
+    spelled (StringRead.Text start len next) e = unless (spelledFault d (part s start len)) (NameRead.Spelled start len next) (λ fine. (e, fine))
+
+    go : (t u : Bool)
+        → NameFine d s at
+        (pick t (pick u (codeNameOf d (integerAt s at)) (spelledOf d s (stringAt s at (isOptional StringField.HeaderName)))) (NameRead.Refused cutShort))
+    go true true = coded (integerAt s at) refl
+    go true false = spelled (stringAt s at (isOptional StringField.HeaderName)) refl
+    go false u = tt
 
 -- a value, where one of its kind is read
 abbrev ValueRight : List ℕ → AttributeKind → ℕ → ValueRead → Type 0
@@ -216,7 +254,7 @@ attributes-more s at count (AttributeRead.Last next) later h so = h
 attributes-more s at count (AttributeRead.Attribute code value next) later h so =
     attribute-front s at code value next (later code next .places) (later code next .end) h (so code next)
 
--- attributes from a place on
+-- attributes from a place on: their places are those of their codes and values
 attributes-to : (s : List ℕ) (at most : ℕ) (codes : List ℕ)
     → AttributesTo s at (attributesAt s at most codes .places) (attributesAt s at most codes .end)
 unfolding attributesAt
@@ -227,14 +265,8 @@ attributes-to s at (suc most) codes =
     attributes-more s at (length codes) (attributeAt s at false (oneOf codes)) (λ code next. attributesAt s next most (code ∷ codes))
     (attribute-there s at false (oneOf codes)) (λ code next. attributes-to s next most (code ∷ codes))
 
--- attributes that were read from a place on: their places are those of their codes and values
-pub attributes-handed : (s : List ℕ) (at most : ℕ) (codes : List ℕ) (count end : ℕ)
-    → attributesAt s at most codes .end ≡ AttributesRead.Attributes count end → AttributesHanded s at (attributesAt s at most codes .places) end
-attributes-handed s at most codes count end e =
-    subst (AttributesTo s at (attributesAt s at most codes .places)) e (attributes-to s at most codes)
-
 -- a fixed field that is read, by where it ends
-abbrev pub FieldEnds : ℕ → FieldRead → Type 0
+abbrev FieldEnds : ℕ → FieldRead → Type 0
 FieldEnds end (FieldRead.Refused n) = ⊥
 FieldEnds end (FieldRead.Field at value next) = next ≡ end
 
@@ -251,39 +283,25 @@ string-behind s field (FieldRead.Field from value at) end h = go (stringAt s at 
     go (StringRead.Null next) e q = (refl, subst (StringEnds end) (sym e) q)
     go (StringRead.Text start len next) e q = (refl, subst (StringEnds end) (sym e) q)
 
--- a number as a field: it is what is read at its place
-bounded-ends : (at low high fault end : ℕ) (r : NumberRead) → FieldEnds end (bounded at low high fault r)
-    → (at ≡ fieldPlace (bounded at low high fault r) .0) × (r ≡ NumberRead.Number (fieldNumber (bounded at low high fault r)) end)
-bounded-ends at low high fault end (NumberRead.Refused n) h = absurd h
-bounded-ends at low high fault end (NumberRead.Number value next) h = go (between low high value) h
+-- a number in a range that is read behind a field: it is what is read where that field ends
+number-behind : (read : ℕ → NumberRead) (low high fault : ℕ) (before : FieldRead) (end : ℕ)
+    → (let f = behind (λ at. bounded at low high fault (read at)) before in
+    FieldEnds end f
+    → FieldEnds (fieldPlace f .0) before × (read (fieldPlace f .0) ≡ NumberRead.Number (fieldNumber f) end) × (between low high (fieldNumber f) ≡ true))
+number-behind read low high fault (FieldRead.Refused n) end h = absurd h
+number-behind read low high fault (FieldRead.Field from value at) end h = go (read at) refl h
   where
-    go : (t : Bool) → FieldEnds end (pick t (FieldRead.Field at value next) (FieldRead.Refused fault))
-        → (at ≡ fieldPlace (pick t (FieldRead.Field at value next) (FieldRead.Refused fault)) .0)
-        × (NumberRead.Number value next ≡ NumberRead.Number (fieldNumber (pick t (FieldRead.Field at value next) (FieldRead.Refused fault))) end)
-    go true q = (refl, ap (NumberRead.Number value) q)
-    go false q = absurd q
+    by : (number next : ℕ) → read at ≡ NumberRead.Number number next → (t : Bool) → between low high number ≡ t
+        → (let f = pick t (FieldRead.Field at number next) (FieldRead.Refused fault) in
+        FieldEnds end f → (at ≡ fieldPlace f .0) × (read (fieldPlace f .0) ≡ NumberRead.Number (fieldNumber f) end) × (between low high (fieldNumber f) ≡ true))
+    by number next e true q ends = (refl, e ∙ ap (NumberRead.Number number) ends, q)
+    by number next e false q ends = absurd ends
 
--- a byte that is read behind a field: it is what is read where that field ends
-byte-behind : (s : List ℕ) (low high fault : ℕ) (before : FieldRead) (end : ℕ) → FieldEnds end (byteAfter s low high fault before)
-    → (let f = byteAfter s low high fault before in
-    FieldEnds (fieldPlace f .0) before × (byteAt s (fieldPlace f .0) ≡ NumberRead.Number (fieldNumber f) end))
-unfolding byteAfter
-byte-behind s low high fault (FieldRead.Refused n) end h = absurd h
-byte-behind s low high fault (FieldRead.Field from value at) end h =
-    let b = bounded-ends at low high fault end (byteAt s at) h in
-    let f = bounded at low high fault (byteAt s at) in
-    (b .0, subst (λ (p : ℕ). byteAt s p ≡ NumberRead.Number (fieldNumber f) end) (b .0) (b .1))
-
--- so is an integer
-integer-behind : (s : List ℕ) (low high fault : ℕ) (before : FieldRead) (end : ℕ) → FieldEnds end (integerAfter s low high fault before)
-    → (let f = integerAfter s low high fault before in
-    FieldEnds (fieldPlace f .0) before × (integerAt s (fieldPlace f .0) ≡ NumberRead.Number (fieldNumber f) end))
-unfolding integerAfter
-integer-behind s low high fault (FieldRead.Refused n) end h = absurd h
-integer-behind s low high fault (FieldRead.Field from value at) end h =
-    let b = bounded-ends at low high fault end (integerAt s at) h in
-    let f = bounded at low high fault (integerAt s at) in
-    (b .0, subst (λ (p : ℕ). integerAt s p ≡ NumberRead.Number (fieldNumber f) end) (b .0) (b .1))
+    go : (r : NumberRead) → read at ≡ r
+        → (let f = bounded at low high fault r in
+        FieldEnds end f → (at ≡ fieldPlace f .0) × (read (fieldPlace f .0) ≡ NumberRead.Number (fieldNumber f) end) × (between low high (fieldNumber f) ≡ true))
+    go (NumberRead.Refused n) e ends = absurd ends
+    go (NumberRead.Number number next) e ends = by number next e (between low high number) refl ends
 
 -- so is an integer that may be any
 any-integer-behind : (s : List ℕ) (before : FieldRead) (end : ℕ) → FieldEnds end (anyIntegerAfter s before)
@@ -316,7 +334,8 @@ boolean-behind s (FieldRead.Field from value at) end h = go (booleanAt s at) ref
 -- headers behind a count, where they are read
 abbrev HeadersBehind : Direction → List ℕ → FieldRead → List ℕ → HeadersRead → Type 0
 HeadersBehind d s count places (HeadersRead.Refused n) = Unit
-HeadersBehind d s count places (HeadersRead.Headers declared end) = (at : ℕ) × FieldEnds at count × HeadersHanded d s at places end
+HeadersBehind d s count places (HeadersRead.Headers after end) =
+    (at : ℕ) × FieldEnds at count × HeadersHanded d s at Declared.Absent places end after
 
 -- they are read from where the count ends
 headers-behind : (d : Direction) (s : List ℕ) (count : FieldRead)
@@ -325,211 +344,123 @@ unfolding headersAfter
 headers-behind d s (FieldRead.Refused n) = tt
 headers-behind d s (FieldRead.Field from count at) = go (headersAt d s at count Declared.Absent .end) (headers-to d s at count Declared.Absent)
   where
-    go : (r : HeadersRead) → HeadersTo d s at (headersAt d s at count Declared.Absent .places) r
+    go : (r : HeadersRead) → HeadersTo d s at Declared.Absent (headersAt d s at count Declared.Absent .places) r
         → HeadersBehind d s (FieldRead.Field from count at) (headersAt d s at count Declared.Absent .places) r
     go (HeadersRead.Refused n) h = tt
-    go (HeadersRead.Headers declared end) h = (at, refl, h)
-
--- so many attributes that end with the packet, where they are read
-abbrev LastOnes : List ℕ → ℕ → List ℕ → ListsRead → Type 0
-LastOnes s at places (ListsRead.Refused n) = Unit
-LastOnes s at places (ListsRead.Lists declared attributes) =
-    AttributesHanded s at places (length s) × (length places ≡ attributes + attributes)
-
--- those of a Forward do
-attributes-last : (s : List ℕ) (declared : Declared) (at : ℕ)
-    → LastOnes s at (attributesBehind s declared at .places) (attributesBehind s declared at .end)
-unfolding attributesBehind
-attributes-last s declared at = go (attributesAt s at maxAttributes [] .end) refl (attributes-to s at maxAttributes [])
-  where
-    go : (r : AttributesRead) → attributesAt s at maxAttributes [] .end ≡ r → AttributesTo s at (attributesAt s at maxAttributes [] .places) r
-        → LastOnes s at (attributesAt s at maxAttributes [] .places) (listsOf (length s) declared r)
-    go (AttributesRead.Refused n) e h = tt
-    go (AttributesRead.Attributes count end) e h = by (eqb end (length s)) refl
-      where
-        by : (t : Bool) → eqb end (length s) ≡ t → LastOnes s at (attributesAt s at maxAttributes [] .places)
-            (pick t (ListsRead.Lists (record { 0 = declaredLength declared }) count) (ListsRead.Refused leftOver))
-        by true q = (
-          subst (AttributesHanded s at (attributesAt s at maxAttributes [] .places)) (eqb-true end (length s) q) h,
-          attributes-many s at count end e,
-        )
-        by false q = tt
+    go (HeadersRead.Headers after end) h = (at, refl, h)
 
 -- the lists behind a count, where they are read
 abbrev ListsTo : List ℕ → FieldRead → List ℕ → ListsRead → Type 0
 ListsTo s count places (ListsRead.Refused n) = Unit
-ListsTo s count places (ListsRead.Lists declared attributes) = (at : ℕ) × FieldEnds at count × ListsHanded s at (fieldNumber count) attributes places
+ListsTo s count places (ListsRead.Lists declared attributes) =
+    (at : ℕ) × FieldEnds at count × ListsHanded s at (fieldNumber count) attributes (declared .0) places
 
--- they are read from where the count ends
+-- they are read from where the count ends, the attributes where the headers end
 lists-to : (s : List ℕ) (count : FieldRead) → ListsTo s count (listsAt s count .places) (listsAt s count .end)
-unfolding listsAt
+unfolding listsAt attributesBehind
 lists-to s count = go (headersAfter Direction.ToContainer s count .end) refl (headers-behind Direction.ToContainer s count)
   where
-    go : (r : HeadersRead) → headersAfter Direction.ToContainer s count .end ≡ r
-        → HeadersBehind Direction.ToContainer s count (headersAfter Direction.ToContainer s count .places) r
-        → ListsTo s count (headersAfter Direction.ToContainer s count .places ++ behindHeaders s r .places) (behindHeaders s r .end)
+    headers : List ℕ
+    headers = headersAfter Direction.ToContainer s count .places
+
+    go : (r : HeadersRead) → headersAfter Direction.ToContainer s count .end ≡ r → HeadersBehind Direction.ToContainer s count headers r
+        → ListsTo s count (headers ++ behindHeaders s r .places) (behindHeaders s r .end)
     go (HeadersRead.Refused n) e h = tt
-    go (HeadersRead.Headers declared middle) e h = by (attributesBehind s declared middle .end) (attributes-last s declared middle)
+    go (HeadersRead.Headers after middle) e h =
+        by (attributesAt s middle maxAttributes [] .end) refl (attributes-to s middle maxAttributes [])
       where
-        by : (r : ListsRead) → LastOnes s middle (attributesBehind s declared middle .places) r
-            → ListsTo s count (headersAfter Direction.ToContainer s count .places ++ attributesBehind s declared middle .places) r
-        by (ListsRead.Refused n) q = tt
-        by (ListsRead.Lists size many) q = (
+        attributes : List ℕ
+        attributes = attributesAt s middle maxAttributes [] .places
+
+        last : (many end : ℕ) → attributesAt s middle maxAttributes [] .end ≡ AttributesRead.Attributes many end
+            → AttributesHanded s middle attributes end → (t : Bool) → eqb end (length s) ≡ t
+            → ListsTo s count (headers ++ attributes)
+            (pick t (ListsRead.Lists (record { 0 = declaredLength after }) many) (ListsRead.Refused leftOver))
+        last many end q a false p = tt
+        last many end q a true p = (
           h .0,
           h .1,
           record {
-            of-headers = headersAfter Direction.ToContainer s count .places;
-            of-attributes = attributesBehind s declared middle .places;
+            of-headers = headers;
+            of-attributes = attributes;
             are = refl;
-            headers-many = headers-places Direction.ToContainer s count (HeadersRead.Headers declared middle) e;
-            attributes-many = q .1;
+            headers-many = headers-places Direction.ToContainer s count (HeadersRead.Headers after middle) e;
+            attributes-many = attributes-many s middle many end q;
+            attributes-most = attributes-few s middle many end q;
             middle = middle;
+            after = after;
             headers-there = h .2;
-            attributes-there = q .0;
+            declared-is = refl;
+            attributes-there = subst (AttributesHanded s middle attributes) (eqb-true end (length s) p) a;
           },
         )
 
+        by : (r : AttributesRead) → attributesAt s middle maxAttributes [] .end ≡ r → AttributesTo s middle attributes r
+            → ListsTo s count (headers ++ attributes) (listsOf (length s) after r)
+        by (AttributesRead.Refused n) q a = tt
+        by (AttributesRead.Attributes many end) q a = last many end q a (eqb end (length s)) refl
+
+-- a number in a range from 0 is at most its end
+range-most : (high n : ℕ) → between 0 high n ≡ true → n ≤ high
+range-most high n e = leb-true n high (both-second (leb 0 n) (leb n high) e)
+
 -- two Forwards that are found to be the same packet are the same
-pub forward-same : (g f : Forward) → PacketRead.Packet (Packet.Forward g) ≡ PacketRead.Packet (Packet.Forward f) → g ≡ f
+forward-same : (g f : Forward) → PacketRead.Packet (Packet.Forward g) ≡ PacketRead.Packet (Packet.Forward f) → g ≡ f
 forward-same g f e = cc
 
--- a Forward, by its fixed fields
-module _ (s : List ℕ) where
-  -- the method, behind the code
-  abbrev methodRead : FieldRead
-  methodRead = byteAfter s firstMethod lastMethod outOfRange afterCode
+-- a Forward that is found by how its lists end
+forward-found : (s : List ℕ) (f : Forward) (places : List ℕ) (r : ListsRead) → ListsTo s (forwardReads s .headers) places r
+    → forwardOf (forwardReads s) r ≡ PacketRead.Packet (Packet.Forward f) → ForwardHanded s f places
+unfolding forwardReads byteAfter integerAfter
+forward-found s f places (ListsRead.Refused n) h e = let z : _≡_ {A = ℕ} 0 1 = cc in absurd (omega arith)
+forward-found s f places (ListsRead.Lists declared attributes) h e =
+    let reads = forwardReads s in
+    let count = number-behind (integerAt s) 0 maxHeaders tooMany (reads .ssl) (h .0) (h .1) in
+    let ssl = boolean-behind s (reads .port) (fieldPlace (reads .headers) .0) (count .0) in
+    let port = any-integer-behind s (reads .name) (fieldPlace (reads .ssl) .0) (ssl .0) in
+    let name = string-behind s StringField.ServerName (reads .host) (fieldPlace (reads .port) .0) (port .0) in
+    let host = string-behind s StringField.RemoteHost (reads .addr) (fieldPlace (reads .name) .0) (name .0) in
+    let addr = string-behind s StringField.RemoteAddr (reads .uri) (fieldPlace (reads .host) .0) (host .0) in
+    let uri = string-behind s StringField.ReqUri (reads .protocol) (fieldPlace (reads .addr) .0) (addr .0) in
+    let protocol = string-behind s StringField.Protocol (reads .method) (fieldPlace (reads .uri) .0) (uri .0) in
+    let method = number-behind (byteAt s) firstMethod lastMethod outOfRange afterCode (fieldPlace (reads .protocol) .0) (protocol .0) in
+    subst (λ (g : Forward). ForwardHanded s g places) (forward-same _ f e)
+    (record {
+      method-read = ap (byteAt s) (method .0) ∙ method .1;
+      method-range = method .2;
+      protocol-there = protocol .1;
+      uri-there = uri .1;
+      addr-there = addr .1;
+      host-there = host .1;
+      port-place = fieldPlace (reads .port) .0;
+      name-there = name .1;
+      ssl-place = fieldPlace (reads .ssl) .0;
+      port-read = port .1;
+      count-place = fieldPlace (reads .headers) .0;
+      ssl-read = ssl .1;
+      lists-place = h .0;
+      count-read = count .1;
+      headers-most = range-most maxHeaders (fieldNumber (reads .headers)) (count .2);
+      lists = h .2;
+    })
 
-  -- protocol, behind the method
-  abbrev protocolRead : FieldRead
-  protocolRead = stringAfter s StringField.Protocol methodRead
+-- what a Forward that was read hands out was read in it
+pub forward-handed : (s : List ℕ) (f : Forward) → forwardAt s .end ≡ PacketRead.Packet (Packet.Forward f) → ForwardHanded s f (forwardAt s .places)
+unfolding forwardAt
+forward-handed s f e =
+    let lists = listsAt s (forwardReads s .headers) in
+    forward-found s f (lists .places) (lists .end) (lists-to s (forwardReads s .headers)) e
 
-  -- req_uri, behind protocol
-  abbrev uriRead : FieldRead
-  uriRead = stringAfter s StringField.ReqUri protocolRead
-
-  -- remote_addr, behind req_uri
-  abbrev addrRead : FieldRead
-  addrRead = stringAfter s StringField.RemoteAddr uriRead
-
-  -- remote_host, behind remote_addr
-  abbrev hostRead : FieldRead
-  hostRead = stringAfter s StringField.RemoteHost addrRead
-
-  -- server_name, behind remote_host
-  abbrev nameRead : FieldRead
-  nameRead = stringAfter s StringField.ServerName hostRead
-
-  -- server_port, behind server_name
-  abbrev portRead : FieldRead
-  portRead = anyIntegerAfter s nameRead
-
-  -- is_ssl, behind server_port
-  abbrev sslRead : FieldRead
-  sslRead = booleanAfter s portRead
-
-  -- the count of headers, behind is_ssl
-  abbrev countRead : FieldRead
-  countRead = integerAfter s 0 maxHeaders tooMany sslRead
-
-  -- a Forward that is found by how its lists end
-  forward-found : (f : Forward) (places : List ℕ) (r : ListsRead) → ListsTo s countRead places r
-      → forwardOf methodRead protocolRead uriRead addrRead hostRead nameRead portRead sslRead countRead r ≡ PacketRead.Packet (Packet.Forward f)
-      → PacketHanded s (Packet.Forward f) places
-  forward-found f places (ListsRead.Refused n) h e = let z : _≡_ {A = ℕ} 0 1 = cc in absurd (omega arith)
-  forward-found f places (ListsRead.Lists declared attributes) h e =
-      let count = integer-behind s 0 maxHeaders tooMany sslRead (h .0) (h .1) in
-      let ssl = boolean-behind s portRead (fieldPlace countRead .0) (count .0) in
-      let port = any-integer-behind s nameRead (fieldPlace sslRead .0) (ssl .0) in
-      let name = string-behind s StringField.ServerName hostRead (fieldPlace portRead .0) (port .0) in
-      let host = string-behind s StringField.RemoteHost addrRead (fieldPlace nameRead .0) (name .0) in
-      let addr = string-behind s StringField.RemoteAddr uriRead (fieldPlace hostRead .0) (host .0) in
-      let uri = string-behind s StringField.ReqUri protocolRead (fieldPlace addrRead .0) (addr .0) in
-      let protocol = string-behind s StringField.Protocol methodRead (fieldPlace uriRead .0) (uri .0) in
-      let method = byte-behind s firstMethod lastMethod outOfRange afterCode (fieldPlace protocolRead .0) (protocol .0) in
-      subst (λ (g : Forward). PacketHanded s (Packet.Forward g) places) (forward-same _ f e)
-      (record {
-        method-read = subst (λ (p : ℕ). byteAt s p ≡ NumberRead.Number (fieldNumber methodRead) (fieldPlace protocolRead .0)) (sym (method .0)) (method .1);
-        protocol-there = protocol .1;
-        uri-there = uri .1;
-        addr-there = addr .1;
-        host-there = host .1;
-        port-place = fieldPlace portRead .0;
-        name-there = name .1;
-        ssl-place = fieldPlace sslRead .0;
-        port-read = port .1;
-        count-place = fieldPlace countRead .0;
-        ssl-read = ssl .1;
-        lists-place = h .0;
-        count-read = count .1;
-        lists = h .2;
-      })
-
-  -- what a Forward that was read hands out was read in it
-  pub forward-handed : (f : Forward) → forwardAt s .end ≡ PacketRead.Packet (Packet.Forward f)
-      → PacketHanded s (Packet.Forward f) (forwardAt s .places)
-  unfolding forwardAt
-  forward-handed f e = forward-found f (listsAt s countRead .places) (listsAt s countRead .end) (lists-to s countRead) e
-
--- two Send Headers that are found to be the same packet are the same
-pub head-same : (g h : SendHeaders) → PacketRead.Packet (Packet.SendHeaders g) ≡ PacketRead.Packet (Packet.SendHeaders h) → g ≡ h
-head-same g h e = cc
-
--- a Send Headers, by its fixed fields
-module _ (s : List ℕ) where
-  -- the status, behind the code
-  abbrev statusRead : FieldRead
-  statusRead = integerAfter s leastStatus greatestStatus outOfRange afterCode
-
-  -- the message, behind the status
-  abbrev messageRead : FieldRead
-  messageRead = stringAfter s StringField.Message statusRead
-
-  -- the count of headers, behind the message
-  abbrev headCountRead : FieldRead
-  headCountRead = integerAfter s 0 maxHeaders tooMany messageRead
-
-  -- a Send Headers that is found by how its headers end
-  head-found : (h : SendHeaders) (places : List ℕ) (r : HeadersRead) → HeadersBehind Direction.ToServer s headCountRead places r
-      → HeadersPlaces (fieldNumber headCountRead) (length places) r
-      → sendHeadersOf (length s) statusRead messageRead headCountRead r ≡ PacketRead.Packet (Packet.SendHeaders h)
-      → PacketHanded s (Packet.SendHeaders h) places
-  head-found h places (HeadersRead.Refused n) b many e = let z : _≡_ {A = ℕ} 0 1 = cc in absurd (omega arith)
-  head-found h places (HeadersRead.Headers declared end) b many e = go (eqb end (length s)) refl e
-    where
-      found : SendHeaders
-      found = record {
-        status = fieldNumber statusRead;
-        message = fieldPlace messageRead;
-        headers = fieldNumber headCountRead;
-      }
-
-      go : (t : Bool) → eqb end (length s) ≡ t
-          → pick t (PacketRead.Packet (Packet.SendHeaders found)) (PacketRead.Refused leftOver) ≡ PacketRead.Packet (Packet.SendHeaders h)
-          → PacketHanded s (Packet.SendHeaders h) places
-      go true q f =
-          let count = integer-behind s 0 maxHeaders tooMany messageRead (b .0) (b .1) in
-          let message = string-behind s StringField.Message statusRead (fieldPlace headCountRead .0) (count .0) in
-          let status = integer-behind s leastStatus greatestStatus outOfRange afterCode (fieldPlace messageRead .0) (message .0) in
-          subst (λ (g : SendHeaders). PacketHanded s (Packet.SendHeaders g) places) (head-same found h f)
-          (record {
-            status-read = subst (λ (p : ℕ). integerAt s p ≡ NumberRead.Number (fieldNumber statusRead) (fieldPlace messageRead .0)) (sym (status .0)) (status .1);
-            count-place = fieldPlace headCountRead .0;
-            message-there = message .1;
-            headers-place = b .0;
-            count-read = count .1;
-            headers-many = many;
-            headers-there = subst (HeadersHanded Direction.ToServer s (b .0) places) (eqb-true end (length s) q) (b .2);
-          })
-      go false q f = let z : _≡_ {A = ℕ} 0 1 = cc in absurd (omega arith)
-
-  -- what a Send Headers that was read hands out was read in it
-  pub head-handed : (h : SendHeaders) → sendHeadersAt s .end ≡ PacketRead.Packet (Packet.SendHeaders h)
-      → PacketHanded s (Packet.SendHeaders h) (sendHeadersAt s .places)
-  unfolding sendHeadersAt
-  head-handed h e =
-      let headers = headersAfter Direction.ToServer s headCountRead in
-      head-found h (headers .places) (headers .end) (headers-behind Direction.ToServer s headCountRead)
-      (headers-places Direction.ToServer s headCountRead (headers .end) refl) e
+-- so it has two places for each header and each attribute
+pub forward-places : (s : List ℕ) (f : Forward) → forwardAt s .end ≡ PacketRead.Packet (Packet.Forward f) → ForwardPlaces f (forwardAt s .places)
+forward-places s f e =
+    let handed = forward-handed s f e in
+    let lists = handed .lists in
+    record {
+      many = omega (arith, ap length (lists .are), length-append (lists .of-headers) (lists .of-attributes), lists .headers-many, lists .attributes-many);
+      headers-most = handed .headers-most;
+      attributes-most = lists .attributes-most;
+    }
 
 -- nothing stands behind a packet's last field, and the packet is the one that was found
 pub finished-is : (size next : ℕ) (found packet : Packet) → finished size next found ≡ PacketRead.Packet packet → (next ≡ size) × (found ≡ packet)
@@ -540,12 +471,60 @@ finished-is size next found packet = go (eqb next size) refl
     go true q e = let same : found ≡ packet = cc in (eqb-true next size q, same)
     go false q e = let z : _≡_ {A = ℕ} 0 1 = cc in absurd (omega arith)
 
+-- two Send Headers that are the same packet are the same
+head-same : (g h : SendHeaders) → Packet.SendHeaders g ≡ Packet.SendHeaders h → g ≡ h
+head-same g h e = cc
+
+-- a Send Headers that is found by how its headers end
+head-found : (s : List ℕ) (h : SendHeaders) (places : List ℕ) (r : HeadersRead)
+    → HeadersBehind Direction.ToServer s (sendHeadersReads s .headers) places r
+    → HeadersPlaces (fieldNumber (sendHeadersReads s .headers)) (length places) r
+    → sendHeadersOf (length s) (sendHeadersReads s) r ≡ PacketRead.Packet (Packet.SendHeaders h) → SendHeadersHanded s h places
+unfolding sendHeadersReads integerAfter
+head-found s h places (HeadersRead.Refused n) b many e = let z : _≡_ {A = ℕ} 0 1 = cc in absurd (omega arith)
+head-found s h places (HeadersRead.Headers after end) b many e =
+    let reads = sendHeadersReads s in
+    let found = finished-is (length s) end _ (Packet.SendHeaders h) e in
+    let count = number-behind (integerAt s) 0 maxHeaders tooMany (reads .message) (b .0) (b .1) in
+    let message = string-behind s StringField.Message (reads .status) (fieldPlace (reads .headers) .0) (count .0) in
+    let status = number-behind (integerAt s) leastStatus greatestStatus outOfRange afterCode (fieldPlace (reads .message) .0) (message .0) in
+    subst (λ (g : SendHeaders). SendHeadersHanded s g places) (head-same _ h (found .1))
+    (record {
+      status-read = ap (integerAt s) (status .0) ∙ status .1;
+      status-range = status .2;
+      count-place = fieldPlace (reads .headers) .0;
+      message-there = message .1;
+      headers-place = b .0;
+      count-read = count .1;
+      headers-most = range-most maxHeaders (fieldNumber (reads .headers)) (count .2);
+      headers-many = many;
+      after = after;
+      headers-there = subst (λ (i : ℕ). HeadersHanded Direction.ToServer s (b .0) Declared.Absent places i after) (found .0) (b .2);
+    })
+
+-- what a Send Headers that was read hands out was read in it
+pub head-handed : (s : List ℕ) (h : SendHeaders) → sendHeadersAt s .end ≡ PacketRead.Packet (Packet.SendHeaders h)
+    → SendHeadersHanded s h (sendHeadersAt s .places)
+unfolding sendHeadersAt
+head-handed s h e =
+    let count = sendHeadersReads s .headers in
+    let headers = headersAfter Direction.ToServer s count in
+    head-found s h (headers .places) (headers .end) (headers-behind Direction.ToServer s count)
+    (headers-places Direction.ToServer s count (headers .end) refl) e
+
+-- so it has two places for each header
+pub send-headers-places : (s : List ℕ) (h : SendHeaders) → sendHeadersAt s .end ≡ PacketRead.Packet (Packet.SendHeaders h)
+    → SendHeadersPlaces h (sendHeadersAt s .places)
+send-headers-places s h e =
+    let handed = head-handed s h e in
+    record { many = handed .headers-many; headers-most = handed .headers-most }
+
 -- a CPing or a CPong
 bare-handed : (s : List ℕ) (packet : Packet) → finished (length s) afterCodePlace packet ≡ PacketRead.Packet packet → BareHanded s []
 bare-handed s packet e = record { ends = sym (finished-is (length s) afterCodePlace packet packet e .0); no-places = refl }
 
 -- a Get Body Chunk
-get-handed : (s : List ℕ) (asked : ℕ) → getAt s ≡ PacketRead.Packet (Packet.GetBody asked) → GetHanded s asked []
+pub get-handed : (s : List ℕ) (asked : ℕ) → getAt s ≡ PacketRead.Packet (Packet.GetBody asked) → GetHanded s asked []
 unfolding getAt
 get-handed s asked = go (integerAt s afterCodePlace) refl
   where
@@ -559,7 +538,7 @@ get-handed s asked = go (integerAt s afterCodePlace) refl
         record { asked-read = q ∙ rw (same, ends); no-places = refl }
 
 -- an End
-end-handed : (s : List ℕ) (reuse : Bool) → endAt s ≡ PacketRead.Packet (Packet.End reuse) → EndHanded s reuse []
+pub end-handed : (s : List ℕ) (reuse : Bool) → endAt s ≡ PacketRead.Packet (Packet.End reuse) → EndHanded s reuse []
 unfolding endAt
 end-handed s reuse = go (booleanAt s afterCodePlace) refl
   where
@@ -580,46 +559,45 @@ chunk-same : (p q : Part) → Packet.BodyChunk p ≡ Packet.BodyChunk q → p �
 chunk-same p q e = cc
 
 -- a body packet
-body-handed : (s : List ℕ) (p : Part) → bodyAt s ≡ PacketRead.Packet (Packet.Body p) → BodyHanded s (p .start .0) (p .len) []
+pub body-handed : (s : List ℕ) (p : Part) → bodyAt s ≡ PacketRead.Packet (Packet.Body p) → BodyHanded s p []
 unfolding bodyAt sizedAt
-body-handed s p e =
-    record {
-      size-read = by-length (eqb (length s) payloadPlace) e;
-      rest = body-inside s (PacketRead.Packet (Packet.Body p)) e;
-      no-places = refl;
-    }
+body-handed s p = by-length (eqb (length s) payloadPlace) refl
   where
-    told : (start len : ℕ) → PacketRead.Packet (Packet.Body (partFrom start len)) ≡ PacketRead.Packet (Packet.Body p)
-        → NumberRead.Number len start ≡ NumberRead.Number (p .len) (p .start .0)
-    told start len q = ap (λ (part : Part). NumberRead.Number (part .len) (part .start .0)) (body-same (partFrom start len) p q)
-
-    by-tests : (len : ℕ) (a b c : Bool)
+    by-tests : (len : ℕ) → eqb (length s) payloadPlace ≡ false → integerAt s payloadPlace ≡ NumberRead.Number len bodyStart → (a b c : Bool)
+        → ltb (length s) (bodyStart + len) ≡ a → ltb (bodyStart + len) (length s) ≡ b → eqb len 0 ≡ c
         → pick a (PacketRead.Refused cutShort)
         (pick b (PacketRead.Refused leftOver)
         (pick c (PacketRead.Refused bodySizeWrong) (PacketRead.Packet (Packet.Body (partFrom bodyStart len)))))
-        ≡ PacketRead.Packet (Packet.Body p) → NumberRead.Number len bodyStart ≡ NumberRead.Number (p .len) (p .start .0)
-    by-tests len true b c q = let z : _≡_ {A = ℕ} 0 1 = cc in absurd (omega arith)
-    by-tests len false true c q = let z : _≡_ {A = ℕ} 0 1 = cc in absurd (omega arith)
-    by-tests len false false true q = let z : _≡_ {A = ℕ} 0 1 = cc in absurd (omega arith)
-    by-tests len false false false q = told bodyStart len q
+        ≡ PacketRead.Packet (Packet.Body p) → BodyHanded s p []
+    by-tests len some f true b c x y z q = let z : _≡_ {A = ℕ} 0 1 = cc in absurd (omega arith)
+    by-tests len some f false true c x y z q = let z : _≡_ {A = ℕ} 0 1 = cc in absurd (omega arith)
+    by-tests len some f false false true x y z q = let z : _≡_ {A = ℕ} 0 1 = cc in absurd (omega arith)
+    by-tests len some f false false false x y z q =
+        subst (λ (p : Part). BodyHanded s p []) (body-same (partFrom bodyStart len) p q)
+        (record {
+          size-read = rw some f;
+          rest = omega (arith, ltb-false (length s) (bodyStart + len) x, ltb-false (bodyStart + len) (length s) y);
+          empty = z ∙ sym some;
+          no-places = refl;
+        })
 
-    by-size : (r : NumberRead) → integerAt s payloadPlace ≡ r → sizedOf (length s) r ≡ PacketRead.Packet (Packet.Body p)
-        → integerAt s payloadPlace ≡ NumberRead.Number (p .len) (p .start .0)
-    by-size (NumberRead.Refused n) f q = let z : _≡_ {A = ℕ} 0 1 = cc in absurd (omega arith)
-    by-size (NumberRead.Number len next) f q =
-        let ends : next ≡ bodyStart = integer-inside s payloadPlace (NumberRead.Number len next) f .0 in
-        f ∙ ap (NumberRead.Number len) ends
-        ∙ by-tests len (ltb (length s) (bodyStart + len)) (ltb (bodyStart + len) (length s)) (eqb len 0) q
+    by-size : eqb (length s) payloadPlace ≡ false → (r : NumberRead) → integerAt s payloadPlace ≡ r
+        → sizedOf (length s) r ≡ PacketRead.Packet (Packet.Body p) → BodyHanded s p []
+    by-size some (NumberRead.Refused n) f q = let z : _≡_ {A = ℕ} 0 1 = cc in absurd (omega arith)
+    by-size some (NumberRead.Number len next) f q =
+        by-tests len some (f ∙ ap (NumberRead.Number len) (integer-inside s payloadPlace (NumberRead.Number len next) f .0))
+        (ltb (length s) (bodyStart + len)) (ltb (bodyStart + len) (length s)) (eqb len 0) refl refl refl q
 
-    by-length : (t : Bool)
+    by-length : (t : Bool) → eqb (length s) payloadPlace ≡ t
         → pick t (PacketRead.Packet (Packet.Body (partFrom payloadPlace 0))) (sizedOf (length s) (integerAt s payloadPlace))
-        ≡ PacketRead.Packet (Packet.Body p)
-        → pick t (NumberRead.Number 0 payloadPlace) (integerAt s payloadPlace) ≡ NumberRead.Number (p .len) (p .start .0)
-    by-length true q = told payloadPlace 0 q
-    by-length false q = by-size (integerAt s payloadPlace) refl q
+        ≡ PacketRead.Packet (Packet.Body p) → BodyHanded s p []
+    by-length true none q =
+        subst (λ (p : Part). BodyHanded s p []) (body-same (partFrom payloadPlace 0) p q)
+        (record { size-read = rw none; rest = sym (eqb-true (length s) payloadPlace none); empty = sym none; no-places = refl })
+    by-length false some q = by-size some (integerAt s payloadPlace) refl q
 
 -- a chunk
-chunk-handed : (s : List ℕ) (p : Part) → chunkAt s ≡ PacketRead.Packet (Packet.BodyChunk p) → ChunkHanded s (p .start .0) (p .len) []
+pub chunk-handed : (s : List ℕ) (p : Part) → chunkAt s ≡ PacketRead.Packet (Packet.BodyChunk p) → ChunkHanded s p []
 unfolding chunkAt chunkOf
 chunk-handed s p = by-length (integerAt s afterCodePlace) refl
   where
@@ -627,16 +605,16 @@ chunk-handed s p = by-length (integerAt s afterCodePlace) refl
         → pick a
         (pick b (finished (length s) (chunkStart + len + 1) (Packet.BodyChunk (partFrom chunkStart len))) (PacketRead.Refused stringWrong))
         (PacketRead.Refused cutShort)
-        ≡ PacketRead.Packet (Packet.BodyChunk p) → ChunkHanded s (p .start .0) (p .len) []
+        ≡ PacketRead.Packet (Packet.BodyChunk p) → ChunkHanded s p []
     by-tests len f false b g q = let z : _≡_ {A = ℕ} 0 1 = cc in absurd (omega arith)
     by-tests len f true false g q = let z : _≡_ {A = ℕ} 0 1 = cc in absurd (omega arith)
     by-tests len f true true g q =
         let done = finished-is (length s) (chunkStart + len + 1) (Packet.BodyChunk (partFrom chunkStart len)) (Packet.BodyChunk p) q in
-        subst (λ (part : Part). ChunkHanded s (part .start .0) (part .len) []) (chunk-same (partFrom chunkStart len) p (done .1))
+        subst (λ (p : Part). ChunkHanded s p []) (chunk-same (partFrom chunkStart len) p (done .1))
         (record { size-read = f; closed = eqb-true (getD s (chunkStart + len) 0) 0 g; rest = done .0; no-places = refl })
 
     by-length : (r : NumberRead) → integerAt s afterCodePlace ≡ r → chunkBy s r ≡ PacketRead.Packet (Packet.BodyChunk p)
-        → ChunkHanded s (p .start .0) (p .len) []
+        → ChunkHanded s p []
     by-length (NumberRead.Refused n) f q = let z : _≡_ {A = ℕ} 0 1 = cc in absurd (omega arith)
     by-length (NumberRead.Number len next) f q =
         let ends : next ≡ chunkStart = integer-inside s afterCodePlace (NumberRead.Number len next) f .0 in

@@ -1,12 +1,11 @@
--- Laws of the definitions of what a packet says: each outcome by the values of its tests, that a body packet and a chunk have no bytes
--- but those that they tell of, that a code's kind goes the way that the packet goes, and that each kind's code is of that kind.
+-- Laws of the definitions of what a packet says: each outcome by the values of its tests, that a code's kind goes the way that the packet
+-- goes, and that each kind's code is of that kind.
 -- Assumes nothing.
 use mathlib.Core.Path.{_≡_, refl, sym, ap, subst, _∙_}
 use mathlib.Core.Bool.{Bool, true, false}
 use mathlib.Core.List.{List}
 use Prim.Native.Nat.{ℕ, _+_, _≤_, _<_}
-use native.Mathlib.Omega.{arith}
-use borrow.Author.Tests.{le-leb, lt-leb, ltb-false, ne-eqb, eqb-true}
+use borrow.Author.Tests.{le-leb, lt-leb, ne-eqb}
 use lib.Dec.{leb, ltb, eqb}
 use lib.ListN.{length, getD}
 use Rattle.wire.specs.Pick.{pick, both, either}
@@ -25,7 +24,6 @@ use Rattle.payload.specs.declared.found.PacketRead.{PacketRead}
 use Rattle.payload.specs.declared.field.FieldRead.{FieldRead}
 use Rattle.payload.specs.Code.{codeOf, shutdownCode, pingCode, codeKind, kindOfCode, kindAt}
 use Rattle.payload.specs.Sequence.{numberAsField, anyIntegerAfter, bounded, byteAfter, integerAfter, stringAsField, stringFieldAt, booleanAsField, booleanFieldAt}
-use Rattle.payload.specs.Facts.{PlainInside}
 use Rattle.payload.specs.Packet.{partFrom, finished}
 use Rattle.payload.specs.End.{endOf, endAt}
 use Rattle.payload.specs.GetBody.{getOf, getAt}
@@ -123,75 +121,6 @@ module _ (s : List ℕ) (len : ℕ) where
       → finished (length s) (chunkStart + len + 1) (Packet.BodyChunk (partFrom chunkStart len)) ≡ chunkOf s len
   unfolding chunkOf
   chunk-closed h z = simp (le-leb, z)
-
--- a body packet that tells its size
-sized-inside : (n len : ℕ) → PlainInside n (sizedAt n len)
-unfolding sizedAt
-sized-inside n len = go (ltb n (bodyStart + len)) (ltb (bodyStart + len) n) (eqb len 0) refl refl
-  where
-    go : (a b c : Bool) → ltb n (bodyStart + len) ≡ a → ltb (bodyStart + len) n ≡ b
-        → PlainInside n
-        (pick a (PacketRead.Refused cutShort)
-        (pick b (PacketRead.Refused leftOver)
-        (pick c (PacketRead.Refused bodySizeWrong) (PacketRead.Packet (Packet.Body (partFrom bodyStart len))))))
-    go true b c p q = tt
-    go false true c p q = tt
-    go false false true p q = tt
-    go false false false p q = omega (arith, ltb-false n (bodyStart + len) p, ltb-false (bodyStart + len) n q)
-
--- a body packet, by what its size reads as
-sized-of-inside : (n : ℕ) (r : NumberRead) → PlainInside n (sizedOf n r)
-sized-of-inside n (NumberRead.Refused k) = tt
-sized-of-inside n (NumberRead.Number len next) = sized-inside n len
-
--- a body packet
-body-all : (s : List ℕ) → PlainInside (length s) (bodyAt s)
-unfolding bodyAt
-body-all s = go (eqb (length s) payloadPlace) refl
-  where
-    go : (t : Bool) → eqb (length s) payloadPlace ≡ t
-        → PlainInside (length s)
-        (pick t (PacketRead.Packet (Packet.Body (partFrom payloadPlace 0))) (sizedOf (length s) (integerAt s payloadPlace)))
-    go true e = sym (eqb-true (length s) payloadPlace e)
-    go false e = sized-of-inside (length s) (integerAt s payloadPlace)
-
--- a chunk that tells its length
-chunk-of-inside : (s : List ℕ) (len : ℕ) → PlainInside (length s) (chunkOf s len)
-unfolding chunkOf
-chunk-of-inside s len =
-    go (leb (chunkStart + (len + 1)) (length s)) (eqb (getD s (chunkStart + len) 0) 0) (eqb (chunkStart + len + 1) (length s)) refl
-  where
-    go : (a b c : Bool) → eqb (chunkStart + len + 1) (length s) ≡ c
-        → PlainInside (length s)
-        (pick a
-        (pick b (pick c (PacketRead.Packet (Packet.BodyChunk (partFrom chunkStart len))) (PacketRead.Refused leftOver)) (PacketRead.Refused stringWrong))
-        (PacketRead.Refused cutShort))
-    go true true true p = (refl, eqb-true (chunkStart + len + 1) (length s) p)
-    go true true false p = tt
-    go true false c p = tt
-    go false b c p = tt
-
--- a chunk, by what its length reads as
-chunk-by-inside : (s : List ℕ) (r : NumberRead) → PlainInside (length s) (chunkBy s r)
-chunk-by-inside s (NumberRead.Refused k) = tt
-chunk-by-inside s (NumberRead.Number len next) = chunk-of-inside s len
-
--- a chunk
-chunk-all : (s : List ℕ) → PlainInside (length s) (chunkAt s)
-unfolding chunkAt
-chunk-all s = chunk-by-inside s (integerAt s afterCodePlace)
-
--- body packets and chunks have no bytes but those that they tell of
-pub plain-inside : (s : List ℕ) → PlainInside (length s) (bodyAt s) × PlainInside (length s) (chunkAt s)
-plain-inside s = (body-all s, chunk-all s)
-
--- a body packet, where the answer is known
-pub body-inside : (s : List ℕ) (r : PacketRead) → bodyAt s ≡ r → PlainInside (length s) r
-body-inside s r e = subst (PlainInside (length s)) e (body-all s)
-
--- a chunk, where the answer is known
-pub chunk-inside : (s : List ℕ) (r : PacketRead) → chunkAt s ≡ r → PlainInside (length s) r
-chunk-inside s r e = subst (PlainInside (length s)) e (chunk-all s)
 
 -- a kind that goes a way, where the packet is not refused
 abbrev pub Goes : Direction → KindRead → Type 0

@@ -24,8 +24,8 @@ use Rattle.payload.specs.declared.field.FieldRead.{FieldRead}
 use Rattle.payload.specs.declared.lists.ListsRead.{ListsRead}
 use Rattle.payload.specs.Sequence.{afterCode, stringAfter, booleanAfter, byteAfter, anyIntegerAfter, integerAfter, fieldNumber}
 use Rattle.payload.specs.Lists.{headersAfter, listsOf, attributesBehind, behindHeaders, listsAt}
-use Rattle.payload.specs.Forward.{firstMethod, lastMethod, forwardOf, forwardAt}
-use Rattle.payload.specs.SendHeaders.{leastStatus, greatestStatus, sendHeadersOf, sendHeadersAt}
+use Rattle.payload.specs.Forward.{firstMethod, lastMethod, ForwardReads, forwardReads, forwardOf, forwardAt}
+use Rattle.payload.specs.SendHeaders.{leastStatus, greatestStatus, SendHeadersReads, sendHeadersReads, sendHeadersOf, sendHeadersAt}
 use Rattle.payload.proofs.Below.{headers-many}
 
 -- headers behind their count
@@ -104,34 +104,34 @@ module _ (s : List ℕ) (count : FieldRead) (entry middle : List ℕ)
       )
 
 -- a Forward is its fields, one after the other, and how its lists end
-pub forward-is : (s entry exit : List ℕ) {code method protocol uri addr host name port ssl headers : FieldRead} {lists found : ListsRead}
+pub forward-is : (s entry exit : List ℕ) {code : FieldRead} {reads : ForwardReads} {lists found : ListsRead}
     → code ≡ afterCode
-    → method ≡ byteAfter s firstMethod lastMethod outOfRange code
-    → protocol ≡ stringAfter s StringField.Protocol method
-    → uri ≡ stringAfter s StringField.ReqUri protocol
-    → addr ≡ stringAfter s StringField.RemoteAddr uri
-    → host ≡ stringAfter s StringField.RemoteHost addr
-    → name ≡ stringAfter s StringField.ServerName host
-    → port ≡ anyIntegerAfter s name
-    → ssl ≡ booleanAfter s port
-    → headers ≡ integerAfter s 0 maxHeaders tooMany ssl
-    → lists ≡ listsAt s headers .end
-    → exit ≡ over entry 0 (listsAt s headers .places)
+    → reads .method ≡ byteAfter s firstMethod lastMethod outOfRange code
+    → reads .protocol ≡ stringAfter s StringField.Protocol (reads .method)
+    → reads .uri ≡ stringAfter s StringField.ReqUri (reads .protocol)
+    → reads .addr ≡ stringAfter s StringField.RemoteAddr (reads .uri)
+    → reads .host ≡ stringAfter s StringField.RemoteHost (reads .addr)
+    → reads .name ≡ stringAfter s StringField.ServerName (reads .host)
+    → reads .port ≡ anyIntegerAfter s (reads .name)
+    → reads .ssl ≡ booleanAfter s (reads .port)
+    → reads .headers ≡ integerAfter s 0 maxHeaders tooMany (reads .ssl)
+    → lists ≡ listsAt s (reads .headers) .end
+    → exit ≡ over entry 0 (listsAt s (reads .headers) .places)
     → lists ≡ found
-    → (forwardOf method protocol uri addr host name port ssl headers found ≡ forwardAt s .end) × (exit ≡ over entry 0 (forwardAt s .places))
-unfolding forwardAt
+    → (forwardOf reads found ≡ forwardAt s .end) × (exit ≡ over entry 0 (forwardAt s .places))
+unfolding forwardAt forwardReads
 forward-is s entry exit e0 e1 e2 e3 e4 e5 e6 e7 e8 e9 e holds so =
     (rw (← so, e, e9, e8, e7, e6, e5, e4, e3, e2, e1, e0), rw (e9, e8, e7, e6, e5, e4, e3, e2, e1, e0) at holds)
 
 -- Send Headers is its fields, one after the other, and how its headers end
-pub send-headers-is : (s entry exit : List ℕ) {code status message count : FieldRead} {headers found : HeadersRead}
+pub send-headers-is : (s entry exit : List ℕ) {code : FieldRead} {reads : SendHeadersReads} {headers found : HeadersRead}
     → code ≡ afterCode
-    → status ≡ integerAfter s leastStatus greatestStatus outOfRange code
-    → message ≡ stringAfter s StringField.Message status
-    → count ≡ integerAfter s 0 maxHeaders tooMany message
-    → headers ≡ headersAfter Direction.ToServer s count .end
-    → exit ≡ over entry 0 (headersAfter Direction.ToServer s count .places)
+    → reads .status ≡ integerAfter s leastStatus greatestStatus outOfRange code
+    → reads .message ≡ stringAfter s StringField.Message (reads .status)
+    → reads .headers ≡ integerAfter s 0 maxHeaders tooMany (reads .message)
+    → headers ≡ headersAfter Direction.ToServer s (reads .headers) .end
+    → exit ≡ over entry 0 (headersAfter Direction.ToServer s (reads .headers) .places)
     → headers ≡ found
-    → (sendHeadersOf (length s) status message count found ≡ sendHeadersAt s .end) × (exit ≡ over entry 0 (sendHeadersAt s .places))
-unfolding sendHeadersAt
+    → (sendHeadersOf (length s) reads found ≡ sendHeadersAt s .end) × (exit ≡ over entry 0 (sendHeadersAt s .places))
+unfolding sendHeadersAt sendHeadersReads
 send-headers-is s entry exit e0 e1 e2 e3 e holds so = (rw (← so, e, e3, e2, e1, e0), rw (e3, e2, e1, e0) at holds)

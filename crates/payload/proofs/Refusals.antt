@@ -37,8 +37,8 @@ use Rattle.payload.specs.GetBody.{getOf, getAt}
 use Rattle.payload.specs.Body.{bodyStart, sizedAt, sizedOf, bodyAt}
 use Rattle.payload.specs.BodyChunk.{chunkStart, chunkOf, chunkBy, chunkAt}
 use Rattle.payload.specs.Lists.{headersAfter, listsOf, attributesBehind, behindHeaders, listsAt}
-use Rattle.payload.specs.Forward.{firstMethod, lastMethod, forwardOf, forwardAt}
-use Rattle.payload.specs.SendHeaders.{leastStatus, greatestStatus, sendHeadersOf, sendHeadersAt}
+use Rattle.payload.specs.Forward.{firstMethod, lastMethod, forwardReads, forwardOf, forwardAt}
+use Rattle.payload.specs.SendHeaders.{leastStatus, greatestStatus, sendHeadersReads, sendHeadersOf, sendHeadersAt}
 use Rattle.payload.specs.Kinds.{packetAt}
 use Rattle.wire.specs.Packet.{payloadPlace, codePlace, afterCodePlace}
 
@@ -193,48 +193,34 @@ finished-refusal size next found = go (eqb next size)
     go false = refl
 
 forward-refusal : (s : List ℕ) → PacketRefusal (forwardAt s .end)
-unfolding forwardAt
+unfolding forwardAt forwardReads
 forward-refusal s =
-    let method = byteAfter s firstMethod lastMethod outOfRange afterCode in
-    let protocol = stringAfter s StringField.Protocol method in
-    let uri = stringAfter s StringField.ReqUri protocol in
-    let addr = stringAfter s StringField.RemoteAddr uri in
-    let host = stringAfter s StringField.RemoteHost addr in
-    let name = stringAfter s StringField.ServerName host in
-    let port = anyIntegerAfter s name in
-    let ssl = booleanAfter s port in
-    let headers = integerAfter s 0 maxHeaders tooMany ssl in
-    go method protocol uri addr host name port ssl headers (listsAt s headers .end)
-    (lists-refusal s headers
-    (integer-after-refusal s 0 maxHeaders tooMany ssl refl
-    (boolean-after-refusal s port
-    (any-integer-refusal s name
-    (string-after-refusal s StringField.ServerName host
-    (string-after-refusal s StringField.RemoteHost addr
-    (string-after-refusal s StringField.RemoteAddr uri
-    (string-after-refusal s StringField.ReqUri protocol
-    (string-after-refusal s StringField.Protocol method (byte-after-refusal s firstMethod lastMethod outOfRange afterCode refl tt))))))))))
+    go (listsAt s (forwardReads s .headers) .end)
+    (lists-refusal s _
+    (integer-after-refusal s 0 maxHeaders tooMany _ refl
+    (boolean-after-refusal s _
+    (any-integer-refusal s _
+    (string-after-refusal s StringField.ServerName _
+    (string-after-refusal s StringField.RemoteHost _
+    (string-after-refusal s StringField.RemoteAddr _
+    (string-after-refusal s StringField.ReqUri _
+    (string-after-refusal s StringField.Protocol _ (byte-after-refusal s firstMethod lastMethod outOfRange afterCode refl tt))))))))))
   where
-    go : (method protocol uri addr host name port ssl headers : FieldRead) (r : ListsRead) → ListsRefusal r
-        → PacketRefusal (forwardOf method protocol uri addr host name port ssl headers r)
-    go method protocol uri addr host name port ssl headers (ListsRead.Refused n) h = h
-    go method protocol uri addr host name port ssl headers (ListsRead.Lists declared attributes) h = tt
+    go : (r : ListsRead) → ListsRefusal r → PacketRefusal (forwardOf (forwardReads s) r)
+    go (ListsRead.Refused n) h = h
+    go (ListsRead.Lists declared attributes) h = tt
 
 send-headers-refusal : (s : List ℕ) → PacketRefusal (sendHeadersAt s .end)
-unfolding sendHeadersAt
+unfolding sendHeadersAt sendHeadersReads
 send-headers-refusal s =
-    let status = integerAfter s leastStatus greatestStatus outOfRange afterCode in
-    let message = stringAfter s StringField.Message status in
-    let headers = integerAfter s 0 maxHeaders tooMany message in
-    go status message headers (headersAfter Direction.ToServer s headers .end)
-    (headers-after-refusal Direction.ToServer s headers
-    (integer-after-refusal s 0 maxHeaders tooMany message refl
-    (string-after-refusal s StringField.Message status (integer-after-refusal s leastStatus greatestStatus outOfRange afterCode refl tt))))
+    go (headersAfter Direction.ToServer s (sendHeadersReads s .headers) .end)
+    (headers-after-refusal Direction.ToServer s _
+    (integer-after-refusal s 0 maxHeaders tooMany _ refl
+    (string-after-refusal s StringField.Message _ (integer-after-refusal s leastStatus greatestStatus outOfRange afterCode refl tt))))
   where
-    go : (status message headers : FieldRead) (r : HeadersRead) → HeadersRefusal r
-        → PacketRefusal (sendHeadersOf (length s) status message headers r)
-    go status message headers (HeadersRead.Refused n) h = h
-    go status message headers (HeadersRead.Headers declared next) h = finished-refusal (length s) next _
+    go : (r : HeadersRead) → HeadersRefusal r → PacketRefusal (sendHeadersOf (length s) (sendHeadersReads s) r)
+    go (HeadersRead.Refused n) h = h
+    go (HeadersRead.Headers declared next) h = finished-refusal (length s) next _
 
 end-refusal : (s : List ℕ) → PacketRefusal (endAt s)
 unfolding endAt

@@ -1,4 +1,4 @@
--- What the laws of reading packets say: what is answered lies inside the packet, and how many places a packet has.
+-- What the laws of reading packets say: a field that is read lies inside the packet, and how many places a packet has.
 -- Assumes nothing.
 use mathlib.Core.Path.{_≡_}
 use mathlib.Core.List.{List}
@@ -7,28 +7,12 @@ use lib.ListN.{length}
 use Rattle.places.specs.Entries.{maxHeaders, maxAttributes}
 use Rattle.packet.specs.declared.Forward.{Forward}
 use Rattle.packet.specs.declared.SendHeaders.{SendHeaders}
-use Rattle.packet.specs.declared.Packet.{Packet}
 use Rattle.payload.specs.declared.field.FieldRead.{FieldRead}
-use Rattle.payload.specs.declared.found.PacketRead.{PacketRead}
-use Rattle.payload.specs.BodyChunk.{chunkStart}
 
 -- a field that lies inside a packet of `size` bytes: its place is before the end, and the place after it is the end or before it
 abbrev pub FieldInside : ℕ → FieldRead → Type 0
 FieldInside size (FieldRead.Refused n) = Unit
 FieldInside size (FieldRead.Field at value next) = (at < size) × (next ≤ size)
-
--- the bytes of a body packet or a chunk in a packet of n bytes: a body's end with the packet; a chunk's start behind its length and end
--- one before the packet's end
-abbrev pub PlainInside : ℕ → PacketRead → Type 0
-PlainInside n (PacketRead.Refused k) = Unit
-PlainInside n (PacketRead.Packet Packet.CPing) = Unit
-PlainInside n (PacketRead.Packet Packet.CPong) = Unit
-PlainInside n (PacketRead.Packet (Packet.Forward f)) = Unit
-PlainInside n (PacketRead.Packet (Packet.Body p)) = p .start .0 + p .len ≡ n
-PlainInside n (PacketRead.Packet (Packet.GetBody k)) = Unit
-PlainInside n (PacketRead.Packet (Packet.SendHeaders h)) = Unit
-PlainInside n (PacketRead.Packet (Packet.BodyChunk p)) = (p .start .0 ≡ chunkStart) × (p .start .0 + p .len + 1 ≡ n)
-PlainInside n (PacketRead.Packet (Packet.End reuse)) = Unit
 
 -- the places of a Forward: two for each header and for each attribute, no more than may come
 pub record ForwardPlaces (forward : Forward) (places : List ℕ) : Type 0 where

@@ -24,31 +24,22 @@ firstMethod = 1
 abbrev pub lastMethod : ℕ
 lastMethod = 27
 
--- a Forward, by its fixed fields and how its lists end
-abbrev pub forwardOf : FieldRead → FieldRead → FieldRead → FieldRead → FieldRead → FieldRead → FieldRead → FieldRead → FieldRead
-    → ListsRead → PacketRead
-forwardOf method protocol uri addr host name port ssl headers (ListsRead.Refused n) = PacketRead.Refused n
-forwardOf method protocol uri addr host name port ssl headers (ListsRead.Lists declared attributes) =
-    PacketRead.Packet
-    (Packet.Forward
-    (record {
-      method = fieldNumber method;
-      protocol = fieldPlace protocol;
-      «req_uri» = fieldPlace uri;
-      «remote_addr» = fieldPlace addr;
-      «remote_host» = fieldPlace host;
-      «server_name» = fieldPlace name;
-      «server_port» = fieldNumber port;
-      «is_ssl» = eqb (fieldNumber ssl) (booleanNumber true);
-      headers = fieldNumber headers;
-      attributes = attributes;
-      declared = declared;
-    }))
+-- the fixed fields of a Forward, as read
+pub record ForwardReads : Type 0 where
+  pub method : FieldRead
+  pub protocol : FieldRead
+  pub uri : FieldRead
+  pub addr : FieldRead
+  pub host : FieldRead
+  pub name : FieldRead
+  pub port : FieldRead
+  pub ssl : FieldRead
+  pub headers : FieldRead
 
--- Forward: method (1 to 27), protocol, req_uri, remote_addr, remote_host, server_name, server_port (any integer), is_ssl,
--- num_headers (at most 100, else 11), headers, attributes
-unfoldable pub forwardAt : List ℕ → Entries PacketRead
-forwardAt s =
+-- method (1 to 27), protocol, req_uri, remote_addr, remote_host, server_name, server_port (any integer), is_ssl, num_headers (at most 100,
+-- else 11), each behind the one before it
+unfoldable pub forwardReads : List ℕ → ForwardReads
+forwardReads s =
     let method = byteAfter s firstMethod lastMethod outOfRange afterCode in
     let protocol = stringAfter s StringField.Protocol method in
     let uri = stringAfter s StringField.ReqUri protocol in
@@ -58,4 +49,38 @@ forwardAt s =
     let port = anyIntegerAfter s name in
     let ssl = booleanAfter s port in
     let headers = integerAfter s 0 maxHeaders tooMany ssl in
-    ending (forwardOf method protocol uri addr host name port ssl headers) (listsAt s headers)
+    record {
+      method = method;
+      protocol = protocol;
+      uri = uri;
+      addr = addr;
+      host = host;
+      name = name;
+      port = port;
+      ssl = ssl;
+      headers = headers;
+    }
+
+-- a Forward, by its fixed fields and how its lists end
+abbrev pub forwardOf : ForwardReads → ListsRead → PacketRead
+forwardOf reads (ListsRead.Refused n) = PacketRead.Refused n
+forwardOf reads (ListsRead.Lists declared attributes) =
+    PacketRead.Packet
+    (Packet.Forward
+    (record {
+      method = fieldNumber (reads .method);
+      protocol = fieldPlace (reads .protocol);
+      «req_uri» = fieldPlace (reads .uri);
+      «remote_addr» = fieldPlace (reads .addr);
+      «remote_host» = fieldPlace (reads .host);
+      «server_name» = fieldPlace (reads .name);
+      «server_port» = fieldNumber (reads .port);
+      «is_ssl» = eqb (fieldNumber (reads .ssl)) (booleanNumber true);
+      headers = fieldNumber (reads .headers);
+      attributes = attributes;
+      declared = declared;
+    }))
+
+-- Forward: the fixed fields, then the headers and the attributes
+unfoldable pub forwardAt : List ℕ → Entries PacketRead
+forwardAt s = ending (forwardOf (forwardReads s)) (listsAt s (forwardReads s .headers))

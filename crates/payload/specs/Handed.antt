@@ -3,13 +3,15 @@
 -- Document 01, 'Server to container', 'Container to server', and 'Refusal numbers': what acceptance tells, and the table of places.
 -- Assumes nothing.
 use mathlib.Core.Path.{_≡_}
-use mathlib.Core.Bool.{Bool}
+use mathlib.Core.Bool.{Bool, true, false}
 use mathlib.Core.List.{List, [], _∷_, _++_}
-use Prim.Native.Nat.{ℕ, _+_}
+use Prim.Native.Nat.{ℕ, _+_, _≤_}
 use lib.Dec.{eqb}
 use lib.ListN.{length, getD}
-use Rattle.wire.specs.Pick.{pick}
+use Rattle.wire.specs.Pick.{pick, between}
+use Rattle.wire.specs.Bytes.{part}
 use Rattle.wire.specs.Field.{byteAt, integerAt, booleanAt, stringAt, isOptional}
+use Rattle.wire.specs.Packet.{payloadPlace, afterCodePlace}
 use Rattle.packet.specs.declared.Direction.{Direction}
 use Rattle.wire.specs.declared.StringField.{StringField}
 use Rattle.wire.specs.declared.read.NumberRead.{NumberRead}
@@ -17,11 +19,19 @@ use Rattle.wire.specs.declared.read.BooleanRead.{BooleanRead}
 use Rattle.wire.specs.declared.read.StringRead.{StringRead}
 use Rattle.names.specs.Attribute.{attributeKind}
 use Rattle.packet.specs.declared.AttributeKind.{AttributeKind}
-use Rattle.headers.specs.Headers.{nameAt}
+use Rattle.places.specs.Entries.{maxHeaders, maxAttributes}
+use Rattle.headers.specs.Length.{declaredLength}
+use Rattle.headers.specs.Headers.{nameAt, declares, declaredAfter}
+use Rattle.headers.specs.declared.length.Declared.{Declared}
+use Rattle.headers.specs.declared.length.LengthRead.{LengthRead}
 use Rattle.headers.specs.declared.NameRead.{NameRead}
 use Rattle.attributes.specs.Attributes.{lastMark}
+use Rattle.packet.specs.declared.Forward.{Forward}
+use Rattle.packet.specs.declared.SendHeaders.{SendHeaders}
+use Rattle.packet.specs.declared.Part.{Part}
 use Rattle.packet.specs.declared.Packet.{Packet}
-use Rattle.wire.specs.Packet.{payloadPlace, afterCodePlace}
+use Rattle.payload.specs.Forward.{firstMethod, lastMethod}
+use Rattle.payload.specs.SendHeaders.{leastStatus, greatestStatus}
 
 -- a string that is read, by where it ends
 abbrev pub StringEnds : ℕ → StringRead → Type 0
@@ -44,13 +54,36 @@ NameEnds end (NameRead.Spelled start len next) = next ≡ end
 abbrev pub StringThere : List ℕ → StringField → ℕ → ℕ → Type 0
 StringThere s field at end = StringEnds end (stringAt s at (isOptional field))
 
+-- whether a name that is read is the one whose value declares the length of the body
+abbrev pub declaringRead : Direction → NameRead → Bool
+declaringRead d (NameRead.Refused n) = false
+declaringRead d (NameRead.Code code next) = declares d code
+declaringRead d (NameRead.Spelled start len next) = false
+
+-- whether a string that is read is null
+abbrev pub readNull : StringRead → Bool
+readNull (StringRead.Refused n) = false
+readNull (StringRead.Null next) = true
+readNull (StringRead.Text start len next) = false
+
+-- the bytes of a string that is read
+abbrev pub readBytes : List ℕ → StringRead → List ℕ
+readBytes s (StringRead.Refused n) = []
+readBytes s (StringRead.Null next) = []
+readBytes s (StringRead.Text start len next) = part s start len
+
+-- after a header with this name and this value that much is declared
+abbrev pub DeclaresThen : Direction → List ℕ → Declared → NameRead → StringRead → Declared → Type 0
+DeclaresThen d s before name value after = declaredAfter (declaringRead d name) before (readNull value) (readBytes s value) ≡ LengthRead.Now after
+
 -- headers are read from a place to another, with these places for their names and values: the name at the first, the value where the name
--- ends, the next header where the value ends
-abbrev pub HeadersHanded : Direction → List ℕ → ℕ → List ℕ → ℕ → Type 0
-HeadersHanded d s at [] end = at ≡ end
-HeadersHanded d s at (p ∷ []) end = ⊥
-HeadersHanded d s at (p ∷ q ∷ rest) end =
-    (next : ℕ) × (p ≡ at) × NameEnds q (nameAt d s p) × StringThere s StringField.HeaderValue q next × HeadersHanded d s next rest end
+-- ends, the next header where the value ends; and what is declared before them becomes, header by header, what is declared after them
+abbrev pub HeadersHanded : Direction → List ℕ → ℕ → Declared → List ℕ → ℕ → Declared → Type 0
+HeadersHanded d s at before [] end after = (at ≡ end) × (before ≡ after)
+HeadersHanded d s at before (p ∷ []) end after = ⊥
+HeadersHanded d s at before (p ∷ q ∷ rest) end after =
+    (next : ℕ) × (p ≡ at) × NameEnds q (nameAt d s p) × StringThere s StringField.HeaderValue q next × (declared : Declared)
+    × DeclaresThen d s before (nameAt d s p) (stringAt s q (isOptional StringField.HeaderValue)) declared × HeadersHanded d s next declared rest end after
 
 -- a value of a kind is read behind a code: from a place on, with the value at another, up to its end. A pair has its name in front
 abbrev pub ValueThere : List ℕ → AttributeKind → ℕ → ℕ → ℕ → Type 0
@@ -67,61 +100,72 @@ AttributesHanded s at (p ∷ []) end = ⊥
 AttributesHanded s at (p ∷ q ∷ rest) end =
     (next : ℕ) × (p ≡ at) × ValueThere s (attributeKind (getD s p 0)) (p + 1) q next × AttributesHanded s next rest end
 
--- the lists of a Forward from a place on: so many headers, then so many attributes, which end with the packet; two places for each
-pub record ListsHanded (s : List ℕ) (at headers attributes : ℕ) (places : List ℕ) : Type 0 where
+-- the lists of a Forward from a place on: so many headers, which declare this, then so many attributes, which end with the packet; two
+-- places for each
+pub record ListsHanded (s : List ℕ) (at headers attributes declared : ℕ) (places : List ℕ) : Type 0 where
   pub of-headers : List ℕ
   pub of-attributes : List ℕ
   pub are : places ≡ of-headers ++ of-attributes
   pub headers-many : length of-headers ≡ headers + headers
   pub attributes-many : length of-attributes ≡ attributes + attributes
+  pub attributes-most : attributes ≤ maxAttributes
   pub middle : ℕ
-  pub headers-there : HeadersHanded Direction.ToContainer s at of-headers middle
+  pub after : Declared
+  pub headers-there : HeadersHanded Direction.ToContainer s at Declared.Absent of-headers middle after
+  pub declared-is : declared ≡ declaredLength after
   pub attributes-there : AttributesHanded s middle of-attributes (length s)
 
--- a Forward: the method is the byte behind the code; the five strings stand one behind the other; then the port, is_ssl and the count of
--- headers, each what is read at its place; then its lists
-pub record ForwardHanded (s : List ℕ) (method protocol uri addr host name port : ℕ) (ssl : Bool) (headers attributes : ℕ) (places : List ℕ) :
-    Type 0 where
-  pub method-read : byteAt s afterCodePlace ≡ NumberRead.Number method protocol
-  pub protocol-there : StringThere s StringField.Protocol protocol uri
-  pub uri-there : StringThere s StringField.ReqUri uri addr
-  pub addr-there : StringThere s StringField.RemoteAddr addr host
-  pub host-there : StringThere s StringField.RemoteHost host name
+-- a Forward: the method is the byte behind the code, in its range; the five strings stand one behind the other; then the port, is_ssl and the
+-- count of headers, each what is read at its place; then its lists
+pub record ForwardHanded (s : List ℕ) (f : Forward) (places : List ℕ) : Type 0 where
+  pub method-read : byteAt s afterCodePlace ≡ NumberRead.Number (f .method) (f .protocol .0)
+  pub method-range : between firstMethod lastMethod (f .method) ≡ true
+  pub protocol-there : StringThere s StringField.Protocol (f .protocol .0) (f .«req_uri» .0)
+  pub uri-there : StringThere s StringField.ReqUri (f .«req_uri» .0) (f .«remote_addr» .0)
+  pub addr-there : StringThere s StringField.RemoteAddr (f .«remote_addr» .0) (f .«remote_host» .0)
+  pub host-there : StringThere s StringField.RemoteHost (f .«remote_host» .0) (f .«server_name» .0)
   pub port-place : ℕ
-  pub name-there : StringThere s StringField.ServerName name port-place
+  pub name-there : StringThere s StringField.ServerName (f .«server_name» .0) port-place
   pub ssl-place : ℕ
-  pub port-read : integerAt s port-place ≡ NumberRead.Number port ssl-place
+  pub port-read : integerAt s port-place ≡ NumberRead.Number (f .«server_port») ssl-place
   pub count-place : ℕ
-  pub ssl-read : booleanAt s ssl-place ≡ BooleanRead.Boolean ssl count-place
+  pub ssl-read : booleanAt s ssl-place ≡ BooleanRead.Boolean (f .«is_ssl») count-place
   pub lists-place : ℕ
-  pub count-read : integerAt s count-place ≡ NumberRead.Number headers lists-place
-  pub lists : ListsHanded s lists-place headers attributes places
+  pub count-read : integerAt s count-place ≡ NumberRead.Number (f .headers) lists-place
+  pub headers-most : f .headers ≤ maxHeaders
+  pub lists : ListsHanded s lists-place (f .headers) (f .attributes) (f .declared .0) places
 
--- Send Headers: the status is the integer behind the code; the message, the count of headers and so many headers, which end with the packet
-pub record SendHeadersHanded (s : List ℕ) (status message headers : ℕ) (places : List ℕ) : Type 0 where
-  pub status-read : integerAt s afterCodePlace ≡ NumberRead.Number status message
+-- Send Headers: the status is the integer behind the code, in its range; the message, the count of headers and so many headers, which end
+-- with the packet
+pub record SendHeadersHanded (s : List ℕ) (h : SendHeaders) (places : List ℕ) : Type 0 where
+  pub status-read : integerAt s afterCodePlace ≡ NumberRead.Number (h .status) (h .message .0)
+  pub status-range : between leastStatus greatestStatus (h .status) ≡ true
   pub count-place : ℕ
-  pub message-there : StringThere s StringField.Message message count-place
+  pub message-there : StringThere s StringField.Message (h .message .0) count-place
   pub headers-place : ℕ
-  pub count-read : integerAt s count-place ≡ NumberRead.Number headers headers-place
-  pub headers-many : length places ≡ headers + headers
-  pub headers-there : HeadersHanded Direction.ToServer s headers-place places (length s)
+  pub count-read : integerAt s count-place ≡ NumberRead.Number (h .headers) headers-place
+  pub headers-most : h .headers ≤ maxHeaders
+  pub headers-many : length places ≡ h .headers + h .headers
+  pub after : Declared
+  pub headers-there : HeadersHanded Direction.ToServer s headers-place Declared.Absent places (length s) after
 
 -- the size that a body packet tells: none where it has no payload, else the payload's first integer
 abbrev pub bodySizeRead : List ℕ → NumberRead
 bodySizeRead s = pick (eqb (length s) payloadPlace) (NumberRead.Number 0 payloadPlace) (integerAt s payloadPlace)
 
--- a body packet: its size is what is read, and so many bytes stand behind it, the rest of the packet
-pub record BodyHanded (s : List ℕ) (start len : ℕ) (places : List ℕ) : Type 0 where
-  pub size-read : bodySizeRead s ≡ NumberRead.Number len start
-  pub rest : start + len ≡ length s
+-- a body packet: its size is what is read, and so many bytes stand behind it, the rest of the packet; it is empty where it has no payload
+-- and nowhere else
+pub record BodyHanded (s : List ℕ) (p : Part) (places : List ℕ) : Type 0 where
+  pub size-read : bodySizeRead s ≡ NumberRead.Number (p .len) (p .start .0)
+  pub rest : p .start .0 + p .len ≡ length s
+  pub empty : eqb (p .len) 0 ≡ eqb (length s) payloadPlace
   pub no-places : places ≡ []
 
 -- a chunk: its length is the integer behind the code, and so many bytes stand behind it, all but the packet's last byte, which is zero
-pub record ChunkHanded (s : List ℕ) (start len : ℕ) (places : List ℕ) : Type 0 where
-  pub size-read : integerAt s afterCodePlace ≡ NumberRead.Number len start
-  pub closed : getD s (start + len) 0 ≡ 0
-  pub rest : start + len + 1 ≡ length s
+pub record ChunkHanded (s : List ℕ) (p : Part) (places : List ℕ) : Type 0 where
+  pub size-read : integerAt s afterCodePlace ≡ NumberRead.Number (p .len) (p .start .0)
+  pub closed : getD s (p .start .0 + p .len) 0 ≡ 0
+  pub rest : p .start .0 + p .len + 1 ≡ length s
   pub no-places : places ≡ []
 
 -- a Get Body Chunk: what is asked for is the integer behind the code, with which the packet ends
@@ -143,11 +187,9 @@ pub record BareHanded (s : List ℕ) (places : List ℕ) : Type 0 where
 abbrev pub PacketHanded : List ℕ → Packet → List ℕ → Type 0
 PacketHanded s Packet.CPing places = BareHanded s places
 PacketHanded s Packet.CPong places = BareHanded s places
-PacketHanded s (Packet.Forward f) places =
-    ForwardHanded s (f .method) (f .protocol .0) (f .«req_uri» .0) (f .«remote_addr» .0) (f .«remote_host» .0) (f .«server_name» .0)
-    (f .«server_port») (f .«is_ssl») (f .headers) (f .attributes) places
-PacketHanded s (Packet.Body p) places = BodyHanded s (p .start .0) (p .len) places
+PacketHanded s (Packet.Forward f) places = ForwardHanded s f places
+PacketHanded s (Packet.Body p) places = BodyHanded s p places
 PacketHanded s (Packet.GetBody asked) places = GetHanded s asked places
-PacketHanded s (Packet.SendHeaders h) places = SendHeadersHanded s (h .status) (h .message .0) (h .headers) places
-PacketHanded s (Packet.BodyChunk p) places = ChunkHanded s (p .start .0) (p .len) places
+PacketHanded s (Packet.SendHeaders h) places = SendHeadersHanded s h places
+PacketHanded s (Packet.BodyChunk p) places = ChunkHanded s p places
 PacketHanded s (Packet.End reuse) places = EndHanded s reuse places

@@ -24,22 +24,32 @@ leastStatus = 100
 abbrev pub greatestStatus : ℕ
 greatestStatus = 599
 
--- Send Headers, by its fixed fields and how its headers end
-abbrev pub sendHeadersOf : ℕ → FieldRead → FieldRead → FieldRead → HeadersRead → PacketRead
-sendHeadersOf size status message headers (HeadersRead.Refused n) = PacketRead.Refused n
-sendHeadersOf size status message headers (HeadersRead.Headers declared next) =
-    finished size next
-    (Packet.SendHeaders
-    (record {
-      status = fieldNumber status;
-      message = fieldPlace message;
-      headers = fieldNumber headers;
-    }))
+-- the fixed fields of Send Headers, as read
+pub record SendHeadersReads : Type 0 where
+  pub status : FieldRead
+  pub message : FieldRead
+  pub headers : FieldRead
 
--- Send Headers: status (100 to 599), message, num_headers (at most 100, else 11), headers
-unfoldable pub sendHeadersAt : List ℕ → Entries PacketRead
-sendHeadersAt s =
+-- status (100 to 599), message, num_headers (at most 100, else 11), each behind the one before it
+unfoldable pub sendHeadersReads : List ℕ → SendHeadersReads
+sendHeadersReads s =
     let status = integerAfter s leastStatus greatestStatus outOfRange afterCode in
     let message = stringAfter s StringField.Message status in
     let headers = integerAfter s 0 maxHeaders tooMany message in
-    ending (sendHeadersOf (length s) status message headers) (headersAfter Direction.ToServer s headers)
+    record { status = status; message = message; headers = headers }
+
+-- Send Headers, by its fixed fields and how its headers end
+abbrev pub sendHeadersOf : ℕ → SendHeadersReads → HeadersRead → PacketRead
+sendHeadersOf size reads (HeadersRead.Refused n) = PacketRead.Refused n
+sendHeadersOf size reads (HeadersRead.Headers declared next) =
+    finished size next
+    (Packet.SendHeaders
+    (record {
+      status = fieldNumber (reads .status);
+      message = fieldPlace (reads .message);
+      headers = fieldNumber (reads .headers);
+    }))
+
+-- Send Headers: the fixed fields, then the headers
+unfoldable pub sendHeadersAt : List ℕ → Entries PacketRead
+sendHeadersAt s = ending (sendHeadersOf (length s) (sendHeadersReads s)) (headersAfter Direction.ToServer s (sendHeadersReads s .headers))

@@ -10,7 +10,8 @@ use Rattle.connection.specs.declared.Kind.{Kind}
 use Rattle.payload.specs.Kinds.{packetAt, packetKind}
 use Rattle.packet.specs.declared.Packet.{Packet}
 use Rattle.payload.specs.declared.found.PacketRead.{PacketRead}
-use Rattle.payload.proofs.Parsed.{forward-places, send-headers-places, parsed-kind}
+use Rattle.payload.proofs.Handed.{forward-places, send-headers-places}
+use Rattle.payload.proofs.Parsed.{parsed-kind}
 use Rattle.reader.specs.Meaning.{placesNeeded}
 
 -- a packet that was read asks for so many places, at most 328

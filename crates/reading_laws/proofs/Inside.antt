@@ -2,38 +2,39 @@
 -- there are at most so many headers, attributes and places.
 -- Assumes nothing.
 use mathlib.Core.Path.{_≡_, refl, sym, subst}
-use mathlib.Core.Bool.{Bool, true, false}
+use mathlib.Core.Bool.{Bool, true}
 use mathlib.Core.List.{List, [], _∷_, _++_}
 use Prim.Native.Nat.{ℕ, _+_, _≤_, _<_}
 use native.Mathlib.Omega.{arith}
 use borrow.Author.Tests.{lt-ltb, leb-true}
-use lib.Dec.{leb, ltb, eqb}
+use lib.Dec.{leb, ltb}
 use lib.ListN.{length}
-use Rattle.wire.specs.Pick.{pick, all}
-use Rattle.wire.specs.Refusal.{outOfRange, tooMany, leftOver}
+use Rattle.wire.specs.Pick.{all}
 use Rattle.packet.specs.declared.Direction.{Direction}
 use Rattle.wire.specs.declared.StringField.{StringField}
+use Rattle.wire.specs.Facts.{StringInside}
+use Rattle.wire.specs.Field.{stringAt, isOptional}
+use Rattle.wire.specs.declared.read.StringRead.{StringRead}
+use Rattle.wire.proofs.Field.{string-inside}
 use Rattle.wire.proofs.Tests.{both-first, both-second}
 use Rattle.headers.specs.declared.length.Declared.{Declared}
-use Rattle.places.specs.Entries.{maxHeaders, maxAttributes}
+use Rattle.places.specs.Entries.{maxAttributes}
 use Rattle.headers.specs.declared.HeadersRead.{HeadersRead}
 use Rattle.headers.proofs.Laws.{headers-within}
 use Rattle.attributes.proofs.Laws.{attributes-inside}
 use Rattle.connection.specs.declared.Kind.{Kind}
-use Rattle.payload.specs.Sequence.{afterCode, stringAfter, booleanAfter, byteAfter, anyIntegerAfter, integerAfter, fieldPlace}
 use Rattle.payload.specs.Lists.{headersAfter, attributesBehind, behindHeaders, listsAt}
-use Rattle.payload.specs.Forward.{firstMethod, lastMethod, forwardOf, forwardAt}
-use Rattle.payload.specs.SendHeaders.{leastStatus, greatestStatus, sendHeadersOf, sendHeadersAt}
+use Rattle.payload.specs.Forward.{forwardAt}
+use Rattle.payload.specs.SendHeaders.{sendHeadersAt}
 use Rattle.payload.specs.Kinds.{packetAt, packetKind}
 use Rattle.payload.specs.declared.field.FieldRead.{FieldRead}
-use Rattle.payload.specs.declared.lists.ListsRead.{ListsRead}
+use Rattle.packet.specs.declared.Forward.{Forward}
 use Rattle.packet.specs.declared.SendHeaders.{SendHeaders}
 use Rattle.packet.specs.declared.Packet.{Packet}
 use Rattle.payload.specs.declared.found.PacketRead.{PacketRead}
-use Rattle.payload.proofs.Fields.{string-after-inside, integer-after-inside}
-use Rattle.payload.specs.Facts.{FieldInside}
-use Rattle.payload.proofs.Laws.{body-inside, chunk-inside}
-use Rattle.payload.proofs.Parsed.{forward-places, send-headers-places, parsed-kind}
+use Rattle.payload.specs.Handed.{StringEnds, StringThere, ForwardHanded, SendHeadersHanded}
+use Rattle.payload.proofs.Handed.{forward-handed, forward-places, head-handed, send-headers-places, body-handed, chunk-handed}
+use Rattle.payload.proofs.Parsed.{parsed-kind}
 use Rattle.reader.specs.Meaning.{headersIn, attributesIn}
 use Rattle.reading_laws.specs.Inside.{AllBelow, FieldsInside, PacketInside}
 
@@ -91,74 +92,24 @@ places-inside Kind.SendHeaders s = headers-below Direction.ToServer s _
 places-inside Kind.BodyChunk s = none-below (length s)
 places-inside Kind.End s = none-below (length s)
 
--- the fields of a packet that is read are inside a packet of `size` bytes
-abbrev FoundInside : ℕ → PacketRead → Type 0
-FoundInside size (PacketRead.Refused n) = Unit
-FoundInside size (PacketRead.Packet packet) = FieldsInside size packet
-
--- a field's place is inside a packet that has a byte, also where it is told as 0 because the field is refused
-place-below : (size : ℕ) (f : FieldRead) → 0 < size → FieldInside size f → fieldPlace f .0 < size
-place-below size (FieldRead.Refused n) some h = some
-place-below size (FieldRead.Field at value next) some h = h .0
-
--- the strings of a Forward, whatever its fields are, if those that are read lie inside
-forward-strings : (s : List ℕ) (method protocol uri addr host name port ssl headers : FieldRead) → FieldInside (length s) protocol
-    → FieldInside (length s) uri → FieldInside (length s) addr → FieldInside (length s) host → FieldInside (length s) name
-    → FieldInside (length s) headers
-    → FoundInside (length s) (forwardOf method protocol uri addr host name port ssl headers (listsAt s headers .end))
-unfolding listsAt headersAfter
-forward-strings s method protocol uri addr host name port ssl (FieldRead.Refused n) h1 h2 h3 h4 h5 h = tt
-forward-strings s method protocol uri addr host name port ssl (FieldRead.Field at value next) h1 h2 h3 h4 h5 h =
-    go (listsAt s (FieldRead.Field at value next) .end)
+-- a string that is read at a place is inside the packet
+string-below : (s : List ℕ) (field : StringField) (at end : ℕ) → StringThere s field at end → at < length s
+string-below s field at end =
+    go (stringAt s at (isOptional field)) (string-inside s at (isOptional field) (stringAt s at (isOptional field)) refl)
   where
-    go : (r : ListsRead) → FoundInside (length s) (forwardOf method protocol uri addr host name port ssl (FieldRead.Field at value next) r)
-    go (ListsRead.Refused n) = tt
-    go (ListsRead.Lists declared attributes) =
-        let some : 0 < length s = omega (arith, h .0) in
-        let in-packet : (f : FieldRead) → FieldInside (length s) f → fieldPlace f .0 < length s = λ f. place-below (length s) f some in
-        (in-packet protocol h1, in-packet uri h2, in-packet addr h3, in-packet host h4, in-packet name h5)
+    go : (r : StringRead) → StringInside (length s) at r → StringEnds end r → at < length s
+    go (StringRead.Refused n) h there = absurd there
+    go (StringRead.Null next) h there = omega (arith, h .0, h .1)
+    go (StringRead.Text start len next) h there = omega (arith, h .0, h .1 .0, h .1 .1)
 
--- so those of a Forward that was read
-forward-in : (s : List ℕ) → FoundInside (length s) (forwardAt s .end)
-unfolding forwardAt
-forward-in s =
-    let method = byteAfter s firstMethod lastMethod outOfRange afterCode in
-    let protocol = stringAfter s StringField.Protocol method in
-    let uri = stringAfter s StringField.ReqUri protocol in
-    let addr = stringAfter s StringField.RemoteAddr uri in
-    let host = stringAfter s StringField.RemoteHost addr in
-    let name = stringAfter s StringField.ServerName host in
-    let port = anyIntegerAfter s name in
-    let ssl = booleanAfter s port in
-    forward-strings s method protocol uri addr host name port ssl (integerAfter s 0 maxHeaders tooMany ssl)
-    (string-after-inside s StringField.Protocol method) (string-after-inside s StringField.ReqUri protocol)
-    (string-after-inside s StringField.RemoteAddr uri) (string-after-inside s StringField.RemoteHost addr)
-    (string-after-inside s StringField.ServerName host) (integer-after-inside s 0 maxHeaders tooMany ssl)
-
--- the string of Send Headers, whatever its fields are, if those that are read lie inside
-head-strings : (s : List ℕ) (status message headers : FieldRead) → FieldInside (length s) message → FieldInside (length s) headers
-    → FoundInside (length s) (sendHeadersOf (length s) status message headers (headersAfter Direction.ToServer s headers .end))
-unfolding headersAfter
-head-strings s status message (FieldRead.Refused n) h1 h = tt
-head-strings s status message (FieldRead.Field at value next) h1 h = go (headersAfter Direction.ToServer s (FieldRead.Field at value next) .end)
-  where
-    by : (t : Bool) (head : SendHeaders) → head .message .0 < length s
-        → FoundInside (length s) (pick t (PacketRead.Packet (Packet.SendHeaders head)) (PacketRead.Refused leftOver))
-    by true head e = e
-    by false head e = tt
-
-    go : (r : HeadersRead) → FoundInside (length s) (sendHeadersOf (length s) status message (FieldRead.Field at value next) r)
-    go (HeadersRead.Refused n) = tt
-    go (HeadersRead.Headers declared end) = by (eqb end (length s)) _ (place-below (length s) message (omega (arith, h .0)) h1)
-
--- so that of a Send Headers that was read
-head-in : (s : List ℕ) → FoundInside (length s) (sendHeadersAt s .end)
-unfolding sendHeadersAt
-head-in s =
-    let status = integerAfter s leastStatus greatestStatus outOfRange afterCode in
-    let message = stringAfter s StringField.Message status in
-    head-strings s status message (integerAfter s 0 maxHeaders tooMany message)
-    (string-after-inside s StringField.Message status) (integer-after-inside s 0 maxHeaders tooMany message)
+-- the strings of a Forward that was read
+forward-in : (s : List ℕ) (f : Forward) (places : List ℕ) → ForwardHanded s f places → FieldsInside (length s) (Packet.Forward f)
+forward-in s f places h =
+    (string-below s StringField.Protocol _ _ (h .protocol-there),
+    string-below s StringField.ReqUri _ _ (h .uri-there),
+    string-below s StringField.RemoteAddr _ _ (h .addr-there),
+    string-below s StringField.RemoteHost _ _ (h .host-there),
+    string-below s StringField.ServerName _ _ (h .name-there))
 
 -- a packet that has no headers and no attributes
 plain-inside : (size : ℕ) (packet : Packet) → headersIn packet ≡ 0 → attributesIn packet ≡ 0 → FieldsInside size packet → PacketInside size packet
@@ -177,24 +128,24 @@ own-inside s Packet.CPong e = plain-inside (length s) Packet.CPong refl refl tt
 own-inside s (Packet.Forward forward) e =
     let f = forward-places s forward e in
     record {
-      fields-in = subst (FoundInside (length s)) e (forward-in s);
+      fields-in = forward-in s forward (forwardAt s .places) (forward-handed s forward e);
       headers-most = f .headers-most;
       attributes-most = f .attributes-most;
       places-most = omega (arith, f .headers-most, f .attributes-most);
     }
 own-inside s (Packet.Body part) e =
-    plain-inside (length s) (Packet.Body part) refl refl (omega (arith, body-inside s (PacketRead.Packet (Packet.Body part)) e))
+    plain-inside (length s) (Packet.Body part) refl refl (omega (arith, body-handed s part e .rest))
 own-inside s (Packet.GetBody asked) e = plain-inside (length s) (Packet.GetBody asked) refl refl tt
 own-inside s (Packet.SendHeaders head) e =
     let f = send-headers-places s head e in
     record {
-      fields-in = subst (FoundInside (length s)) e (head-in s);
+      fields-in = string-below s StringField.Message _ _ (head-handed s head e .message-there);
       headers-most = f .headers-most;
       attributes-most = omega arith;
       places-most = omega (arith, f .headers-most);
     }
 own-inside s (Packet.BodyChunk part) e =
-    plain-inside (length s) (Packet.BodyChunk part) refl refl (omega (arith, chunk-inside s (PacketRead.Packet (Packet.BodyChunk part)) e .1))
+    plain-inside (length s) (Packet.BodyChunk part) refl refl (omega (arith, chunk-handed s part e .rest))
 own-inside s (Packet.End reuse) e = plain-inside (length s) (Packet.End reuse) refl refl tt
 
 -- what is handed out of a packet that was read lies inside it

@@ -4,7 +4,7 @@ use mathlib.Core.Path.{_≡_}
 use borrow.Author.Needs.{needs}
 use Rattle.wire.specs.Bytes.{over}
 use Rattle.payload.specs.declared.lists.ListsRead.{ListsRead}
-use Rattle.payload.specs.Forward.{forwardOf, forwardAt}
+use Rattle.payload.specs.Forward.{ForwardReads, forwardOf, forwardAt}
 use Rattle.payload.proofs.Fields.{string-within, integer-counts}
 use Rattle.payload.proofs.Listing.{forward-is}
 use Rattle.payload.proofs.forward.read.Statement.{statement}
@@ -103,9 +103,18 @@ answer : (c : tie.After-lists) (lists : ListsRead) → c .lists .result ≡ list
     let protocol = uri .before in
     let method = protocol .before in
     let a = method .before .before .before .before .args in
-    (forwardOf (method .byte-after .result) (protocol .string-after .result) (uri .string-after2 .result) (addr .string-after3 .result)
-    (host .string-after4 .result) (name .string-after5 .result) (port .any-integer-after .result) (ssl .boolean-after .result)
-    (headers .integer-after .result) lists ≡ forwardAt (a .packet .now) .end)
+    let reads : ForwardReads = record {
+      method = method .byte-after .result;
+      protocol = protocol .string-after .result;
+      uri = uri .string-after2 .result;
+      addr = addr .string-after3 .result;
+      host = host .string-after4 .result;
+      name = name .string-after5 .result;
+      port = port .any-integer-after .result;
+      ssl = ssl .boolean-after .result;
+      headers = headers .integer-after .result;
+    } in
+    (forwardOf reads lists ≡ forwardAt (a .packet .now) .end)
     × (c .lists .last .1 .1 .0 ≡ over (a .table .now) 0 (forwardAt (a .packet .now) .places))
 answer c lists e =
     let headers = c .before .before in

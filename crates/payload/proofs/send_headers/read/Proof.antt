@@ -6,7 +6,7 @@ use borrow.Author.Needs.{needs}
 use lib.ListN.{length}
 use Rattle.wire.specs.Bytes.{over}
 use Rattle.headers.specs.declared.HeadersRead.{HeadersRead}
-use Rattle.payload.specs.SendHeaders.{sendHeadersOf, sendHeadersAt}
+use Rattle.payload.specs.SendHeaders.{SendHeadersReads, sendHeadersOf, sendHeadersAt}
 use Rattle.payload.proofs.Fields.{string-within, integer-counts}
 use Rattle.payload.proofs.Listing.{send-headers-is}
 use Rattle.payload.proofs.send_headers.read.Statement.{statement}
@@ -58,8 +58,12 @@ answer : (c : tie.After-headers-after) (headers : HeadersRead) → c .headers-af
     let message = count .before in
     let status = message .before in
     let a = status .before .before .before .before .args in
-    (sendHeadersOf (length (a .packet .now)) (status .integer-after .result) (message .string-after .result) (count .integer-after2 .result) headers
-    ≡ sendHeadersAt (a .packet .now) .end)
+    let reads : SendHeadersReads = record {
+      status = status .integer-after .result;
+      message = message .string-after .result;
+      headers = count .integer-after2 .result;
+    } in
+    (sendHeadersOf (length (a .packet .now)) reads headers ≡ sendHeadersAt (a .packet .now) .end)
     × (c .headers-after .last .1 .1 .1 .0 ≡ over (a .table .now) 0 (sendHeadersAt (a .packet .now) .places))
 answer c headers e =
     let count = c .before .before in
