@@ -3,10 +3,10 @@
 -- Assumes nothing.
 use native.Mathlib.Omega.{arith}
 use borrow.Author.Tests.{eq-eqb, ne-eqb, eqb-true, eqb-false, le-leb, leb-true}
-use mathlib.Core.Path.{_≡_, refl, sym}
+use mathlib.Core.Path.{_≡_, refl, sym, ap}
 use mathlib.Core.Bool.{Bool, true, false}
 use mathlib.Core.List.{List, [], _∷_}
-use Prim.Native.Nat.{ℕ, _≤_}
+use Prim.Native.Nat.{ℕ, zero, suc, _≤_}
 use lib.Dec.{leb, eqb}
 use lib.ListN.{length, getD}
 use Rattle.wire.specs.Pick.{pick, both, either}
@@ -49,11 +49,10 @@ module _ (words : List ℕ) where
   unfolding connectionFault
   connection-short h = rw (ne-eqb (length words) connectionSize h)
 
-  pub connection-judged : length words ≡ connectionSize → (state due asked headers : Bool) → leb (word words statePlace) lastState ≡ state → leb (word words duePlace) lastFlag ≡ due
-      → leb (word words askedPlace) lastNumber ≡ asked → leb (word words headersPlace) lastFlag ≡ headers
-      → unless (both (both (both state due) asked) headers) status.connectionWord ≡ connectionFault words
+  pub connection-judged : length words ≡ connectionSize → (fine : Bool) → areConnection words ≡ fine
+      → unless fine status.connectionWord ≡ connectionFault words
   unfolding connectionFault
-  connection-judged h state due asked headers p q r s = rw (eq-eqb (length words) connectionSize h, p, q, r, s)
+  connection-judged h fine e = rw (eq-eqb (length words) connectionSize h, e)
 
   -- of a building record's
   pub building-short : (length words ≡ buildingSize → ⊥) → status.buildingLength ≡ buildingFault words
@@ -196,16 +195,16 @@ kind-forth n h = go (eqb n (kindWord Kind.Forward)) (eqb n (kindWord Kind.SendHe
     go false true p q e = sym (eqb-true n (kindWord Kind.SendHeaders) q)
     go false false p q e = absurd (let z : _≡_ {A = ℕ} 0 1 = cc in omega arith)
 
--- five words, one by one
-five : (words : List ℕ) → length words ≡ 5
-    → words ≡ getD words 0 0 ∷ getD words 1 0 ∷ getD words 2 0 ∷ getD words 3 0 ∷ getD words 4 0 ∷ []
-five [] e = absurd (omega (arith, e))
-five (a ∷ []) e = absurd (omega (arith, e))
-five (a ∷ b ∷ []) e = absurd (omega (arith, e))
-five (a ∷ b ∷ c ∷ []) e = absurd (omega (arith, e))
-five (a ∷ b ∷ c ∷ d ∷ []) e = absurd (omega (arith, e))
-five (a ∷ b ∷ c ∷ d ∷ f ∷ []) e = refl
-five (a ∷ b ∷ c ∷ d ∷ f ∷ g ∷ l) e = absurd (omega (arith, e))
+-- so many words, one by one
+abbrev entries : (ℕ → ℕ) → ℕ → List ℕ
+entries at zero = []
+entries at (suc n) = at 0 ∷ entries (λ i. at (suc i)) n
+
+all-entries : (words : List ℕ) (n : ℕ) → length words ≡ n → words ≡ entries (λ i. getD words i 0) n
+all-entries [] zero e = refl
+all-entries [] (suc n) e = absurd (omega (arith, e))
+all-entries (a ∷ l) zero e = absurd (omega (arith, e))
+all-entries (a ∷ l) (suc n) e = ap (λ (r : List ℕ). a ∷ r) (all-entries l n (omega (arith, e)))
 
 -- words without fault are those of the connection that they say
 pub connection-forth : (words : List ℕ) → connectionFault words ≡ 0 → connectionWords (connectionIn words) ≡ words
@@ -214,7 +213,7 @@ connection-forth words h =
     let none = connection-none words h in
     let tests = connectionTests words (none .1) in
     rw (state-forth (word words statePlace) (leb-true _ lastState (tests .0)), flag-forth (word words duePlace) (leb-true _ lastFlag (tests .1 .0)), flag-forth (word words headersPlace) (leb-true _ lastFlag (tests .1 .1 .1)))
-    (sym (five words (none .0)))
+    (sym (all-entries words connectionSize (none .0)))
 
 -- and so it is with a building record
 pub building-forth : (words : List ℕ) → buildingFault words ≡ 0 → buildingWords (buildingIn words) ≡ words
@@ -223,4 +222,4 @@ building-forth words h =
     let none = building-none words h in
     let tests = buildingTests words (none .1) in
     rw (kind-forth (word words kindPlace) (tests .0), flag-forth (word words attributesPlace) (leb-true _ lastFlag (tests .1 .1 .1 .1)))
-    (sym (five words (none .0)))
+    (sym (all-entries words buildingSize (none .0)))

@@ -97,12 +97,10 @@ connectionFault words =
 -- the connection that words are, and a connection's words
 unfoldable pub connectionIn : List ℕ → Connection
 connectionIn words =
-    connection.connectionFields
-    (stateIn (word words statePlace))
-    (word words leftPlace)
-    (flagIn (word words duePlace))
-    (word words askedPlace)
-    (flagIn (word words headersPlace))
+    connection.withHeaders (flagIn (word words headersPlace))
+    (connection.withDue (flagIn (word words duePlace)) (word words askedPlace)
+    (connection.withLeft (word words leftPlace)
+    (connection.rest (stateIn (word words statePlace)))))
 
 unfoldable pub connectionWords : Connection → List ℕ
 connectionWords c = stateWord (c .state) ∷ c .left .0 ∷ booleanNumber (c .due) ∷ c .asked ∷ booleanNumber (c .headers) ∷ []

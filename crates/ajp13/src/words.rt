@@ -199,13 +199,10 @@ pub fn connection_in(words: &[u32]) -> Connection
     requires { ⌜ ConnectionFits (now words) ⌝ }
     ensures { λ r. ⌜ r ≡ connectionIn (now (words .entry)) ⌝ }
 {
-    Connection::with_fields(
-        state_in(words[STATE]),
-        BodyLeft(words[LEFT]),
-        flag_in(words[DUE]),
-        number_in(words[ASKED]),
-        flag_in(words[HEADERS_SENT]),
-    )
+    Connection::rest(state_in(words[STATE]))
+        .with_left(BodyLeft(words[LEFT]))
+        .with_due(flag_in(words[DUE]), number_in(words[ASKED]))
+        .with_headers(flag_in(words[HEADERS_SENT]))
 }
 
 // The words of a connection.

@@ -7,7 +7,7 @@ use mathlib.Core.Bool.{Bool, true, false, not, false≢true}
 use Prim.Native.Nat.{ℕ, _≤_}
 use native.Mathlib.Omega.{arith}
 use borrow.Author.Tests.{eqb-true, leb-true}
-use lib.Dec.{eqb, leb}
+use lib.Dec.{eqb, leb, ltb}
 use Rattle.wire.specs.Pick.{pick, both}
 use Rattle.wire.specs.Refusal.{none, notNow, bodySizeWrong}
 use Rattle.packet.specs.declared.Direction.{Direction}
@@ -17,7 +17,7 @@ use Rattle.connection.specs.declared.Connection.{Connection}
 use Rattle.connection.specs.declared.Kind.{Kind}
 use Rattle.connection.specs.declared.Move.{Move}
 use Rattle.connection.specs.declared.Step.{Step}
-use Rattle.connection.specs.Connection.{maxBody, isIdle, isPinged, isBusy, connectionFields, rest, busy, counted, bodyDue}
+use Rattle.connection.specs.Connection.{maxBody, isIdle, isPinged, isBusy, rest, withLeft, withDue, withHeaders, busy, tidy, bodyDue}
 use Rattle.connection.specs.Cycle.{moveKind, directionOf, inState, largestBody, sizeAllowed, inSize, allowed, after, stepOf, numberIn, connectionAfterStep}
 use Rattle.connection.specs.Facts.{Commuting, BodyWithin, Ignored}
 use Rattle.connection.proofs.Laws.{largest-by, step-by}
@@ -34,7 +34,7 @@ pub idle-mute : (c : Connection) (n : Move) → directionOf (moveKind n) ≡ Dir
     → allowed c n ≡ false
 idle-mute c Move.CPing q e = wrong-way (sym q)
 idle-mute c Move.CPong q e = rw e
-idle-mute c (Move.Forward n) q e = wrong-way (sym q)
+idle-mute c (Move.Forward f) q e = wrong-way (sym q)
 idle-mute c (Move.Body k) q e = wrong-way (sym q)
 idle-mute c (Move.GetBody r) q e = rw e
 idle-mute c Move.SendHeaders q e = rw e
@@ -45,7 +45,7 @@ idle-mute c (Move.End reuse) q e = rw e
 pub server-not-idle : (c : Connection) (m : Move) → directionOf (moveKind m) ≡ Direction.ToContainer → after c m .state ≡ State.Idle → ⊥
 server-not-idle c Move.CPing p e = never (ap isIdle e)
 server-not-idle c Move.CPong p e = wrong-way p
-server-not-idle c (Move.Forward n) p e = never (ap isIdle e)
+server-not-idle c (Move.Forward f) p e = never (ap isIdle e)
 server-not-idle c (Move.Body k) p e = never (ap isIdle e)
 server-not-idle c (Move.GetBody r) p e = wrong-way p
 server-not-idle c Move.SendHeaders p e = wrong-way p
@@ -64,32 +64,37 @@ from-idle : (c : Connection) (m n : Move) → directionOf (moveKind n) ≡ Direc
 from-idle c m n q f g =
     never (sym (idle-mute c n q (is-idle (c .state) (both-first (isIdle (c .state)) true f))) ∙ g)
 
--- the server's move of Busy, a body packet, by the connectionFields of the connection, so that each row of the table computes
-from-busy : (s : State) (l : ℕ) (d : Bool) (a : ℕ) (h : Bool) (k : ℕ) (n : Move) → directionOf (moveKind n) ≡ Direction.ToServer
-    → allowed (connectionFields s l d a h) (Move.Body k) ≡ true → allowed (connectionFields s l d a h) n ≡ true → Commuting (connectionFields s l d a h) (Move.Body k) n
+-- a record with this state and these answers to whether a body packet is due and headers were sent. With a record's own it is that record,
+-- so that a law goes by their values and each row of the table computes.
+abbrev at : State → Bool → Bool → Connection → Connection
+at s d h c = record { state = s; due = d; headers = h; asked = c .asked; left = c .left }
+
+-- the server's move of Busy, a body packet
+from-busy : (s : State) (d h : Bool) (c : Connection) (k : ℕ) (n : Move) → directionOf (moveKind n) ≡ Direction.ToServer
+    → allowed (at s d h c) (Move.Body k) ≡ true → allowed (at s d h c) n ≡ true → Commuting (at s d h c) (Move.Body k) n
 unfolding largestBody
-from-busy State.Busy l true a false k Move.SendHeaders q f g = record { first-then = refl; second-then = f; meets = refl }
-from-busy State.Busy l true a true k (Move.BodyChunk j) q f g = record { first-then = refl; second-then = f; meets = refl }
-from-busy State.Busy l true a true k Move.SendHeaders q f g = never g
-from-busy State.Busy l true a false k (Move.BodyChunk j) q f g = never g
-from-busy State.Busy l true a h k (Move.GetBody r) q f g = never g
-from-busy State.Busy l true a true k (Move.End reuse) q f g = never g
-from-busy State.Busy l true a false k (Move.End reuse) q f g = never g
-from-busy State.Busy l true a h k Move.CPong q f g = never g
-from-busy State.Busy l true a h k Move.CPing q f g = wrong-way (sym q)
-from-busy State.Busy l true a h k (Move.Forward j) q f g = wrong-way (sym q)
-from-busy State.Busy l true a h k (Move.Body j) q f g = wrong-way (sym q)
-from-busy State.Busy l false a h k n q f g = never f
-from-busy State.Idle l d a h k n q f g = never f
-from-busy State.Pinged l d a h k n q f g = never f
-from-busy State.Closed l d a h k n q f g = never f
+from-busy State.Busy true false c k Move.SendHeaders q f g = record { first-then = refl; second-then = f; meets = refl }
+from-busy State.Busy true true c k (Move.BodyChunk j) q f g = record { first-then = refl; second-then = f; meets = refl }
+from-busy State.Busy true true c k Move.SendHeaders q f g = never g
+from-busy State.Busy true false c k (Move.BodyChunk j) q f g = never g
+from-busy State.Busy true h c k (Move.GetBody r) q f g = never g
+from-busy State.Busy true true c k (Move.End reuse) q f g = never g
+from-busy State.Busy true false c k (Move.End reuse) q f g = never g
+from-busy State.Busy true h c k Move.CPong q f g = never g
+from-busy State.Busy true h c k Move.CPing q f g = wrong-way (sym q)
+from-busy State.Busy true h c k (Move.Forward j) q f g = wrong-way (sym q)
+from-busy State.Busy true h c k (Move.Body j) q f g = wrong-way (sym q)
+from-busy State.Busy false h c k n q f g = never f
+from-busy State.Idle d h c k n q f g = never f
+from-busy State.Pinged d h c k n q f g = never f
+from-busy State.Closed d h c k n q f g = never f
 
 -- a server's move and a container's move that are both allowed may be made in either order
 pub commute : (c : Connection) (m n : Move) → directionOf (moveKind m) ≡ Direction.ToContainer → directionOf (moveKind n) ≡ Direction.ToServer
     → allowed c m ≡ true → allowed c n ≡ true → Commuting c m n
 commute c Move.CPing n p q f g = from-idle c Move.CPing n q f g
 commute c (Move.Forward k) n p q f g = from-idle c (Move.Forward k) n q f g
-commute c (Move.Body k) n p q f g = from-busy (c .state) (c .left .0) (c .due) (c .asked) (c .headers) k n q f g
+commute c (Move.Body k) n p q f g = from-busy (c .state) (c .due) (c .headers) c k n q f g
 commute c Move.CPong n p q f g = wrong-way p
 commute c (Move.GetBody r) n p q f g = wrong-way p
 commute c Move.SendHeaders n p q f g = wrong-way p
@@ -116,58 +121,57 @@ body-within c k f =
     }
 
 -- what was asked, kept where a body packet is due, is kept so a second time
-busy-twice : (l : ℕ) (d : Bool) (a : ℕ) (h : Bool) → busy l d (pick d a 0) h ≡ busy l d a h
-busy-twice l true a h = refl
-busy-twice l false a h = refl
+busy-twice : (c : Connection) → busy (busy c) ≡ busy c
+busy-twice c = go (c .due)
+  where
+    go : (d : Bool) → busy (busy (at (c .state) d (c .headers) c)) ≡ busy (at (c .state) d (c .headers) c)
+    go true = refl
+    go false = refl
 
 -- after a move nothing is left in what does not count
-pub settled : (c : Connection) (m : Move) → after c m ≡ counted (after c m)
+pub settled : (c : Connection) (m : Move) → after c m ≡ tidy (after c m)
 settled c Move.CPing = refl
 settled c Move.CPong = refl
-settled c (Move.Forward n) = sym (busy-twice _ _ _ _)
+settled c (Move.Forward f) = sym (busy-twice (withDue (ltb 0 (f .declared .0)) maxBody (withLeft (f .declared .0) (rest State.Busy))))
 settled c (Move.Body k) = refl
 settled c (Move.GetBody r) = refl
-settled c Move.SendHeaders = sym (busy-twice _ _ _ _)
-settled c (Move.BodyChunk k) = sym (busy-twice _ _ _ _)
+settled c Move.SendHeaders = sym (busy-twice (withHeaders true c))
+settled c (Move.BodyChunk k) = sym (busy-twice c)
 settled c (Move.End true) = refl
 settled c (Move.End false) = refl
 
--- a record and what counts of it have the same state, and in Busy the same answer to any test of due and headers
-same-state : (s : State) (l : ℕ) (d : Bool) (a : ℕ) (h : Bool) → counted (connectionFields s l d a h) .state ≡ s
-same-state State.Idle l d a h = refl
-same-state State.Pinged l d a h = refl
-same-state State.Busy l d a h = refl
-same-state State.Closed l d a h = refl
+-- a record and what counts of it have the same state, in Busy the same answer to any test of due and headers, and the same most that may
+-- come
+same-state : (s : State) (c : Connection) → tidy (at s (c .due) (c .headers) c) .state ≡ s
+same-state State.Idle c = refl
+same-state State.Pinged c = refl
+same-state State.Busy c = refl
+same-state State.Closed c = refl
 
-same-test : (test : Bool → Bool → Bool) (s : State) (l : ℕ) (d : Bool) (a : ℕ) (h : Bool)
-    → both (isBusy (counted (connectionFields s l d a h) .state)) (test (counted (connectionFields s l d a h) .due) (counted (connectionFields s l d a h) .headers))
-    ≡ both (isBusy s) (test d h)
-same-test test State.Idle l d a h = refl
-same-test test State.Pinged l d a h = refl
-same-test test State.Busy l d a h = refl
-same-test test State.Closed l d a h = refl
+same-test : (test : Bool → Bool → Bool) (s : State) (c : Connection) → let d = at s (c .due) (c .headers) c in
+    both (isBusy (tidy d .state)) (test (tidy d .due) (tidy d .headers)) ≡ both (isBusy s) (test (c .due) (c .headers))
+same-test test State.Idle c = refl
+same-test test State.Pinged c = refl
+same-test test State.Busy c = refl
+same-test test State.Closed c = refl
 
--- and the same most that may come
-same-largest : (s : State) (l : ℕ) (d : Bool) (a : ℕ) (h : Bool) → largestBody (counted (connectionFields s l d a h)) ≡ largestBody (connectionFields s l d a h)
+same-largest : (s : State) (d : Bool) (c : Connection) → largestBody (tidy (at s d (c .headers) c)) ≡ largestBody (at s d (c .headers) c)
 unfolding largestBody
-same-largest State.Idle l d a h = refl
-same-largest State.Pinged l d a h = refl
-same-largest State.Busy l true a h = refl
-same-largest State.Busy l false a h = refl
-same-largest State.Closed l d a h = refl
+same-largest State.Idle d c = refl
+same-largest State.Pinged d c = refl
+same-largest State.Busy true c = refl
+same-largest State.Busy false c = refl
+same-largest State.Closed d c = refl
 
 module _ (c : Connection) where
-  state-kept : counted c .state ≡ c .state
-  state-kept = same-state (c .state) (c .left .0) (c .due) (c .asked) (c .headers)
+  state-kept : tidy c .state ≡ c .state
+  state-kept = same-state (c .state) c
 
   test-kept : (test : Bool → Bool → Bool)
-      → both (isBusy (counted c .state)) (test (counted c .due) (counted c .headers)) ≡ both (isBusy (c .state)) (test (c .due) (c .headers))
-  test-kept test = same-test test (c .state) (c .left .0) (c .due) (c .asked) (c .headers)
+      → both (isBusy (tidy c .state)) (test (tidy c .due) (tidy c .headers)) ≡ both (isBusy (c .state)) (test (c .due) (c .headers))
+  test-kept test = same-test test (c .state) c
 
-  largest-kept : largestBody (counted c) ≡ largestBody c
-  largest-kept = same-largest (c .state) (c .left .0) (c .due) (c .asked) (c .headers)
-
-  ignored-state : (k : Kind) → inState (counted c) k ≡ inState c k
+  ignored-state : (k : Kind) → inState (tidy c) k ≡ inState c k
   ignored-state Kind.CPing = ap isIdle state-kept
   ignored-state Kind.CPong = ap isPinged state-kept
   ignored-state Kind.Forward = ap isIdle state-kept
@@ -177,35 +181,31 @@ module _ (c : Connection) where
   ignored-state Kind.BodyChunk = test-kept (λ d h. h)
   ignored-state Kind.End = test-kept (λ d h. both h (not d))
 
-  ignored-size : (m : Move) → inSize (counted c) m ≡ inSize c m
+  ignored-size : (m : Move) → inSize (tidy c) m ≡ inSize c m
   ignored-size Move.CPing = refl
   ignored-size Move.CPong = refl
-  ignored-size (Move.Forward n) = refl
-  ignored-size (Move.Body k) = ap (λ (n : ℕ). sizeAllowed n k) largest-kept
+  ignored-size (Move.Forward f) = refl
+  ignored-size (Move.Body k) = ap (λ (n : ℕ). sizeAllowed n k) (same-largest (c .state) (c .due) c)
   ignored-size (Move.GetBody r) = refl
   ignored-size Move.SendHeaders = refl
   ignored-size (Move.BodyChunk k) = refl
   ignored-size (Move.End reuse) = refl
 
-  -- what counts of a record in Busy
-  abbrev tidy : Connection
-  tidy = busy (c .left .0) (c .due) (c .asked) (c .headers)
-
   -- a move that is allowed in Busy alone
-  in-busy : (m : Move) (test size : Bool) → both (both (isBusy (c .state)) test) size ≡ true → after tidy m ≡ after c m
-      → after (counted c) m ≡ after c m
+  in-busy : (m : Move) (test size : Bool) → both (both (isBusy (c .state)) test) size ≡ true → after (busy c) m ≡ after c m
+      → after (tidy c) m ≡ after c m
   in-busy m test size f e =
       let b : isBusy (c .state) ≡ true = both-first (isBusy (c .state)) test (both-first (both (isBusy (c .state)) test) size f) in
-      ap (λ (t : Bool). after (pick t tidy (rest (c .state))) m) b ∙ e
+      ap (λ (t : Bool). after (pick t (busy c) (rest (c .state))) m) b ∙ e
 
-  ignored-after : (m : Move) → allowed c m ≡ true → after (counted c) m ≡ after c m
+  ignored-after : (m : Move) → allowed c m ≡ true → after (tidy c) m ≡ after c m
   ignored-after Move.CPing f = refl
   ignored-after Move.CPong f = refl
   ignored-after (Move.Forward n) f = refl
   ignored-after (Move.Body k) f = in-busy (Move.Body k) (c .due) (inSize c (Move.Body k)) f refl
   ignored-after (Move.GetBody r) f = in-busy (Move.GetBody r) (not (c .due)) true f refl
-  ignored-after Move.SendHeaders f = in-busy Move.SendHeaders (not (c .headers)) true f (busy-twice _ _ _ _)
-  ignored-after (Move.BodyChunk k) f = in-busy (Move.BodyChunk k) (c .headers) true f (busy-twice _ _ _ _)
+  ignored-after Move.SendHeaders f = in-busy Move.SendHeaders (not (c .headers)) true f (busy-twice (withHeaders true c))
+  ignored-after (Move.BodyChunk k) f = in-busy (Move.BodyChunk k) (c .headers) true f (busy-twice c)
   ignored-after (Move.End reuse) f = refl
 
 -- a step by what the state and the size say, whose connection matters only where both allow the move
@@ -218,13 +218,13 @@ next-same false b x y e = refl
 
 pub ignored : (c : Connection) (m : Move) → Ignored c m
 ignored c m =
-    let state : inState (counted c) (moveKind m) ≡ inState c (moveKind m) = ignored-state c (moveKind m) in
-    let size : inSize (counted c) m ≡ inSize c m = ignored-size c m in
+    let state : inState (tidy c) (moveKind m) ≡ inState c (moveKind m) = ignored-state c (moveKind m) in
+    let size : inSize (tidy c) m ≡ inSize c m = ignored-size c m in
     record {
       allows = rw (state, size);
       goes = ignored-after c m;
-      steps = step-by (counted c) m (inState c (moveKind m)) (inSize c m) state size
-          ∙ next-same (inState c (moveKind m)) (inSize c m) (after (counted c) m) (after c m) (ignored-after c m)
+      steps = step-by (tidy c) m (inState c (moveKind m)) (inSize c m) state size
+          ∙ next-same (inState c (moveKind m)) (inSize c m) (after (tidy c) m) (after c m) (ignored-after c m)
           ∙ sym (step-by c m (inState c (moveKind m)) (inSize c m) refl refl);
     }
 

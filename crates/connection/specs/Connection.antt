@@ -36,21 +36,29 @@ isBusy State.Pinged = false
 isBusy State.Busy = true
 isBusy State.Closed = false
 
--- a record's connectionFields as they stand: state, bytes of body left, body packet due, bytes asked for, headers sent
-abbrev pub connectionFields : State → ℕ → Bool → ℕ → Bool → Connection
-connectionFields state left due asked headers = record { state = state; left = record { 0 = left }; due = due; asked = asked; headers = headers }
-
 -- outside Busy nothing but the state counts: the rest is 0
 abbrev pub rest : State → Connection
-rest state = connectionFields state 0 false 0 false
+rest state = record { state = state; due = false; headers = false; asked = 0; left = record { 0 = 0 } }
 
--- in Busy the others count, and what was asked only where a body packet is due
-abbrev pub busy : ℕ → Bool → ℕ → Bool → Connection
-busy left due asked headers = connectionFields State.Busy left due (pick due asked 0) headers
+-- a record with another number of bytes of body left
+abbrev pub withLeft : ℕ → Connection → Connection
+withLeft left c = record { state = c .state; due = c .due; headers = c .headers; asked = c .asked; left = record { 0 = left } }
+
+-- with another answer to whether a body packet is due, and to how many bytes were asked for
+abbrev pub withDue : Bool → ℕ → Connection → Connection
+withDue due asked c = record { state = c .state; due = due; headers = c .headers; asked = asked; left = c .left }
+
+-- with another answer to whether headers were sent
+abbrev pub withHeaders : Bool → Connection → Connection
+withHeaders headers c = record { state = c .state; due = c .due; headers = headers; asked = c .asked; left = c .left }
+
+-- in Busy all counts, and what was asked only where a body packet is due
+abbrev pub busy : Connection → Connection
+busy c = record { state = State.Busy; due = c .due; headers = c .headers; asked = pick (c .due) (c .asked) 0; left = c .left }
 
 -- what counts of a record
-abbrev pub counted : Connection → Connection
-counted c = pick (isBusy (c .state)) (busy (c .left .0) (c .due) (c .asked) (c .headers)) (rest (c .state))
+abbrev pub tidy : Connection → Connection
+tidy c = pick (isBusy (c .state)) (busy c) (rest (c .state))
 
 -- a connection made new is Idle, whichever end holds it
 abbrev pub fresh : Connection

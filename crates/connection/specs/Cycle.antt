@@ -13,13 +13,13 @@ use Rattle.connection.specs.declared.Connection.{Connection}
 use Rattle.connection.specs.declared.Kind.{Kind}
 use Rattle.connection.specs.declared.Move.{Move}
 use Rattle.connection.specs.declared.Step.{Step}
-use Rattle.connection.specs.Connection.{maxBody, isIdle, isPinged, isBusy, rest, busy, bodyDue}
+use Rattle.connection.specs.Connection.{maxBody, isIdle, isPinged, isBusy, rest, withLeft, withDue, withHeaders, busy, bodyDue}
 
 -- the kind of packet that makes a move
 abbrev pub moveKind : Move → Kind
 moveKind Move.CPing = Kind.CPing
 moveKind Move.CPong = Kind.CPong
-moveKind (Move.Forward n) = Kind.Forward
+moveKind (Move.Forward f) = Kind.Forward
 moveKind (Move.Body k) = Kind.Body
 moveKind (Move.GetBody r) = Kind.GetBody
 moveKind Move.SendHeaders = Kind.SendHeaders
@@ -61,7 +61,7 @@ sizeAllowed most k = pick (eqb most 0) (eqb k 0) (between 1 most k)
 abbrev pub inSize : Connection → Move → Bool
 inSize c Move.CPing = true
 inSize c Move.CPong = true
-inSize c (Move.Forward n) = true
+inSize c (Move.Forward f) = true
 inSize c (Move.Body k) = sizeAllowed (largestBody c) k
 inSize c (Move.GetBody r) = true
 inSize c Move.SendHeaders = true
@@ -76,11 +76,11 @@ allowed c m = both (inState c (moveKind m)) (inSize c m)
 abbrev pub after : Connection → Move → Connection
 after c Move.CPing = rest State.Pinged
 after c Move.CPong = rest State.Idle
-after c (Move.Forward n) = busy (n .0) (ltb 0 (n .0)) maxBody false
-after c (Move.Body k) = busy (c .left .0 - k) false 0 (c .headers)
-after c (Move.GetBody r) = busy (c .left .0) true r (c .headers)
-after c Move.SendHeaders = busy (c .left .0) (c .due) (c .asked) true
-after c (Move.BodyChunk k) = busy (c .left .0) (c .due) (c .asked) (c .headers)
+after c (Move.Forward f) = busy (withDue (ltb 0 (f .declared .0)) maxBody (withLeft (f .declared .0) (rest State.Busy)))
+after c (Move.Body k) = busy (withDue false 0 (withLeft (c .left .0 - k) c))
+after c (Move.GetBody r) = busy (withDue true r c)
+after c Move.SendHeaders = busy (withHeaders true c)
+after c (Move.BodyChunk k) = busy c
 after c (Move.End reuse) = rest (pick reuse State.Idle State.Closed)
 
 -- a move: refused with its number, or the connection after it

@@ -5,7 +5,7 @@ use mathlib.Core.Bool.{true}
 use Prim.Native.Nat.{ℕ, _≤_}
 use Rattle.connection.specs.declared.Connection.{Connection}
 use Rattle.connection.specs.declared.Move.{Move}
-use Rattle.connection.specs.Connection.{maxBody, counted}
+use Rattle.connection.specs.Connection.{maxBody, tidy}
 use Rattle.connection.specs.Cycle.{largestBody, allowed, after, stepOf}
 
 -- two moves that a connection allows both may be made in either order, and come to the same
@@ -22,6 +22,6 @@ pub record BodyWithin (c : Connection) (k : ℕ) : Type 0 where
 
 -- what does not count is not looked at. Where a move is not allowed, `after` may tell the two records apart; a step does not.
 pub record Ignored (c : Connection) (m : Move) : Type 0 where
-  pub allows : allowed (counted c) m ≡ allowed c m
-  pub goes : allowed c m ≡ true → after (counted c) m ≡ after c m
-  pub steps : stepOf (counted c) m ≡ stepOf c m
+  pub allows : allowed (tidy c) m ≡ allowed c m
+  pub goes : allowed c m ≡ true → after (tidy c) m ≡ after c m
+  pub steps : stepOf (tidy c) m ≡ stepOf c m

@@ -1,8 +1,8 @@
 // One end's connection, and the cycle that every packet steps it through. It does not know which end holds it.
 // This crate alone makes a connection record or takes one apart. No call has a condition: any record gets an answer.
 ghost use mathlib.Core.Path.{_≡_};
-ghost use Rattle.connection.specs.Connection.{maxPacket, maxPayload, fresh, connectionFields, rest, busy, isIdle, isPinged, isBusy, bodyDue};
-ghost use Rattle.connection.specs.Cycle.{moveKind, directionOf, inState, largestBody, sizeAllowed, stepOf};
+ghost use Rattle.connection.specs.Connection.{maxPacket, maxPayload, fresh, rest, withLeft, withDue, withHeaders, busy, isIdle, isPinged, isBusy, bodyDue};
+ghost use Rattle.connection.specs.Cycle.{moveKind, directionOf, inState, largestBody, sizeAllowed, after, stepOf};
 ghost use Rattle.wire.specs.Refusal.{notNow};
 ghost use Prim.Native.Nat.{_-_};
 ghost use lib.Dec.{leb};
@@ -41,11 +41,16 @@ pub enum Kind {
     End,
 }
 
-// A packet, as far as the cycle goes: what was declared, how many bytes, how many asked for, whether the connection is kept.
+// A Forward, as far as the cycle goes: the length of body that it declares.
+pub struct ForwardMove {
+    pub declared: BodyLeft,
+}
+
+// A packet, as far as the cycle goes: how many bytes, how many asked for, whether the connection is kept.
 pub enum Move {
     CPing,
     CPong,
-    Forward(BodyLeft),
+    Forward(ForwardMove),
     Body(usize),
     GetBody(u16),
     SendHeaders,
@@ -142,7 +147,7 @@ impl Connection {
     pub fn fresh() -> Connection
         ensures { λ r. ⌜ r ≡ fresh ⌝ }
     {
-        Self::bare(State::Idle)
+        Self::rest(State::Idle)
     }
 
     // Whether a payload of so many bytes fits a packet, else it is refused with 2.
@@ -159,23 +164,42 @@ impl Connection {
         size <= Self::MAX_PACKET
     }
 
-    // A connection with these fields as they stand, whether they count or not.
-    pub fn with_fields(
-        state: State,
-        left: BodyLeft,
-        due: bool,
-        asked: u16,
-        headers: bool,
-    ) -> Connection
-        ensures { λ r. ⌜ r ≡ connectionFields state (left .0) due asked headers ⌝ }
+    // A connection of which only the state counts; all else is 0.
+    pub fn rest(state: State) -> Connection
+        ensures { λ r. ⌜ r ≡ rest state ⌝ }
     {
         Connection {
             state,
-            left,
-            due,
-            asked,
-            headers,
+            due: false,
+            headers: false,
+            asked: 0,
+            left: BodyLeft(0),
         }
+    }
+
+    // The record with so many bytes of body left, whether that counts or not; all else stays.
+    pub fn with_left(mut self, left: BodyLeft) -> Connection
+        ensures { λ r. ⌜ r ≡ withLeft (left .0) self ⌝ }
+    {
+        self.left = left;
+        self
+    }
+
+    // With whether a body packet is due and how many bytes were asked for, in the same way.
+    pub fn with_due(mut self, due: bool, asked: u16) -> Connection
+        ensures { λ r. ⌜ r ≡ withDue due asked self ⌝ }
+    {
+        self.due = due;
+        self.asked = asked;
+        self
+    }
+
+    // With whether the response's headers were sent.
+    pub fn with_headers(mut self, headers: bool) -> Connection
+        ensures { λ r. ⌜ r ≡ withHeaders headers self ⌝ }
+    {
+        self.headers = headers;
+        self
     }
 
     pub fn state(self) -> State
@@ -212,27 +236,22 @@ impl Connection {
         self.headers
     }
 
-    // A connection of which only the state counts.
-    fn bare(state: State) -> Connection
-        ensures { λ r. ⌜ r ≡ rest state ⌝ }
+    // The record in Busy; what was asked is kept only where a body packet is due.
+    fn busy(self) -> Connection
+        ensures { λ r. ⌜ r ≡ busy self ⌝ }
     {
+        let left = self.left;
+        let mut asked = self.asked;
+        if !self.due {
+            asked = 0;
+        }
         Connection {
-            state,
-            left: BodyLeft(0),
-            due: false,
-            asked: 0,
-            headers: false,
+            state: State::Busy,
+            due: self.due,
+            headers: self.headers,
+            asked,
+            left,
         }
-    }
-
-    // A connection in Busy; what was asked is kept only where a body packet is due.
-    fn busy(left: BodyLeft, due: bool, asked: u16, headers: bool) -> Connection
-        ensures { λ r. ⌜ r ≡ busy (left .0) due asked headers ⌝ }
-    {
-        if due {
-            return Self::with_fields(State::Busy, left, true, asked, headers);
-        }
-        Self::with_fields(State::Busy, left, false, 0, headers)
     }
 
     // Whether a body packet is due: the container's end reads the next packet as one exactly then.
@@ -286,21 +305,17 @@ impl Connection {
     pub fn step(self, m: Move) -> Step
         ensures { λ r. ⌜ r ≡ stepOf self m ⌝ }
     {
-        let left = self.left;
         match m {
-            Move::CPing => self.step_any_size(Kind::CPing, Self::bare(State::Pinged)),
-            Move::CPong => self.step_any_size(Kind::CPong, Self::bare(State::Idle)),
-            Move::Forward(n) => {
-                let after = Self::busy(n, 0 < n.0, Self::MAX_BODY, false);
-                self.step_any_size(Kind::Forward, after)
-            }
+            Move::CPing => self.step_any_size(Kind::CPing, Self::rest(State::Pinged)),
+            Move::CPong => self.step_any_size(Kind::CPong, Self::rest(State::Idle)),
+            Move::Forward(f) => self.step_any_size(Kind::Forward, Self::forwarded(f)),
             Move::Body(k) => self.step_body(k),
             Move::GetBody(r) => {
-                let after = Self::busy(left, true, r, self.headers);
+                let after = self.with_due(true, r).busy();
                 self.step_any_size(Kind::GetBody, after)
             }
             Move::SendHeaders => {
-                let after = Self::busy(left, self.due, self.asked, true);
+                let after = self.with_headers(true).busy();
                 self.step_any_size(Kind::SendHeaders, after)
             }
             Move::BodyChunk(k) => self.step_body_chunk(k),
@@ -319,16 +334,14 @@ impl Connection {
         if !is_size_allowed(self.largest_body(), k) {
             return Step::Refused(refusal::BODY_SIZE_WRONG);
         }
-        Step::Next(Self::busy(left.less(k), false, 0, self.headers))
+        Step::Next(self.with_left(left.less(k)).with_due(false, 0).busy())
     }
 
     // A Send Body Chunk of k bytes, in the same way; it may have any size.
     pub fn step_body_chunk(self, k: usize) -> Step
         ensures { λ r. ⌜ r ≡ stepOf self (Move.BodyChunk k) ⌝ }
     {
-        let left = self.left;
-        let after = Self::busy(left, self.due, self.asked, self.headers);
-        self.step_any_size(Kind::BodyChunk, after)
+        self.step_any_size(Kind::BodyChunk, self.busy())
     }
 
     // A packet of a kind that may have any size: refused with 13, or the connection that it makes.
@@ -341,14 +354,25 @@ impl Connection {
         Step::Next(after)
     }
 
+    // The connection after a Forward: in Busy, with a body packet due where the Forward declares one.
+    fn forwarded(f: ForwardMove) -> Connection
+        ensures { λ r. ⌜ r ≡ after fresh (Move.Forward f) ⌝ }
+    {
+        let left = f.declared;
+        Self::rest(State::Busy)
+            .with_left(left)
+            .with_due(0 < left.0, Self::MAX_BODY)
+            .busy()
+    }
+
     // The connection after a request's end: Idle where it is used again, else Closed.
     fn ended(reuse: bool) -> Connection
         ensures { λ r. ⌜ r ≡ rest (pick reuse State.Idle State.Closed) ⌝ }
     {
         if reuse {
-            return Self::bare(State::Idle);
+            return Self::rest(State::Idle);
         }
-        Self::bare(State::Closed)
+        Self::rest(State::Closed)
     }
 }
 

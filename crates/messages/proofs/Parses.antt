@@ -81,7 +81,7 @@ idle-none State.Closed due e = refl
 as-body : (c : Connection) (m : Move) → allowed c m ≡ true → readAsBody (directionOf (moveKind m)) c ≡ isBody (moveKind m)
 as-body c Move.CPing e = idle-none (c .state) (c .due) e
 as-body c Move.CPong e = refl
-as-body c (Move.Forward n) e = idle-none (c .state) (c .due) e
+as-body c (Move.Forward f) e = idle-none (c .state) (c .due) e
 as-body c (Move.Body k) e = both-first (bodyDue c) (inSize c (Move.Body k)) e
 as-body c (Move.GetBody r) e = refl
 as-body c Move.SendHeaders e = refl
@@ -96,7 +96,7 @@ packet-as-body c d p way a = rw (← way, ← move-kind p) (as-body c (packetMov
 -- a state that allows a packet in pieces has no body packet due at the end to which it goes
 pub none-due : (c : Connection) (kind : BuildingKind) → inState c (building.builtKind kind) ≡ true
     → readAsBody (directionOf (building.builtKind kind)) c ≡ false
-none-due c BuildingKind.Forward e = as-body c (Move.Forward (record { 0 = 0 })) (rw e)
+none-due c BuildingKind.Forward e = idle-none (c .state) (c .due) (rw e)
 none-due c BuildingKind.SendHeaders e = refl
 
 -- a packet that parses is accepted by every connection that allows its move

@@ -6,6 +6,8 @@ use Prim.Native.Nat.{ℕ}
 use Rattle.places.specs.Entries.{Entries, ended}
 use Rattle.connection.specs.declared.Kind.{Kind}
 use Rattle.connection.specs.declared.Move.{Move}
+use Rattle.connection.specs.declared.ForwardMove.{ForwardMove}
+use Rattle.packet.specs.declared.Forward.{Forward}
 use Rattle.packet.specs.declared.Packet.{Packet}
 use Rattle.payload.specs.declared.found.PacketRead.{PacketRead}
 use Rattle.payload.specs.Bare.{bareAt}
@@ -38,11 +40,15 @@ packetKind (Packet.SendHeaders head) = Kind.SendHeaders
 packetKind (Packet.BodyChunk part) = Kind.BodyChunk
 packetKind (Packet.End reuse) = Kind.End
 
--- what a packet is for the cycle: of a Forward what it declares, of a part its size
+-- what a Forward is for the cycle: what it declares
+abbrev pub forwardMove : Forward → ForwardMove
+forwardMove forward = record { declared = forward .declared }
+
+-- what a packet is for the cycle: of a part its size
 abbrev pub packetMove : Packet → Move
 packetMove Packet.CPing = Move.CPing
 packetMove Packet.CPong = Move.CPong
-packetMove (Packet.Forward forward) = Move.Forward (forward .declared)
+packetMove (Packet.Forward forward) = Move.Forward (forwardMove forward)
 packetMove (Packet.Body part) = Move.Body (part .len)
 packetMove (Packet.GetBody asked) = Move.GetBody asked
 packetMove (Packet.SendHeaders head) = Move.SendHeaders

@@ -18,6 +18,7 @@ pub mod forward;
 pub mod found;
 pub mod get_body;
 pub mod lists;
+pub mod movement;
 pub mod send_headers;
 
 // The codes of the kinds of packet, and the two that a server may send and nobody serves.

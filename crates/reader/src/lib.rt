@@ -4,18 +4,17 @@ ghost use mathlib.Core.Path.{_≡_};
 ghost use Prim.Native.Nat.{_≤_};
 ghost use lib.ListN.{length};
 ghost use Rattle.connection.specs.Connection.{maxPacket};
-ghost use Rattle.payload.specs.Kinds.{packetMove};
 ghost use Rattle.reader.specs.Meaning.{receivedMeaning, placesNeeded};
 ghost use Rattle.reader.specs.Reading.{readAsBody, stepped, accepting, withRoom, reading, tableAfter};
 ghost use Rattle.reader.specs.Private.{needed, tableGiven, allowedReading, allowedTable, wholeOf, tableWhole};
 use connection::Connection;
 use connection::Kind;
-use connection::Move;
 use connection::Step;
 use packet::Direction;
 use packet::Packet;
 use payload::KindRead;
 use payload::found::PacketRead;
+use payload::movement::move_of;
 use places::MAX_PLACES;
 use places::fill;
 use places::first;
@@ -138,25 +137,6 @@ fn send_headers(connection: Connection, packet: &[u8], table: &mut [u16]) -> Rec
     let mut places = [0u16; MAX_PLACES];
     let found = payload::send_headers::read(packet, &mut places);
     fill_table(accept(connection, packet.len(), found), &places, table)
-}
-
-// The move that a packet makes in the cycle.
-pub fn move_of(packet: Packet) -> Move
-    ensures { λ r. ⌜ r ≡ packetMove packet ⌝ }
-{
-    match packet {
-        Packet::CPing => Move::CPing,
-        Packet::CPong => Move::CPong,
-        Packet::Forward(f) => {
-            let declared = f.declared;
-            Move::Forward(declared)
-        }
-        Packet::Body(p) => Move::Body(p.len as usize),
-        Packet::GetBody(asked) => Move::GetBody(asked),
-        Packet::SendHeaders(h) => Move::SendHeaders,
-        Packet::BodyChunk(p) => Move::BodyChunk(p.len as usize),
-        Packet::End(reuse) => Move::End(reuse),
-    }
 }
 
 // Steps the connection by a packet that was read; the table aside.

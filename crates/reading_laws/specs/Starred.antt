@@ -9,7 +9,7 @@ use Rattle.packet.specs.declared.Direction.{Direction}
 use Rattle.packet.specs.declared.Packet.{Packet}
 use Rattle.names.specs.Names.{ascii, nameFor}
 use Rattle.names.specs.declared.NameList.{NameList}
-use Rattle.connection.specs.Connection.{connectionFields, rest, fresh}
+use Rattle.connection.specs.Connection.{rest, withLeft, withDue, withHeaders, fresh}
 use Rattle.connection.specs.declared.State.{State}
 use Rattle.connection.specs.declared.Connection.{Connection}
 use Rattle.payload.specs.Packet.{partFrom}
@@ -65,15 +65,15 @@ toServer connection bytes answer texts =
 
 -- a connection with a body packet due: bytes left, bytes asked for
 abbrev due : ℕ → ℕ → Connection
-due left asked = connectionFields State.Busy left true asked false
+due left asked = withDue true asked (withLeft left (rest State.Busy))
 
 -- a connection with a request and no body packet due, before its headers
 abbrev unanswered : Connection
-unanswered = connectionFields State.Busy 0 false 0 false
+unanswered = rest State.Busy
 
 -- the same after its headers
 abbrev answering : Connection
-answering = connectionFields State.Busy 0 false 0 true
+answering = withHeaders true unanswered
 
 -- CPing
 abbrev cping : List ℕ

@@ -62,7 +62,7 @@ pub count-move : (c : Connection) (m : Move) (held : List ℕ) (before : List Re
     → Counted (after c m) (counting m held before)
 count-move c Move.CPing held before f e i = counted-within c before i
 count-move c Move.CPong held before f e i = counted-within c before i
-count-move c (Move.Forward n) held before f e i = (omega arith, counted-within c before i)
+count-move c (Move.Forward g) held before f e i = (omega arith, counted-within c before i)
 count-move c (Move.Body k) held before f e i =
     subst (λ (n : ℕ). CountedIn State.Busy (c .left .0 - n) (gets held before)) e
     (counted-gets (c .left .0) held before (omega (arith, body-within c k f .of-left))
@@ -81,7 +81,7 @@ wrong-way e = absurd (let z : _≡_ {A = ℕ} 0 1 = cc in omega arith)
 pub reply-holds : (m : Move) (held : List ℕ) → directionOf (moveKind m) ≡ Direction.ToServer → Carries m held → held ≡ []
 reply-holds Move.CPing held q e = e
 reply-holds Move.CPong held q e = e
-reply-holds (Move.Forward n) held q e = e
+reply-holds (Move.Forward f) held q e = e
 reply-holds (Move.Body k) held q e = wrong-way q
 reply-holds (Move.GetBody r) held q e = e
 reply-holds Move.SendHeaders held q e = e
@@ -92,7 +92,7 @@ reply-holds (Move.End reuse) held q e = e
 pub reply-counts : (m : Move) (held : List ℕ) (before : List RequestBody) → directionOf (moveKind m) ≡ Direction.ToServer → counting m held before ≡ before
 reply-counts Move.CPing held before q = refl
 reply-counts Move.CPong held before q = refl
-reply-counts (Move.Forward n) held before q = wrong-way q
+reply-counts (Move.Forward f) held before q = wrong-way q
 reply-counts (Move.Body k) held before q = wrong-way q
 reply-counts (Move.GetBody r) held before q = refl
 reply-counts Move.SendHeaders held before q = refl

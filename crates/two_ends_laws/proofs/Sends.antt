@@ -39,7 +39,7 @@ use Rattle.messages.proofs.OneCall as one
 use Rattle.messages.proofs.OneCall.{OneWritten, done-written, cping-parses, cpong-parses, body-parses, chunk-parses, get-parses, end-parses}
 use Rattle.two_ends_laws.specs.Ends.{recordOf, Send, cping, body, closeForward, cpong, bodyChunk, getBody, end, closeSendHeaders, callDirection, outcomeOf, bufferOf, isBodyCall, bodyGiven}
 use Rattle.two_ends_laws.specs.Past.{heldIn}
-use Rattle.two_ends_laws.specs.Made.{moveOf, packetBy, Made}
+use Rattle.two_ends_laws.specs.Made.{forwardTold, moveOf, packetBy, Made}
 use Rattle.two_ends_laws.proofs.Packets.{ReadableAs, readable-as}
 
 -- a packet that parses, sent by a call whose move it makes
@@ -67,7 +67,7 @@ one-made {c} {w = w} call p wrote e is parses same holds =
     (made c call _ (w .connection) p parses same holds (ap (allowed c) e ∙ wrote .allows) (wrote .steps ∙ ap (after c) (sym e)) (e ∙ is))
 
 -- a Forward and a Send Headers, by their kinds: the moves that they make
-forward-move : (p : payload.Packet) → packetKind p ≡ Kind.Forward → packetMove p ≡ Move.Forward (record { 0 = bodyDeclared p })
+forward-move : (p : payload.Packet) → packetKind p ≡ Kind.Forward → packetMove p ≡ Move.Forward (forwardTold p)
 forward-move payload.Packet.CPing e = absurd (let z : _≡_ {A = ℕ} 0 1 = cc in omega arith)
 forward-move payload.Packet.CPong e = absurd (let z : _≡_ {A = ℕ} 0 1 = cc in omega arith)
 forward-move (payload.Packet.Forward f) e = refl

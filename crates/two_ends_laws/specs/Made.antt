@@ -9,18 +9,23 @@ use lib.ListN.{length}
 use Rattle.packet.specs.declared.Packet.{Packet}
 use Rattle.connection.specs.Cycle.{allowed, after}
 use Rattle.connection.specs.declared.Connection.{Connection}
+use Rattle.connection.specs.declared.ForwardMove.{ForwardMove}
 use Rattle.connection.specs.declared.Move.{Move}
 use Rattle.reader.specs.Meaning.{bodyDeclared}
 use Rattle.two_ends_laws.specs.Ends.{Send, cping, body, closeForward, cpong, bodyChunk, getBody, end, closeSendHeaders, callDirection, isBodyCall, bodyGiven, PipePacket}
 use Rattle.two_ends_laws.specs.Past.{heldIn}
 use Rattle.two_ends_laws.specs.Readable.{Readable}
 
+-- what a Forward is for the cycle, as whoever reads it is told
+abbrev pub forwardTold : Packet → ForwardMove
+forwardTold tells = record { declared = record { 0 = bodyDeclared tells } }
+
 -- the move of a call: a body packet or a chunk of as many bytes as are given, what is asked for, whether the connection is used again; a
--- Forward with the length that the packet declares, as whoever reads it is told
+-- Forward with what is told of it
 abbrev pub moveOf : Send → Packet → Move
 moveOf (cping buffer) tells = Move.CPing
 moveOf (body buffer bytes) tells = Move.Body (length bytes)
-moveOf (closeForward r buffer) tells = Move.Forward (record { 0 = bodyDeclared tells })
+moveOf (closeForward r buffer) tells = Move.Forward (forwardTold tells)
 moveOf (cpong buffer) tells = Move.CPong
 moveOf (bodyChunk buffer bytes) tells = Move.BodyChunk (length bytes)
 moveOf (getBody buffer asked small) tells = Move.GetBody asked

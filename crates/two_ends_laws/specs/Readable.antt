@@ -21,7 +21,7 @@ use Rattle.two_ends_laws.specs.Past.{bodyPart, heldIn, RequestBody, gets
 abbrev pub Carries : Move → List ℕ → Type 0
 Carries Move.CPing held = held ≡ []
 Carries Move.CPong held = held ≡ []
-Carries (Move.Forward n) held = held ≡ []
+Carries (Move.Forward f) held = held ≡ []
 Carries (Move.Body k) held = length held ≡ k
 Carries (Move.GetBody r) held = held ≡ []
 Carries Move.SendHeaders held = held ≡ []
@@ -32,7 +32,7 @@ Carries (Move.End reuse) held = held ≡ []
 abbrev pub counting : Move → List ℕ → List RequestBody → List RequestBody
 counting Move.CPing held before = before
 counting Move.CPong held before = before
-counting (Move.Forward n) held before = record { declared = n .0; got = [] } ∷ before
+counting (Move.Forward f) held before = record { declared = f .declared .0; got = [] } ∷ before
 counting (Move.Body k) held before = gets held before
 counting (Move.GetBody r) held before = before
 counting Move.SendHeaders held before = before

@@ -4,6 +4,7 @@ use crate::print;
 use crate::tally::Tallies;
 use vectors_text::commands;
 use vectors_text::expand;
+use vectors_text::same;
 use vectors_text::text;
 use wire::part_of;
 
@@ -38,7 +39,7 @@ fn compared(line: &[u8], number: usize, answer: &mut [u8], tallies: Tallies) -> 
         return tallies.with(command, true);
     }
     let came = part_of(answer, 0, n);
-    if text::equal(came, expected) {
+    if same::answers(came, expected) {
         return tallies.with(command, false);
     }
     report(number, case, expected, came);

@@ -11,17 +11,17 @@ use vectors_text::put;
 use vectors_text::text;
 use wire::part_of;
 
-// The words of a case: the connection's first, the table and the bytes.
+// The parts of a case: the connection, the table and the bytes.
 const CONNECTION: usize = 2;
 
-const TABLE: usize = 7;
+const TABLE: usize = 3;
 
-const BYTES: usize = 8;
+const BYTES: usize = 4;
 
 // Writes the library's answer to a case; the place behind it.
 pub fn answer(direction: Direction, case: &[u8], out: &mut [u8]) -> usize {
     let mut table = [0u16; commands::PLACES];
-    let room = parse::places(text::word(case, TABLE), &mut table);
+    let room = parse::places(text::part(case, TABLE), &mut table);
     let before = table;
     let answer = lent(direction, case, &mut table, room);
     told(out, answer, &before, &table, room)
@@ -54,7 +54,7 @@ fn equal(a: &[u16], b: &[u16]) -> bool {
 // The answer, with so many places of the table lent.
 fn lent(direction: Direction, case: &[u8], table: &mut [u16], room: usize) -> Answer {
     let mut packet = [0u8; commands::BYTES];
-    let count = parse::bytes(text::word(case, BYTES), &mut packet);
+    let count = parse::bytes(text::part(case, BYTES), &mut packet);
     if table.len() < room {
         return Answer::of(0);
     }
@@ -68,7 +68,7 @@ fn lent(direction: Direction, case: &[u8], table: &mut [u16], room: usize) -> An
 
 // Reads at the end to which a direction leads.
 fn received(direction: Direction, case: &[u8], bytes: &[u8], table: &mut [u16]) -> Answer {
-    let connection = parse::connection(text::from_word(case, CONNECTION));
+    let connection = parse::connection(text::part(case, CONNECTION));
     match direction {
         Direction::ToContainer => said(reader::read_at_container(connection, bytes, table)),
         Direction::ToServer => said(reader::read_at_server(connection, bytes, table)),

@@ -22,7 +22,7 @@ pub fn answer(command: usize, case: &[u8], out: &mut [u8]) -> usize {
 // The answer, once the strings of the case are stored.
 fn with_texts(command: usize, case: &[u8], texts: &[u8], out: &mut [u8]) -> usize {
     let mut buffer = [0u8; commands::BYTES];
-    let room = parse::bytes(text::word(case, buffer_word(command)), &mut buffer);
+    let room = parse::bytes(text::part(case, buffer_part(command)), &mut buffer);
     let before = buffer;
     let answer = lent(command, case, texts, &mut buffer, room);
     told(out, answer, &before, &buffer, room)
@@ -34,12 +34,12 @@ fn told(out: &mut [u8], answer: Answer, before: &[u8], buffer: &[u8], room: usiz
     put::answer(out, answer, part_of(buffer, 0, room), &[0; 0])
 }
 
-// The word that is the buffer.
-fn buffer_word(command: usize) -> usize {
+// The part that is the buffer.
+fn buffer_part(command: usize) -> usize {
     match command {
-        commands::CLOSE => 11,
+        commands::CLOSE => 3,
         commands::FORWARD | commands::SEND_HEADERS => 1,
-        _ => 6,
+        _ => 2,
     }
 }
 

@@ -73,7 +73,7 @@ fn nulls(case: &[u8]) -> Nulls {
 // Adds a header or an attribute: words 8 and 9 are a header's name and its value, 7 is an attribute's code, and 9 its value, or the name
 // before it.
 fn added(command: usize, case: &[u8], texts: &[u8], buffer: &mut [u8]) -> Added {
-    let building = record::parse(text::from_word(case, 1));
+    let building = record::parse(text::part(case, 1));
     let code = parse::number(case, 7);
     let text = string::bytes(case, 9, texts);
     let null = string::is_null(case, 9);

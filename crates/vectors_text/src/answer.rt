@@ -1,6 +1,5 @@
 // What the library answered: the form in which that is listed, and the values for it in their order.
 use connection::Connection;
-use connection::State;
 
 // The forms by number.
 pub const REFUSED: usize = 0;
@@ -36,22 +35,22 @@ pub const NOT_LISTED: usize = 16;
 // From a refusal, or a number of bytes that are needed, to the form where a lent byte or place was changed all the same.
 const CHANGED: usize = 2;
 
-// The forms in this order, one a line: N stands for a number, L for a letter, B for the bytes of the buffer, or of a name, and T for the
+// The forms in this order, one a line: N stands for a number, L for a letter, C for a connection, B for the bytes of the buffer, or of a name, and T for the
 // lent table.
-pub const FORMS: [u8; 655] = *b"refused N
+pub const FORMS: [u8; 583] = *b"refused N
 needs N
 refused N, changed to B T
 needs N, changed to B T
-ok len=N conn=L,N,N,N,N buf=B
+ok len=N conn=C buf=B
 ok rec=L,N,N,N,N buf=B
-ok cping taken=N conn=L,N,N,N,N table=T
-ok cpong taken=N conn=L,N,N,N,N table=T
-ok forward taken=N conn=L,N,N,N,N method=N protocol=N req_uri=N remote_addr=N remote_host=N server_name=N port=N ssl=N headers=N attributes=N table=T
-ok body taken=N conn=L,N,N,N,N start=N len=N table=T
-ok get taken=N conn=L,N,N,N,N asked=N table=T
-ok sendheaders taken=N conn=L,N,N,N,N status=N message=N headers=N table=T
-ok chunk taken=N conn=L,N,N,N,N start=N len=N table=T
-ok end taken=N conn=L,N,N,N,N reuse=N table=T
+ok cping taken=N conn=C table=T
+ok cpong taken=N conn=C table=T
+ok forward taken=N conn=C method=N protocol=N req_uri=N remote_addr=N remote_host=N server_name=N port=N ssl=N headers=N attributes=N table=T
+ok body taken=N conn=C start=N len=N table=T
+ok get taken=N conn=C asked=N table=T
+ok sendheaders taken=N conn=C status=N message=N headers=N table=T
+ok chunk taken=N conn=C start=N len=N table=T
+ok end taken=N conn=C reuse=N table=T
 ok name=B
 ok code=N
 not listed";
@@ -63,6 +62,7 @@ pub struct Answer {
     pub form: usize,
     count: usize,
     values: [u64; VALUES],
+    pub connection: Connection,
 }
 
 impl Answer {
@@ -72,6 +72,7 @@ impl Answer {
             form,
             count: 0,
             values: [0; VALUES],
+            connection: Connection::fresh(),
         }
     }
 
@@ -93,12 +94,10 @@ impl Answer {
         self.with(0)
     }
 
-    // With a connection: the state's letter, what is left, whether a body packet is due, what was asked for, whether headers were sent.
-    pub fn with_connection(self, c: Connection) -> Answer {
-        let left = c.left();
-        let answer = self.with(letter(c.state()) as u64).with(left.0 as u64);
-        let answer = answer.with_flag(c.due()).with(c.asked() as u64);
-        answer.with_flag(c.headers())
+    // With a connection.
+    pub fn with_connection(mut self, c: Connection) -> Answer {
+        self.connection = c;
+        self
     }
 
     // The value at an index, 0 where there are not so many.
@@ -114,6 +113,7 @@ impl Answer {
     pub fn noting(self, unchanged: bool) -> Answer {
         let count = self.count;
         let values = self.values;
+        let connection = self.connection;
         if unchanged || NEEDS < self.form {
             return self;
         }
@@ -121,15 +121,7 @@ impl Answer {
             form: self.form % CHANGED + CHANGED,
             count,
             values,
+            connection,
         }
-    }
-}
-
-fn letter(s: State) -> u8 {
-    match s {
-        State::Idle => b'I',
-        State::Pinged => b'P',
-        State::Busy => b'B',
-        State::Closed => b'C',
     }
 }

@@ -52,15 +52,15 @@ pub const ATTRIBUTE_CODE: usize = 23;
 pub const UNKNOWN: usize = 24;
 
 // The forms of their cases in this order, one a line (`form` says what a capital letter stands for).
-pub const FORMS: [u8; 509] = *b"read container L,D,F,N,F T B
-read server L,D,F,N,F T B
-cping L,D,F,N,F B
-cpong L,D,F,N,F B
-body L,D,F,N,F B B
-chunk L,D,F,N,F B B
-get L,D,F,N,F B N
-end L,D,F,N,F B F
-close L,D,F,N,F K,N,N,N,F B
+pub const FORMS: [u8; 437] = *b"read container C T B
+read server C T B
+cping C B
+cpong C B
+body C B B
+chunk C B B
+get C B N
+end C B F
+close C K,N,N,N,F B
 forward B N S S S S S N F
 sendheaders B N S
 header K,N,N,N,F B code:N S

@@ -1,5 +1,5 @@
 // The forms of cases. In a form a capital letter stands for a word:
-//   L  the letter of a state, K  that of a packet that is built
+//   C  a connection, K  the letter of a packet that is built
 //   N  a number in two bytes, D  one in four, F  1 or 0
 //   B  bytes, T  a table of places, S  a string, null or bytes
 // and every other character for itself.
@@ -21,6 +21,10 @@ pub fn is_of(case: &[u8], form: &[u8]) -> bool {
 // The place behind what a character of a form stands for, where that is at this place of the case.
 fn past(case: &[u8], at: usize, sign: u8) -> usize {
     match sign {
+        b'C' => {
+            let end = text::find(case, at, b' ');
+            passed(is_connection(text::between(case, at, end)), end)
+        }
         b'A'..=b'Z' => {
             let end = text::find(case, at, text::BETWEEN_WORDS);
             passed(is_word(text::between(case, at, end), sign), end)
@@ -36,10 +40,37 @@ fn passed(is: bool, end: usize) -> usize {
     NOWHERE
 }
 
+// Whether a text is a connection: the letter of a state, the bytes of body left, whether a body packet is due, the bytes asked for, whether
+// headers were sent, and then, each only behind the one before, whether a HEAD is answered and the edition.
+pub fn is_connection(s: &[u8]) -> bool {
+    is_letter(text::field(s, b',', 0), b"IPBC")
+        && is_word(text::field(s, b',', 1), b'D')
+        && is_word(text::field(s, b',', 2), b'F')
+        && is_word(text::field(s, b',', 3), b'N')
+        && is_word(text::field(s, b',', 4), b'F')
+        && (ends_before(s, 5) || is_head(text::field(s, b',', 5)))
+        && (ends_before(s, 6) || is_edition(text::field(s, b',', 6)))
+        && ends_before(s, 7)
+}
+
+// Whether a text has no word of this index.
+fn ends_before(s: &[u8], word: usize) -> bool {
+    s.len() < text::start(s, b',', word)
+}
+
+// Whether a word says whether a HEAD is answered. A connection has no field for it yet: only 0 may stand there.
+fn is_head(word: &[u8]) -> bool {
+    text::equal(word, b"0")
+}
+
+// Whether a word is an edition. A connection has no field for it yet: only the new one may stand there.
+fn is_edition(word: &[u8]) -> bool {
+    text::equal(word, b"new")
+}
+
 // Whether a word is one for which a capital letter stands.
 fn is_word(word: &[u8], sign: u8) -> bool {
     match sign {
-        b'L' => is_letter(word, b"IPBC"),
         b'K' => is_letter(word, b"FH"),
         b'N' => is_number(word, 65535),
         b'D' => is_number(word, 4294967295),

@@ -6,5 +6,6 @@ pub mod expand;
 pub mod form;
 pub mod parse;
 pub mod put;
+pub mod same;
 pub mod string;
 pub mod text;

@@ -100,14 +100,12 @@ pub fn places(s: &[u8], into: &mut [u16]) -> usize {
     count
 }
 
-// The connection that the first five words of a text say, such as B,9000,1,8186,0.
+// The connection that a text says, such as B,9000,1,8186,0. What is left out is 0.
 pub fn connection(s: &[u8]) -> Connection {
-    let state = state(letter(s, 0));
-    let left = BodyLeft(long_number(s, 1));
-    let due = flag(s, 2);
-    let asked = number(s, 3);
-    let headers = flag(s, 4);
-    Connection::with_fields(state, left, due, asked, headers)
+    Connection::rest(state(letter(s, 0)))
+        .with_left(BodyLeft(long_number(s, 1)))
+        .with_due(flag(s, 2), number(s, 3))
+        .with_headers(flag(s, 4))
 }
 
 fn state(letter: u8) -> State {

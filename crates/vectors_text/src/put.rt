@@ -4,6 +4,8 @@ use crate::answer;
 use crate::answer::Answer;
 use crate::text::after;
 use crate::text::field;
+use connection::Connection;
+use connection::State;
 use wire::write;
 
 pub fn text(out: &mut [u8], at: usize, s: &[u8]) -> usize {
@@ -75,6 +77,39 @@ fn places(out: &mut [u8], at: usize, table: &[u16]) -> usize {
     next
 }
 
+// A connection: the state's letter, what is left, whether a body packet is due, what was asked for, whether headers were sent.
+pub fn connection(out: &mut [u8], at: usize, c: Connection) -> usize {
+    let left = c.left();
+    let mut next = letter(out, at, state(c.state()));
+    next = word(out, next, left.0 as u64);
+    next = word(out, next, flag(c.due()));
+    next = word(out, next, c.asked() as u64);
+    word(out, next, flag(c.headers()))
+}
+
+// A number behind a comma.
+fn word(out: &mut [u8], at: usize, n: u64) -> usize {
+    let next = letter(out, at, b',');
+    decimal(out, next, n)
+}
+
+// 1 for true, 0 for false.
+fn flag(is: bool) -> u64 {
+    if is {
+        return 1;
+    }
+    0
+}
+
+fn state(s: State) -> u8 {
+    match s {
+        State::Idle => b'I',
+        State::Pinged => b'P',
+        State::Busy => b'B',
+        State::Closed => b'C',
+    }
+}
+
 // An answer in its form, with these bytes and this table.
 pub fn answer(out: &mut [u8], said: Answer, s: &[u8], table: &[u16]) -> usize {
     let forms = answer::FORMS;
@@ -82,17 +117,29 @@ pub fn answer(out: &mut [u8], said: Answer, s: &[u8], table: &[u16]) -> usize {
     let mut at = 0;
     let mut told = 0;
     for i in 0..form.len() {
-        at = sign(out, at, form[i], said.value(told), s, table);
+        at = sign(out, at, form[i], said, told, s, table);
         told = told_after(told, form[i]);
     }
     at
 }
 
-// What a character of a form stands for.
-fn sign(out: &mut [u8], at: usize, sign: u8, value: u64, s: &[u8], table: &[u16]) -> usize {
+// What a character of a form stands for, where so many values are told before it.
+fn sign(
+    out: &mut [u8],
+    at: usize,
+    sign: u8,
+    said: Answer,
+    told: usize,
+    s: &[u8],
+    table: &[u16],
+) -> usize {
     match sign {
-        b'N' => decimal(out, at, value),
-        b'L' => letter(out, at, (value % 256) as u8),
+        b'N' => decimal(out, at, said.value(told)),
+        b'L' => letter(out, at, (said.value(told) % 256) as u8),
+        b'C' => {
+            let c = said.connection;
+            connection(out, at, c)
+        }
         b'B' => bytes(out, at, s),
         b'T' => places(out, at, table),
         _ => letter(out, at, sign),

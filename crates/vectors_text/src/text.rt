@@ -82,9 +82,9 @@ pub fn word(case: &[u8], index: usize) -> &[u8] {
     field(case, BETWEEN_WORDS, index)
 }
 
-// A case from a word on.
-pub fn from_word(case: &[u8], index: usize) -> &[u8] {
-    between(case, start(case, BETWEEN_WORDS, index), case.len())
+// A part of a case, as spaces part them: a connection is one part, of several words.
+pub fn part(case: &[u8], index: usize) -> &[u8] {
+    field(case, b' ', index)
 }
 
 // Whether two texts are equal.

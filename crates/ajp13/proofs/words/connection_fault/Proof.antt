@@ -1,7 +1,6 @@
 -- `words::connection_fault` meets its contract, by how many words there are and by each word.
 -- Assumes nothing.
 use borrow.Author.Tests.{le-leb, lt-leb}
-use mathlib.Core.Path.{refl}
 use mathlib.Core.Bool.{true, false}
 use Rattle.ajp13.specs.Words.{word, lastFlag, lastNumber, lastState, statePlace, duePlace, askedPlace, headersPlace}
 use Rattle.ajp13.proofs.Records.{connection-short, connection-judged}
@@ -16,28 +15,43 @@ shared-slice-read-if2 : tie.Need-shared-slice-read-if2
 shared-slice-read-if2 c = search needs
 
 returns-2 : tie.Need-returns-2
-returns-2 c = connection-judged _ (c .before .before .if1 .left) false _ _ _ (lt-leb (word (c .before .before .before .args .words .now) statePlace) lastState (c .if2 .taken)) refl refl refl
+returns-2 c =
+    let w = c .before .before .before .args .words .now in
+    connection-judged w (c .before .before .if1 .left) false
+    (rw (lt-leb (word w statePlace) lastState (c .if2 .taken)))
 
 shared-slice-read-if3 : tie.Need-shared-slice-read-if3
 shared-slice-read-if3 c = search needs
 
 returns-3 : tie.Need-returns-3
-returns-3 c = connection-judged _ (c .before .before .before .before .if1 .left) true false _ _ (le-leb (word (c .before .before .before .before .before .args .words .now) statePlace) lastState (c .before .before .if2 .left)) (lt-leb (word (c .before .before .before .before .before .args .words .now) duePlace) lastFlag (c .if3 .taken)) refl refl
+returns-3 c =
+    let w = c .before .before .before .before .before .args .words .now in
+    connection-judged w (c .before .before .before .before .if1 .left) false
+    (rw (le-leb (word w statePlace) lastState (c .before .before .if2 .left), lt-leb (word w duePlace) lastFlag (c .if3 .taken)))
 
 shared-slice-read-if4 : tie.Need-shared-slice-read-if4
 shared-slice-read-if4 c = search needs
 
 returns-4 : tie.Need-returns-4
-returns-4 c = connection-judged _ (c .before .before .before .before .before .before .if1 .left) true true false _ (le-leb (word (c .before .before .before .before .before .before .before .args .words .now) statePlace) lastState (c .before .before .before .before .if2 .left)) (le-leb (word (c .before .before .before .before .before .before .before .args .words .now) duePlace) lastFlag (c .before .before .if3 .left)) (lt-leb (word (c .before .before .before .before .before .before .before .args .words .now) askedPlace) lastNumber (c .if4 .taken)) refl
+returns-4 c =
+    let w = c .before .before .before .before .before .before .before .args .words .now in
+    connection-judged w (c .before .before .before .before .before .before .if1 .left) false
+    (rw (le-leb (word w statePlace) lastState (c .before .before .before .before .if2 .left), le-leb (word w duePlace) lastFlag (c .before .before .if3 .left), lt-leb (word w askedPlace) lastNumber (c .if4 .taken)))
 
 shared-slice-read-if5 : tie.Need-shared-slice-read-if5
 shared-slice-read-if5 c = search needs
 
 returns-5 : tie.Need-returns-5
-returns-5 c = connection-judged _ (c .before .before .before .before .before .before .before .before .if1 .left) true true true false (le-leb (word (c .before .before .before .before .before .before .before .before .before .args .words .now) statePlace) lastState (c .before .before .before .before .before .before .if2 .left)) (le-leb (word (c .before .before .before .before .before .before .before .before .before .args .words .now) duePlace) lastFlag (c .before .before .before .before .if3 .left)) (le-leb (word (c .before .before .before .before .before .before .before .before .before .args .words .now) askedPlace) lastNumber (c .before .before .if4 .left)) (lt-leb (word (c .before .before .before .before .before .before .before .before .before .args .words .now) headersPlace) lastFlag (c .if5 .taken))
+returns-5 c =
+    let w = c .before .before .before .before .before .before .before .before .before .args .words .now in
+    connection-judged w (c .before .before .before .before .before .before .before .before .if1 .left) false
+    (rw (le-leb (word w statePlace) lastState (c .before .before .before .before .before .before .if2 .left), le-leb (word w duePlace) lastFlag (c .before .before .before .before .if3 .left), le-leb (word w askedPlace) lastNumber (c .before .before .if4 .left), lt-leb (word w headersPlace) lastFlag (c .if5 .taken)))
 
 returns-6 : tie.Need-returns-6
-returns-6 c = connection-judged _ (c .before .before .before .before .before .before .before .before .if1 .left) true true true true (le-leb (word (c .before .before .before .before .before .before .before .before .before .args .words .now) statePlace) lastState (c .before .before .before .before .before .before .if2 .left)) (le-leb (word (c .before .before .before .before .before .before .before .before .before .args .words .now) duePlace) lastFlag (c .before .before .before .before .if3 .left)) (le-leb (word (c .before .before .before .before .before .before .before .before .before .args .words .now) askedPlace) lastNumber (c .before .before .if4 .left)) (le-leb (word (c .before .before .before .before .before .before .before .before .before .args .words .now) headersPlace) lastFlag (c .if5 .left))
+returns-6 c =
+    let w = c .before .before .before .before .before .before .before .before .before .args .words .now in
+    connection-judged w (c .before .before .before .before .before .before .before .before .if1 .left) true
+    (rw (le-leb (word w statePlace) lastState (c .before .before .before .before .before .before .if2 .left), le-leb (word w duePlace) lastFlag (c .before .before .before .before .if3 .left), le-leb (word w askedPlace) lastNumber (c .before .before .if4 .left), le-leb (word w headersPlace) lastFlag (c .if5 .left)))
 
 pub connection-fault-spec : {M : Type 1} → statement M
 connection-fault-spec =

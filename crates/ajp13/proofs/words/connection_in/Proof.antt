@@ -11,8 +11,14 @@ shared-slice-read-state-in c = search needs
 state-in-requires : tie.Need-state-in-requires
 state-in-requires c κs = search needs
 
-shared-slice-read-t6 : tie.Need-shared-slice-read-t6
-shared-slice-read-t6 c = search needs
+rest-requires : tie.Need-rest-requires
+rest-requires c κs = search needs
+
+shared-slice-read-t9 : tie.Need-shared-slice-read-t9
+shared-slice-read-t9 c = search needs
+
+with-left-requires : tie.Need-with-left-requires
+with-left-requires c κs = search needs
 
 shared-slice-read-flag-in : tie.Need-shared-slice-read-flag-in
 shared-slice-read-flag-in c = search needs
@@ -26,19 +32,26 @@ shared-slice-read-number-in c = search needs
 number-in-requires : tie.Need-number-in-requires
 number-in-requires c κs = search needs
 
+with-due-requires : tie.Need-with-due-requires
+with-due-requires c κs = search needs
+
 shared-slice-read-flag-in-2 : tie.Need-shared-slice-read-flag-in-2
 shared-slice-read-flag-in-2 c = search needs
 
 flag-in-requires-2 : tie.Need-flag-in-requires-2
 flag-in-requires-2 c κs = search needs
 
-with-fields-requires : tie.Need-with-fields-requires
-with-fields-requires c κs = search needs
+with-headers-requires : tie.Need-with-headers-requires
+with-headers-requires c κs = search needs
 
 returns : tie.Need-returns
 unfolding connectionIn
 returns c =
-    rw (c .with-fields .ensures, c .before .before .before .before .before .before .before .before .state-in .ensures, c .before .before .before .before .before .flag-in .ensures, c .before .before .before .number-in .ensures, c .before .flag-in2 .ensures)
+    let headers = c in
+    let due = headers .before .before .before in
+    let left = due .before .before .before .before .before in
+    let rest = left .before .before in
+    rw (headers .with-headers .ensures, headers .before .flag-in2 .ensures, due .with-due .ensures, due .before .number-in .ensures, due .before .before .before .flag-in .ensures, left .with-left .ensures, rest .rest .ensures, rest .before .state-in .ensures)
 
 pub connection-in-spec : {M : Type 1} → statement M
 connection-in-spec =
@@ -46,12 +59,15 @@ connection-in-spec =
     (tie.spec
     shared-slice-read-state-in
     state-in-requires
-    shared-slice-read-t6
+    rest-requires
+    shared-slice-read-t9
+    with-left-requires
     shared-slice-read-flag-in
     flag-in-requires
     shared-slice-read-number-in
     number-in-requires
+    with-due-requires
     shared-slice-read-flag-in-2
     flag-in-requires-2
-    with-fields-requires
+    with-headers-requires
     returns)

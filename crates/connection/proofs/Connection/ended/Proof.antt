@@ -4,17 +4,17 @@ use borrow.Author.Needs.{needs}
 use Rattle.connection.proofs.Connection.ended.Statement.{statement}
 use Rattle.connection.proofs.Connection.ended.Tie as tie
 
-bare-requires : tie.Need-bare-requires
-bare-requires c κs = search needs
+rest-requires : tie.Need-rest-requires
+rest-requires c κs = search needs
 
 returns : tie.Need-returns
-returns c = rw (c .before .if1 .taken) (c .bare .ensures)
+returns c = rw (c .before .if1 .taken) (c .rest .ensures)
 
-bare-requires-2 : tie.Need-bare-requires-2
-bare-requires-2 c κs = search needs
+rest-requires-2 : tie.Need-rest-requires-2
+rest-requires-2 c κs = search needs
 
 returns-2 : tie.Need-returns-2
-returns-2 c = rw (c .before .if1 .left) (c .bare2 .ensures)
+returns-2 c = rw (c .before .if1 .left) (c .rest2 .ensures)
 
 pub ended-spec : {M : Type 1} → statement M
-ended-spec = tie.close (tie.spec bare-requires returns bare-requires-2 returns-2)
+ended-spec = tie.close (tie.spec rest-requires returns rest-requires-2 returns-2)

@@ -15,7 +15,7 @@ step-any-size-requires c κs = search needs
 
 returns : tie.Need-returns
 returns c =
-    let a = c .before .before .before .args in
+    let a = c .before .before .args in
     c .step-any-size .ensures ∙ any-size (a .self) (Move.BodyChunk (a .k)) _ refl (c .before .busy .ensures)
 
 pub step-body-chunk-spec : {M : Type 1} → statement M

@@ -30,5 +30,4 @@ answer-spec =
     (search needs)
     (search needs)
     (search needs)
-    (search needs)
     (search needs))

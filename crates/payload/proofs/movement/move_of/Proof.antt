@@ -1,10 +1,11 @@
--- `reader::move_of` meets its contract, packet by packet.
+-- `movement::move_of` meets its contract, packet by packet.
 -- Assumes nothing.
-use mathlib.Core.Path.{sym, ap}
+use mathlib.Core.Path.{sym, ap, _∙_}
 use Rattle.payload.specs.Kinds.{packetMove}
+use Rattle.connection.specs.declared.Move.{Move}
 use borrow.Author.Needs.{needs}
-use Rattle.reader.proofs.move_of.Statement.{statement}
-use Rattle.reader.proofs.move_of.Tie as tie
+use Rattle.payload.proofs.movement.move_of.Statement.{statement}
+use Rattle.payload.proofs.movement.move_of.Tie as tie
 
 enum-told : tie.Need-enum-told
 enum-told c = search needs
@@ -14,6 +15,9 @@ enum-told-2 c = search needs
 
 enum-known-packet : tie.Need-enum-known-packet
 enum-known-packet c = search needs
+
+forward-move-requires : tie.Need-forward-move-requires
+forward-move-requires c κs = search needs
 
 enum-known-packet-2 : tie.Need-enum-known-packet-2
 enum-known-packet-2 c = search needs
@@ -43,7 +47,7 @@ returns-2 : tie.Need-returns-2
 returns-2 c = search needs
 
 returns-3 : tie.Need-returns-3
-returns-3 c = sym (ap packetMove (c .before .before .packet .given .1))
+returns-3 c = ap Move.Forward (c .forward-move .ensures) ∙ sym (ap packetMove (c .before .before .packet .given .1))
 
 returns-4 : tie.Need-returns-4
 returns-4 c = sym (ap packetMove (c .before .before .packet2 .given .1))
@@ -67,6 +71,7 @@ move-of-spec =
     enum-told
     enum-told-2
     enum-known-packet
+    forward-move-requires
     enum-known-packet-2
     cast-t10
     enum-known-packet-3
