@@ -8,8 +8,7 @@ use Prim.Native.Nat.{ℕ, _≤_}
 use lib.Dec.{eqb}
 use lib.ListN.{length, length-append, length-replicate}
 use Rattle.wire.specs.Pick.{pick}
-use Rattle.wire.specs.Bytes.{put}
-use Rattle.wire.proofs.Bytes.{put-fits}
+use Rattle.wire.specs.Bytes.{over}
 use Rattle.names.specs.Names.{isListed, nameFor}
 use Rattle.names.specs.Row.{nameRoom, rowOf}
 use Rattle.names.specs.declared.NameList.{NameList}
@@ -28,10 +27,8 @@ row-length : (list : NameList) (code : ℕ) → length (rowOf (nameFor list code
 row-length list code = rw (length-append, length-replicate) (omega (arith, name-length list code .0))
 
 -- written over seventeen bytes it is what stands there
-pub row-put : (list : NameList) (code : ℕ) (lent : List ℕ) → length lent ≡ nameRoom → put lent 0 (rowOf (nameFor list code)) ≡ rowOf (nameFor list code)
-row-put list code lent h =
-    let row : List ℕ = rowOf (nameFor list code) in
-    put-fits lent 0 row (omega (arith, row-length list code)) ∙ over-all lent row (h ∙ sym (row-length list code))
+pub row-put : (list : NameList) (code : ℕ) (lent : List ℕ) → length lent ≡ nameRoom → over lent 0 (rowOf (nameFor list code)) ≡ rowOf (nameFor list code)
+row-put list code lent h = over-all lent (rowOf (nameFor list code)) (h ∙ sym (row-length list code))
 
 -- without a fault seventeen bytes are lent, and the code is a 16-bit number
 pub name-fine : (name : List ℕ) (list code : ℕ) {found : ℕ} → found ≡ nameFault name list code → found ≡ 0 → (length name ≡ nameRoom) × (code ≤ lastNumber)
@@ -51,7 +48,7 @@ fault-leaves name list code p h = rw (← p, ne-eqb _ 0 h) refl
 -- without one the name is told, and written where it is listed
 pub name-told : (name : List ℕ) (list code : ℕ) {found number r : ℕ} {chosen : NameList} {after : List ℕ} → found ≡ nameFault name list code → found ≡ 0
     → chosen ≡ listIn list → number ≡ code → r ≡ length (nameFor chosen number)
-    → after ≡ pick (isListed chosen number) (put name 0 (rowOf (nameFor chosen number))) name
+    → after ≡ pick (isListed chosen number) (over name 0 (rowOf (nameFor chosen number))) name
     → (r ≡ orElse (nameFault name list code) (length (nameFor (listIn list) code))) × (after ≡ nameAfter name list code)
 unfolding nameAfter
 name-told name list code {found} {number} {r} {chosen} {after} p h l n q w =

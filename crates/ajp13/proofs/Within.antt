@@ -9,11 +9,11 @@ use Prim.Native.Nat.{ℕ, _≤_}
 use lib.Dec.{eqb}
 use lib.ListN.{length}
 use Rattle.wire.specs.Pick.{pick}
+use Rattle.wire.specs.Packet.{Fits}
 use Rattle.packet.specs.declared.Direction.{Direction}
 use Rattle.connection.specs.Connection.{maxPacket}
 use Rattle.connection.specs.declared.Connection.{Connection}
 use Rattle.connection.specs.declared.Move.{Move}
-use Rattle.building.specs.Field.{Fits}
 use Rattle.building.specs.Call.{Call, Outcome, refused, done, refusalOf, outcome}
 use Rattle.building.proofs.Calls.{done-fits}
 use Rattle.building_record.specs.declared.Building.{Building}

@@ -2,9 +2,9 @@
 ghost use mathlib.Core.Path.{_≡_};
 ghost use lib.ListN.{length};
 ghost use Rattle.wire.specs.Pick.{pick};
-ghost use Rattle.wire.specs.Bytes.{put};
+ghost use Rattle.wire.specs.Bytes.{over};
 ghost use Rattle.names.specs.Names.{isListed, nameFor, codeIn};
-ghost use Rattle.names.specs.Row.{rowOf};
+ghost use Rattle.names.specs.Row.{nameRoom, rowOf};
 ghost use Rattle.building.specs.Fault.{orElse};
 ghost use Rattle.ajp13.specs.Name.{listIn, listFault, nameFault, nameAfter, codeNumber};
 use crate::status;
@@ -59,8 +59,9 @@ fn name_fault(name: &[u8], list: u32, code: u32) -> u32
 
 // Writes the name for a code, zeros behind it, and tells how long it is; where no such code is listed it writes nothing and tells 0.
 fn put_name(name: &mut [u8], list: NameList, code: u16) -> u32
+    requires { ⌜ length (now name) ≡ nameRoom ⌝ }
     ensures { λ r. ⌜ r ≡ length (nameFor list code) ⌝ }
-    ensures { λ _. ⌜ now (name .exit) ≡ pick (isListed list code) (put (now (name .entry)) 0 (rowOf (nameFor list code))) (now (name .entry)) ⌝ }
+    ensures { λ _. ⌜ now (name .exit) ≡ pick (isListed list code) (over (now (name .entry)) 0 (rowOf (nameFor list code))) (now (name .entry)) ⌝ }
 {
     let told = table::name_of(list, code);
     let bytes = told.bytes;

@@ -10,7 +10,7 @@ use borrow.Author.Tests.{le-leb, lt-leb, lt-ltb, ne-eqb, leb-true, leb-false}
 use lib.Dec.{leb, ltb, eqb}
 use lib.ListN.{length, getD}
 use Rattle.wire.specs.Pick.{pick, either, oneOf, all}
-use Rattle.wire.specs.Bytes.{over, put}
+use Rattle.wire.specs.Bytes.{over}
 use Rattle.wire.specs.Refusal.{none, cutShort, tooMany}
 use Rattle.wire.specs.Field.{integerAt, stringAt, isOptional}
 use Rattle.wire.specs.declared.StringField.{StringField}
@@ -278,7 +278,7 @@ module _ (s : List ℕ) (at : ℕ) (entry table : List ℕ) (from set place coun
   -- one attribute more
   pub turn : (code value next : ℕ) → count < maxAttributes → from + (maxAttributes + maxAttributes) ≤ length entry
       → attributeAt s place false (bit set) ≡ AttributeRead.Attribute code value next
-      → Reading s at entry (put table (from + (count + count)) (place ∷ value ∷ [])) from (withBit set code) next (count + 1)
+      → Reading s at entry (over table (from + (count + count)) (place ∷ value ∷ [])) from (withBit set code) next (count + 1)
   turn code value next h room e =
       let inside : AttributeInside (length s) place (AttributeRead.Attribute code value next) =
       attribute-inside s place false (bit set) (AttributeRead.Attribute code value next) e in

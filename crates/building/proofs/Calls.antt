@@ -11,9 +11,10 @@ use Rattle.wire.specs.Pick.{pick}
 use Rattle.wire.specs.Bytes.{part, over}
 use Rattle.wire.proofs.Bytes.{length-over, over-before, over-behind, over-there}
 use Rattle.wire.specs.Refusal.{bufferTooShort, tooLong}
+use Rattle.wire.specs.Packet.{Fits}
 use Rattle.connection.specs.Connection.{maxPacket}
 use Rattle.building.specs.Fault.{orElse, firstFault, fitFault}
-use Rattle.building.specs.Field.{sizeTold, Fits}
+use Rattle.building.specs.Field.{sizeTold}
 use Rattle.building.specs.Call.{Call, refused, done, refusalOf, outcomeBy, outcome, bufferAfter}
 use Rattle.building.proofs.Sizes.{or-first, or-second, fit-told, fit-none, fit-by}
 

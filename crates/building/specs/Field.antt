@@ -4,7 +4,7 @@
 use mathlib.Core.Path.{_≡_}
 use mathlib.Core.Bool.{Bool, false}
 use mathlib.Core.List.{List, [], _∷_, _++_}
-use Prim.Native.Nat.{ℕ, _+_, _≤_, min}
+use Prim.Native.Nat.{ℕ, _+_, min}
 use lib.ListN.{length}
 use Rattle.wire.specs.Refusal.{none}
 use Rattle.wire.specs.Bytes.{integerBytes}
@@ -63,7 +63,3 @@ sizeTold n = min n (maxPacket + 1)
 -- how many bytes a buffer needs for fields that begin at a place
 abbrev pub neededAt : ℕ → List Field → ℕ
 neededAt at these = sizeTold (at + length (fieldsBytes these))
-
--- bytes at a place fit a buffer and a packet
-abbrev pub Fits : ℕ → List ℕ → List ℕ → Type 0
-Fits at bytes buffer = (at + length bytes ≤ length buffer) × (at + length bytes ≤ maxPacket)

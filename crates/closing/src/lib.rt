@@ -11,7 +11,6 @@ ghost use Rattle.closing.specs.Closing.{closedLength, closingFault, clos
 ghost use Rattle.closing.specs.Private.{lastWith, Closable, putBack};
 use attributes::LAST_MARK;
 use building::fault;
-use building::put;
 use building::size::BYTE;
 use building_record::Building;
 use building_record::BuildingKind;
@@ -24,6 +23,7 @@ use wire::LENGTH_PLACE;
 use wire::PAYLOAD_PLACE;
 use wire::part_of;
 use wire::refusal;
+use wire::write;
 use writer::Sent;
 use writer::is_written;
 
@@ -77,7 +77,7 @@ fn put_last(buffer: &mut [u8], building: Building, byte: u8)
     let next = building.next().index();
     match kind {
         BuildingKind::Forward => {
-            put::byte(buffer, next, byte);
+            write::byte(buffer, next, byte);
         }
         BuildingKind::SendHeaders => {}
     }
@@ -93,9 +93,9 @@ fn set(building: Building, buffer: &mut [u8]) -> Old
     let headers = building.headers();
     let payload = (needs(building) - PAYLOAD_PLACE) as u16;
     let count = views::integer_at(buffer, place);
-    put::integer(buffer, place.index(), headers);
+    write::integer(buffer, place.index(), headers);
     let stood = views::integer_at(buffer, Place(LENGTH_PLACE as u16));
-    put::integer(buffer, LENGTH_PLACE, payload);
+    write::integer(buffer, LENGTH_PLACE, payload);
     let last = byte_at(buffer, building.next().index());
     put_last(buffer, building, LAST_MARK);
     Old {
@@ -112,8 +112,8 @@ fn put_back(building: Building, old: Old, buffer: &mut [u8])
 {
     let at = building.count_place().index();
     put_last(buffer, building, old.last);
-    put::integer(buffer, LENGTH_PLACE, old.payload);
-    put::integer(buffer, at, old.count);
+    write::integer(buffer, LENGTH_PLACE, old.payload);
+    write::integer(buffer, at, old.count);
 }
 
 // What the end to which a packet goes answers to it, the table aside: it is lent one that is long enough for every packet.

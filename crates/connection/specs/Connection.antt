@@ -4,13 +4,11 @@
 use mathlib.Core.Bool.{Bool, true, false}
 use Prim.Native.Nat.{ℕ}
 use Rattle.wire.specs.Pick.{pick, both}
+pub use Rattle.wire.specs.Packet.{maxPacket}
 use Rattle.connection.specs.declared.State.{State}
 use Rattle.connection.specs.declared.Connection.{Connection}
 
--- the most bytes of a packet, of its payload, and of the body in a body packet
-abbrev pub maxPacket : ℕ
-maxPacket = 8192
-
+-- the most bytes of a packet's payload, and of the body in a body packet
 abbrev pub maxPayload : ℕ
 maxPayload = 8188
 

@@ -137,7 +137,7 @@ impl Move {
 
 impl Connection {
     // The most bytes of a packet, of its payload, and of the body in a body packet.
-    pub const MAX_PACKET: usize = 8192;
+    pub const MAX_PACKET: usize = wire::MAX_PACKET;
 
     pub const MAX_PAYLOAD: usize = 8188;
 

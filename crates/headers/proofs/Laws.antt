@@ -11,7 +11,7 @@ use lib.Dec.{leb, eqb}
 use lib.ListN.{length, getD}
 use Rattle.wire.specs.Pick.{pick, both, either, all}
 use Rattle.wire.specs.Refusal.{none, cutShort, stringWrong}
-use Rattle.wire.specs.Bytes.{part, over, put}
+use Rattle.wire.specs.Bytes.{part, over}
 use Rattle.wire.specs.Field.{integerAt, nullLength, isOptional, holdsBarred, textAt, afterLength, stringOf, stringAt}
 use Rattle.packet.specs.declared.Direction.{Direction}
 use Rattle.wire.specs.declared.StringField.{StringField}
@@ -310,7 +310,7 @@ module _ (d : Direction) (s : List ℕ) (at count : ℕ) (entry table : List ℕ
   -- the next header is read, and its two places are put into the table
   pub reading-turn : (value : ℕ) (after : Declared) (next : ℕ) → i < count → count + count ≤ length entry
       → headerAt d s place declared ≡ HeaderRead.Header value after next
-      → Reading d s at count entry (put table (i + i) (place ∷ value ∷ [])) after next (i + 1)
+      → Reading d s at count entry (over table (i + i) (place ∷ value ∷ [])) after next (i + 1)
   reading-turn value after next h k e =
       let room : 0 + (i + i) + 2 ≤ length entry = omega arith in
       record {

@@ -11,13 +11,14 @@ use lib.Dec.{ltb, leb}
 use lib.ListN.{length, length-append}
 use Rattle.wire.specs.Bytes.{over}
 use Rattle.wire.specs.Refusal.{attributeWrong, tooMany}
+use Rattle.wire.specs.Packet.{Fits}
 use Rattle.names.specs.Attribute.{attributeKind}
 use Rattle.packet.specs.declared.AttributeKind.{AttributeKind}
 use Rattle.connection.specs.Connection.{maxPacket}
 use Rattle.places.specs.Entries.{maxHeaders}
 use Rattle.attributes.proofs.Laws.{high-unserved}
 use Rattle.building.specs.Fault.{unless, orElse, faultAfter, firstFault, fitFault}
-use Rattle.building.specs.Field.{Field, faultsOf, sizeTold, Fits}
+use Rattle.building.specs.Field.{Field, faultsOf, sizeTold}
 use Rattle.building.specs.Call.{Call, refused, done, refusalOf, outcome, bufferAfter}
 use Rattle.building.proofs.Sizes.{or-second, first-none, told-exact, told-behind, unless-none}
 use Rattle.building.proofs.Calls.{found-by, refused-answer, refused-buffer, done-answer, done-buffer, done-own, done-fits}

@@ -6,9 +6,10 @@ ghost use lib.ListN.{length};
 ghost use Rattle.wire.specs.Bytes.{over, integerBytes};
 ghost use Rattle.wire.specs.Field.{stringBytes};
 ghost use Rattle.wire.specs.Refusal.{attributeWrong};
+ghost use Rattle.wire.specs.Packet.{Fits};
 ghost use Rattle.names.specs.Attribute.{attributeKind};
 ghost use Rattle.building.specs.Fault.{unless, orElse, firstFault};
-ghost use Rattle.building.specs.Field.{neededAt, Fits};
+ghost use Rattle.building.specs.Field.{neededAt};
 ghost use Rattle.building.specs.Call.{outcome, bufferAfter};
 ghost use Rattle.building_record.specs.Record.{attributeNow};
 ghost use Rattle.pieces.specs.Meaning.{addedOutcome};
@@ -16,13 +17,13 @@ ghost use Rattle.pieces.specs.Attribute.{isText, isInteger, isPair, text
 use crate::Added;
 use crate::with_attribute;
 use building::fault;
-use building::put;
 use building::size;
 use building_record::Building;
 use names::attribute::kind_of;
 use packet::AttributeKind;
 use wire::StringField;
 use wire::refusal;
+use wire::write;
 
 // The greatest code that a byte holds.
 const MAX_CODE: u16 = 255;
@@ -157,8 +158,8 @@ fn write_text(buffer: &mut [u8], at: usize, code: u16, null: bool, value: &[u8])
     requires { ⌜ (code ≤ 255) × Fits at (code ∷ stringBytes null (now value)) (now buffer) ⌝ }
     ensures { λ _. ⌜ now (buffer .exit) ≡ over (now (buffer .entry)) at (code ∷ stringBytes null (now (value .entry))) ⌝ }
 {
-    let at = put::byte(buffer, at, code as u8);
-    put::string(buffer, at, null, value);
+    let at = write::byte(buffer, at, code as u8);
+    write::string(buffer, at, null, value);
 }
 
 // Writes an attribute with an integer.
@@ -166,8 +167,8 @@ fn write_integer(buffer: &mut [u8], at: usize, code: u16, value: u16)
     requires { ⌜ (code ≤ 255) × Fits at (code ∷ integerBytes value) (now buffer) ⌝ }
     ensures { λ _. ⌜ now (buffer .exit) ≡ over (now (buffer .entry)) at (code ∷ integerBytes value) ⌝ }
 {
-    let at = put::byte(buffer, at, code as u8);
-    put::integer(buffer, at, value);
+    let at = write::byte(buffer, at, code as u8);
+    write::integer(buffer, at, value);
 }
 
 // Writes an attribute with a name and a value.
@@ -183,8 +184,8 @@ fn write_pair(
     requires { ⌜ (code ≤ 255) × Fits at (code ∷ (stringBytes noname (now name) ++ stringBytes novalue (now value))) (now buffer) ⌝ }
     ensures { λ _. ⌜ now (buffer .exit) ≡ over (now (buffer .entry)) at (code ∷ (stringBytes noname (now (name .entry)) ++ stringBytes novalue (now (value .entry)))) ⌝ }
 {
-    let at = put::byte(buffer, at, code as u8);
-    put::two_strings(buffer, at, noname, name, novalue, value);
+    let at = write::byte(buffer, at, code as u8);
+    write::two_strings(buffer, at, noname, name, novalue, value);
 }
 
 // Adds an attribute with a string.

@@ -3,9 +3,10 @@ ghost use mathlib.Core.Path.{_≡_};
 ghost use Prim.Native.Nat.{_+_, _≤_};
 ghost use lib.ListN.{length};
 ghost use Rattle.wire.specs.Bytes.{over};
+ghost use Rattle.wire.specs.Packet.{Fits};
 ghost use Rattle.payload.specs.Forward.{lastMethod};
 ghost use Rattle.building.specs.Fault.{firstFault};
-ghost use Rattle.building.specs.Field.{faultsOf, fieldsBytes, neededAt, Fits};
+ghost use Rattle.building.specs.Field.{faultsOf, fieldsBytes, neededAt};
 ghost use Rattle.building.specs.Call.{outcome, bufferAfter};
 ghost use Rattle.building_record.specs.declared.BuildingKind.{BuildingKind};
 ghost use Rattle.pieces.specs.Meaning.{addedOutcome};
@@ -15,7 +16,7 @@ use crate::Added;
 use crate::COUNT_SIZE;
 use crate::opened;
 use building::fault;
-use building::put;
+use building::opening;
 use building::size;
 use building_record::BuildingKind;
 use connection::Kind;
@@ -24,6 +25,7 @@ use payload::forward::LAST_METHOD;
 use wire::AFTER_CODE_PLACE;
 use wire::StringField;
 use wire::refusal;
+use wire::write;
 
 // A Forward's fixed numbers.
 pub struct Numbers {
@@ -121,11 +123,11 @@ fn strings(
     ensures { λ r. ⌜ r ≡ at + length (fieldsBytes (forwardStrings nulls (now (protocol .entry)) (now (uri .entry)) (now (addr .entry)) (now (host .entry)) (now (name .entry)))) ⌝ }
     ensures { λ _. ⌜ now (buffer .exit) ≡ over (now (buffer .entry)) at (fieldsBytes (forwardStrings nulls (now (protocol .entry)) (now (uri .entry)) (now (addr .entry)) (now (host .entry)) (now (name .entry)))) ⌝ }
 {
-    let at = put::string(buffer, at, nulls.protocol, protocol);
-    let at = put::string(buffer, at, nulls.req_uri, uri);
-    let at = put::string(buffer, at, nulls.remote_addr, addr);
-    let at = put::string(buffer, at, nulls.remote_host, host);
-    put::string(buffer, at, nulls.server_name, name)
+    let at = write::string(buffer, at, nulls.protocol, protocol);
+    let at = write::string(buffer, at, nulls.req_uri, uri);
+    let at = write::string(buffer, at, nulls.remote_addr, addr);
+    let at = write::string(buffer, at, nulls.remote_host, host);
+    write::string(buffer, at, nulls.server_name, name)
 }
 
 // Writes what stands behind the strings: port, is_ssl, and 0 for the count.
@@ -134,9 +136,9 @@ fn tail(buffer: &mut [u8], at: usize, numbers: Numbers) -> usize
     ensures { λ r. ⌜ r ≡ at + length (fieldsBytes (forwardTail numbers)) ⌝ }
     ensures { λ _. ⌜ now (buffer .exit) ≡ over (now (buffer .entry)) at (fieldsBytes (forwardTail numbers)) ⌝ }
 {
-    let at = put::integer(buffer, at, numbers.server_port);
-    let at = put::boolean(buffer, at, numbers.is_ssl);
-    put::integer(buffer, at, 0)
+    let at = write::integer(buffer, at, numbers.server_port);
+    let at = write::boolean(buffer, at, numbers.is_ssl);
+    write::integer(buffer, at, 0)
 }
 
 // Writes the fixed fields.
@@ -153,8 +155,8 @@ fn write(
     requires { ⌜ (Fits 0 (fieldsBytes (fixed BuildingKind.Forward (forwardFields numbers nulls (now protocol) (now uri) (now addr) (now host) (now name)))) (now buffer)) × (numbers .method ≤ lastMethod) ⌝ }
     ensures { λ _. ⌜ now (buffer .exit) ≡ over (now (buffer .entry)) 0 (fieldsBytes (fixed BuildingKind.Forward (forwardFields numbers nulls (now (protocol .entry)) (now (uri .entry)) (now (addr .entry)) (now (host .entry)) (now (name .entry))))) ⌝ }
 {
-    let at = put::open(buffer, Kind::Forward, 0);
-    let at = put::byte(buffer, at, numbers.method as u8);
+    let at = opening::open(buffer, Kind::Forward, 0);
+    let at = write::byte(buffer, at, numbers.method as u8);
     let at = strings(buffer, at, nulls, protocol, uri, addr, host, name);
     tail(buffer, at, numbers);
 }

@@ -4,10 +4,11 @@ ghost use mathlib.Core.List.{_++_};
 ghost use lib.ListN.{length};
 ghost use Rattle.wire.specs.Bytes.{over, integerBytes};
 ghost use Rattle.wire.specs.Field.{stringBytes};
+ghost use Rattle.wire.specs.Packet.{Fits};
 ghost use Rattle.names.specs.Header.{headerNames};
 ghost use Rattle.names.specs.Names.{codeIn};
 ghost use Rattle.building.specs.Fault.{firstFault};
-ghost use Rattle.building.specs.Field.{neededAt, Fits};
+ghost use Rattle.building.specs.Field.{neededAt};
 ghost use Rattle.building.specs.Call.{outcome, bufferAfter};
 ghost use Rattle.building_record.specs.Record.{directionIn};
 ghost use Rattle.pieces.specs.Meaning.{addedOutcome};
@@ -16,7 +17,6 @@ use crate::Added;
 use crate::code::of_header;
 use crate::with_header;
 use building::fault;
-use building::put;
 use building::size;
 use building_record::Building;
 use headers::declared_after;
@@ -30,6 +30,7 @@ use names::token;
 use packet::Direction;
 use wire::StringField;
 use wire::refusal;
+use wire::write;
 
 // How many bytes a buffer needs for a header with a code for its name, 8193 where no packet has room for it.
 pub fn coded_needs(building: Building, code: u16, null: bool, value: &[u8]) -> usize
@@ -138,8 +139,8 @@ fn write_coded(buffer: &mut [u8], at: usize, code: u16, null: bool, value: &[u8]
     requires { ⌜ Fits at (integerBytes code ++ stringBytes null (now value)) (now buffer) ⌝ }
     ensures { λ _. ⌜ now (buffer .exit) ≡ over (now (buffer .entry)) at (integerBytes code ++ stringBytes null (now (value .entry))) ⌝ }
 {
-    let at = put::integer(buffer, at, code);
-    put::string(buffer, at, null, value);
+    let at = write::integer(buffer, at, code);
+    write::string(buffer, at, null, value);
 }
 
 // Adds a header with a code for its name.
@@ -175,7 +176,7 @@ pub fn spelled(
     if found != refusal::NONE {
         return Added::Refused(found);
     }
-    put::two_strings(buffer, building.next.index(), noname, name, novalue, value);
+    write::two_strings(buffer, building.next.index(), noname, name, novalue, value);
     Added::Next(with_header(building, end))
 }
 

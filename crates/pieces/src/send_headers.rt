@@ -2,8 +2,9 @@
 ghost use mathlib.Core.Path.{_≡_};
 ghost use lib.ListN.{length};
 ghost use Rattle.wire.specs.Bytes.{over};
+ghost use Rattle.wire.specs.Packet.{Fits};
 ghost use Rattle.building.specs.Fault.{firstFault};
-ghost use Rattle.building.specs.Field.{faultsOf, fieldsBytes, neededAt, Fits};
+ghost use Rattle.building.specs.Field.{faultsOf, fieldsBytes, neededAt};
 ghost use Rattle.building.specs.Call.{outcome, bufferAfter};
 ghost use Rattle.building_record.specs.declared.BuildingKind.{BuildingKind};
 ghost use Rattle.pieces.specs.Meaning.{addedOutcome};
@@ -12,7 +13,7 @@ use crate::Added;
 use crate::COUNT_SIZE;
 use crate::opened;
 use building::fault;
-use building::put;
+use building::opening;
 use building::size;
 use building_record::BuildingKind;
 use connection::Kind;
@@ -21,6 +22,7 @@ use payload::send_headers::LEAST_STATUS;
 use wire::AFTER_CODE_PLACE;
 use wire::StringField;
 use wire::refusal;
+use wire::write;
 
 // The bytes in front of the message: four, the code and the status.
 const BEFORE_MESSAGE: usize = AFTER_CODE_PLACE + size::INTEGER;
@@ -47,10 +49,10 @@ fn write(buffer: &mut [u8], status: u16, null: bool, message: &[u8])
     requires { ⌜ Fits 0 (fieldsBytes (fixed BuildingKind.SendHeaders (sendHeadersFields status null (now message)))) (now buffer) ⌝ }
     ensures { λ _. ⌜ now (buffer .exit) ≡ over (now (buffer .entry)) 0 (fieldsBytes (fixed BuildingKind.SendHeaders (sendHeadersFields status null (now (message .entry))))) ⌝ }
 {
-    let at = put::open(buffer, Kind::SendHeaders, 0);
-    let at = put::integer(buffer, at, status);
-    let at = put::string(buffer, at, null, message);
-    put::integer(buffer, at, 0);
+    let at = opening::open(buffer, Kind::SendHeaders, 0);
+    let at = write::integer(buffer, at, status);
+    let at = write::string(buffer, at, null, message);
+    write::integer(buffer, at, 0);
 }
 
 // Begins a Send Headers: writes its fixed fields at the buffer's start, its length and its count as 0, and answers the building record.

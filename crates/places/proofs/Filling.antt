@@ -6,8 +6,8 @@ use mathlib.Core.List.{List, [], _∷_, _++_, append-assoc, append-nil}
 use Prim.Native.Nat.{ℕ, _+_, _≤_}
 use native.Mathlib.Omega.{arith}
 use lib.ListN.{length, length-append}
-use Rattle.wire.specs.Bytes.{over, put}
-use Rattle.wire.proofs.Bytes.{over-none, over-over, length-put, put-fits}
+use Rattle.wire.specs.Bytes.{over}
+use Rattle.wire.proofs.Bytes.{over-none, over-over, length-over}
 use Rattle.places.specs.Entries.{Entries, ended, front}
 
 -- Of all the entries, `later` are still to be read; `count` were, and the table has their places from an index on.
@@ -34,7 +34,7 @@ module _ {A : Type 0} (whole : Entries A) (entry : List ℕ) (from : ℕ) where
   module _ (later : Entries A) (table : List ℕ) (count : ℕ) (F : Filling whole later entry table from count) where
     -- one entry more
     pub filling-turn : (first second : ℕ) (rest : Entries A) → later ≡ front first second rest → from + (count + count) + 2 ≤ length entry
-        → Filling whole rest entry (put table (from + (count + count)) (first ∷ second ∷ [])) from (count + 1)
+        → Filling whole rest entry (over table (from + (count + count)) (first ∷ second ∷ [])) from (count + 1)
     filling-turn first second rest e h =
         let d = F .done in
         let p : d ++ later .places ≡ (d ++ (first ∷ second ∷ [])) ++ rest .places =
@@ -47,10 +47,9 @@ module _ {A : Type 0} (whole : Entries A) (entry : List ℕ) (from : ℕ) where
           all-are = F .all-are ∙ p;
           end-is = F .end-is ∙ ap (λ (l : Entries A). l .end) e;
           many = length-append d (first ∷ second ∷ []) ∙ rw (F .many) (omega arith);
-          holds = put-fits table (from + (count + count)) (first ∷ second ∷ []) room
-              ∙ ap (λ (t : List ℕ). over t (from + (count + count)) (first ∷ second ∷ [])) (F .holds)
+          holds = ap (λ (t : List ℕ). over t (from + (count + count)) (first ∷ second ∷ [])) (F .holds)
               ∙ over-over entry from (from + (count + count)) d (first ∷ second ∷ []) j fits;
-          long = length-put table (from + (count + count)) (first ∷ second ∷ []) ∙ F .long;
+          long = length-over table (from + (count + count)) (first ∷ second ∷ []) room ∙ F .long;
         }
 
     -- no entry more: the table has the places of all

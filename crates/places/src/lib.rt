@@ -4,7 +4,7 @@ ghost use mathlib.Core.Path.{_≡_};
 ghost use mathlib.Core.List.{[], _∷_};
 ghost use Prim.Native.Nat.{_+_, _≤_};
 ghost use lib.ListN.{length, take};
-ghost use Rattle.wire.specs.Bytes.{put};
+ghost use Rattle.wire.specs.Bytes.{over};
 
 // The most headers of a packet, the most attributes of a Forward, and the most places that they take.
 pub const MAX_HEADERS: u16 = 100;
@@ -16,7 +16,7 @@ pub const MAX_PLACES: usize = 328;
 // Puts two places into a table, from an index on. That they fit is known before the first one of a list is put.
 pub fn put_pair(table: &mut [u16], at: usize, first: u16, second: u16)
     requires { ⌜ at + 2 ≤ length (now table) ⌝ }
-    ensures { λ _. ⌜ now (table .exit) ≡ put (now (table .entry)) at (first ∷ second ∷ []) ⌝ }
+    ensures { λ _. ⌜ now (table .exit) ≡ over (now (table .entry)) at (first ∷ second ∷ []) ⌝ }
 {
     table[at] = first;
     table[at + 1] = second;
@@ -32,15 +32,14 @@ pub fn first(list: &[u16], count: usize) -> &[u16]
     &list[..count]
 }
 
-// Copies places into a table, from its start on; where they do not fit, the table stays as it is.
+// Copies places into a table, from its start on. That they fit is known.
 pub fn fill(table: &mut [u16], from: &[u16])
-    ensures { λ _. ⌜ now (table .exit) ≡ put (now (table .entry)) 0 (now (from .entry)) ⌝ }
+    requires { ⌜ length (now from) ≤ length (now table) ⌝ }
+    ensures { λ _. ⌜ now (table .exit) ≡ over (now (table .entry)) 0 (now (from .entry)) ⌝ }
 {
-    if from.len() <= table.len() {
-        let mut i = 0;
-        while i < from.len() {
-            table[i] = from[i];
-            i += 1;
-        }
+    let mut i = 0;
+    while i < from.len() {
+        table[i] = from[i];
+        i += 1;
     }
 }

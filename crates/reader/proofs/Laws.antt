@@ -5,15 +5,15 @@ use mathlib.Core.Bool.{Bool, true, false, false≢true}
 use mathlib.Core.List.{List, []}
 use Prim.Native.Nat.{ℕ, _+_, _≤_}
 use native.Mathlib.Omega.{arith}
-use native.Mathlib.Nat.{zero-add, min-le-left}
+use native.Mathlib.Nat.{min-le-left}
 use borrow.Author.Tests.{le-leb}
 use lib.Dec.{leb}
 use lib.ListN.{length, take, drop, length-take}
 use lib.Seq.{take-at}
 use Rattle.wire.specs.Pick.{pick}
 use Rattle.wire.specs.Refusal.{notNow, bufferTooShort}
-use Rattle.wire.specs.Bytes.{part, over, put}
-use Rattle.wire.proofs.Bytes.{over-none, put-fits}
+use Rattle.wire.specs.Bytes.{part, over}
+use Rattle.wire.proofs.Bytes.{over-none}
 use Rattle.packet.specs.declared.Direction.{Direction}
 use Rattle.places.specs.Entries.{ended}
 use Rattle.connection.specs.Cycle.{inState, stepOf}
@@ -55,12 +55,13 @@ room-filled (refused n) places table exit e h = (refl, h ∙ over-none table 0)
 room-filled (accepted packet taken after) places table exit e h = rw e (refl, h)
 
 -- the table after a list's first places were copied into it, where it has room for them
-pub laid-first : (places table exit own : List ℕ) (count n : ℕ) → exit ≡ put table 0 own → own ≡ take count places → count ≡ n
-    → n ≤ length table → exit ≡ over table 0 (take n places)
-laid-first places table exit own count n e p q h =
-    let few : length (take n places) ≤ n = rw (length-take n places) (min-le-left n (length places)) in
-    e ∙ ap (put table 0) (p ∙ ap (λ (k : ℕ). take k places) q)
-    ∙ put-fits table 0 (take n places) (rw (zero-add (length (take n places))) (omega arith))
+pub laid-first : (places table exit own : List ℕ) (count n : ℕ) → exit ≡ over table 0 own → own ≡ take count places → count ≡ n
+    → exit ≡ over table 0 (take n places)
+laid-first places table exit own count n e p q = e ∙ ap (over table 0) (p ∙ ap (λ (k : ℕ). take k places) q)
+
+-- a list's first places are no more than were asked for
+pub first-few : (places own : List ℕ) (count : ℕ) → own ≡ take count places → length own ≤ count
+first-few places own count p = rw (p, length-take count places) (min-le-left count (length places))
 
 -- an answer that asks for so many places
 abbrev pub NeedsPlaces : ℕ → Meaning → Type 0

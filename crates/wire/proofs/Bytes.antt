@@ -1,4 +1,4 @@
--- Laws of `part`, `over` and `put`: lengths, parts side by side, writes side by side, what a write leaves alone.
+-- Laws of `part` and `over`: lengths, parts side by side, bytes side by side, what bytes laid over a list leave alone.
 -- Assumes nothing.
 use mathlib.Core.Path.{_≡_, refl, sym, ap, _∙_}
 use mathlib.Core.Bool.{Bool, true, false, not}
@@ -11,8 +11,7 @@ use borrow.Author.Tests.{le-leb, lt-leb, leb-true, leb-false, not-true, not-fals
 use lib.Dec.{leb}
 use lib.ListN.{length, take, drop, set, getD, length-set, length-append, length-drop, take-append-drop, drop-of-length-le}
 use lib.Seq.{set-split, take-at, take-all, drop-at, drop-cons, drop-drop, drop-append-add, length-take-le, take-suc, take-suc-set, take-add, take-nil, getD-take}
-use Rattle.wire.specs.Pick.{pick}
-use Rattle.wire.specs.Bytes.{part, over, put}
+use Rattle.wire.specs.Bytes.{part, over}
 
 -- a part that lies within the list has its length
 pub length-part : (s : List ℕ) (start len : ℕ) → start + len ≤ length s → length (part s start len) ≡ len
@@ -138,50 +137,6 @@ over-two l i a b h =
     over-set (set l i a) (i + 1) b m
     ∙ ap (λ (x : List ℕ). over x (i + 1) (b ∷ [])) (over-set l i a k)
     ∙ over-over l i (i + 1) (a ∷ []) (b ∷ []) refl (omega arith)
-
--- the two outcomes of a write
-module _ (l : List ℕ) (at : ℕ) (a : List ℕ) where
-  pub put-fits : at + length a ≤ length l → put l at a ≡ over l at a
-  unfolding put
-  put-fits h = simp le-leb
-
-  pub put-short : length l < at + length a → put l at a ≡ l
-  unfolding put
-  put-short h = simp lt-leb
-
--- a write keeps the length
-pub length-put : (l : List ℕ) (at : ℕ) (a : List ℕ) → length (put l at a) ≡ length l
-unfolding put
-length-put l at a = go (leb (at + length a) (length l)) refl
-  where
-    go : (t : Bool) → leb (at + length a) (length l) ≡ t → length (pick t (over l at a) l) ≡ length l
-    go true e = length-over l at a (leb-true (at + length a) (length l) e)
-    go false e = refl
-
--- two writes side by side are one
-pub put-put : (l : List ℕ) (i j : ℕ) (a b : List ℕ) → j ≡ i + length a → i + length (a ++ b) ≤ length l
-    → put (put l i a) j b ≡ put l i (a ++ b)
-put-put l i j a b e h =
-    let n : length (a ++ b) ≡ length a + length b = length-append a b in
-    let f : i + length a ≤ length l = omega arith in
-    let g : j + length b ≤ length (over l i a) = rw (length-over l i a f) (omega arith) in
-    ap (λ (x : List ℕ). put x j b) (put-fits l i a f)
-    ∙ put-fits (over l i a) j b g
-    ∙ over-over l i j a b e f
-    ∙ sym (put-fits l i (a ++ b) h)
-
--- and so are three
-pub put-three : (l x y z : List ℕ) (i j k : ℕ) (a b d : List ℕ) → y ≡ put l i a → z ≡ put y j b → x ≡ put z k d
-    → j ≡ i + length a → k ≡ j + length b → i + length (a ++ (b ++ d)) ≤ length l → x ≡ put l i (a ++ (b ++ d))
-put-three l x y z i j k a b d p q r e f h =
-    let n : length (a ++ b) ≡ length a + length b = length-append a b in
-    let m : length (a ++ b ++ d) ≡ length (a ++ b) + length d = length-append (a ++ b) d in
-    let s : a ++ b ++ d ≡ a ++ (b ++ d) = append-assoc a b d in
-    let g : i + length (a ++ b ++ d) ≤ length l = rw s h in
-    r
-    ∙ ap (λ (w : List ℕ). put w k d) (q ∙ ap (λ (w : List ℕ). put w j b) p ∙ put-put l i j a b e (omega arith))
-    ∙ put-put l i k (a ++ b) d (omega arith) g
-    ∙ ap (put l i) s
 
 -- bytes laid over two lists that are alike around them
 over-alike : (m l : List ℕ) (at : ℕ) (b : List ℕ) → take at m ≡ take at l → drop (at + length b) m ≡ drop (at + length b) l → over m at b ≡ over l at b

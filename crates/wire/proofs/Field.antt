@@ -5,13 +5,13 @@ use mathlib.Core.Bool.{Bool, true, false, not, false≢true}
 use mathlib.Core.List.{List, [], _∷_, _++_}
 use Prim.Native.Nat.{ℕ, _+_, _≤_, _<_}
 use native.Mathlib.Omega.{arith}
-use borrow.Author.Tests.{le-leb, lt-leb, lt-ltb, le-ltb, ne-eqb, leb-true, eqb-true, eqb-false}
+use borrow.Author.Tests.{le-leb, lt-leb, ne-eqb, leb-true, eqb-true, eqb-false}
 use lib.Dec.{leb, eqb}
 use lib.ListN.{length, getD, length-append}
 use Rattle.wire.specs.Pick.{pick, both, either}
 use Rattle.wire.specs.Refusal.{cutShort, stringWrong, outOfRange}
-use Rattle.wire.specs.Bytes.{part, put, integerIn, integerBytes}
-use Rattle.wire.specs.Field.{numberAt, byteAt, integerAt, booleanOf, booleanAt, nullLength, lacks, holdsBarred, textAt, afterLength, stringOf, stringAt, stringBytes, stringAllowed, putString}
+use Rattle.wire.specs.Bytes.{part, integerIn, integerBytes}
+use Rattle.wire.specs.Field.{numberAt, byteAt, integerAt, booleanOf, booleanAt, nullLength, lacks, holdsBarred, textAt, afterLength, stringOf, stringAt, stringBytes, stringAllowed}
 use Rattle.wire.specs.Packet.{leading, packetHead}
 use Rattle.wire.specs.Facts.{NumberInside, BooleanInside, StringInside, TextRead, NullRead}
 use Rattle.packet.specs.declared.Direction.{Direction}
@@ -66,34 +66,21 @@ pub allowed-is : (optional null : Bool) (text : List ℕ) (lack none barred : Bo
 unfolding stringAllowed
 allowed-is optional null text lack none barred p q r = rw (← p, ← q, ← r)
 
--- the bytes of a text's field
-pub length-text : (text : List ℕ) → length (integerBytes (length text) ++ (text ++ (0 ∷ []))) ≡ length text + 3
-length-text text = omega (arith, length-append text (0 ∷ []))
-
--- the size of a string's field
+-- a string's bytes and how many they are
 module _ (null : Bool) (text : List ℕ) where
-  pub size-null : null ≡ true → length (stringBytes null text) ≡ 2
+  pub null-bytes : null ≡ true → stringBytes null text ≡ integerBytes nullLength
   unfolding stringBytes
-  size-null e = rw e
+  null-bytes e = rw e
+
+  pub text-bytes : null ≡ false → stringBytes null text ≡ integerBytes (length text) ++ (text ++ (0 ∷ []))
+  unfolding stringBytes
+  text-bytes e = rw e
+
+  pub size-null : null ≡ true → length (stringBytes null text) ≡ 2
+  size-null e = ap length (null-bytes e)
 
   pub size-text : null ≡ false → length (stringBytes null text) ≡ length text + 3
-  unfolding stringBytes
-  size-text e = rw e (length-text text)
-
--- the outcomes of writing a string
-module _ (l : List ℕ) (at : ℕ) (null : Bool) (text : List ℕ) where
-  pub string-null : null ≡ true → put l at (integerBytes nullLength) ≡ putString l at null text
-  unfolding putString stringBytes
-  string-null e = rw e
-
-  pub string-long : null ≡ false → nullLength ≤ length text → l ≡ putString l at null text
-  unfolding putString
-  string-long e h = rw (e, le-ltb (length text) nullLength h)
-
-  pub string-text : null ≡ false → length text < nullLength
-      → put l at (integerBytes (length text) ++ (text ++ (0 ∷ []))) ≡ putString l at null text
-  unfolding putString stringBytes
-  string-text e h = rw (e, lt-ltb (length text) nullLength h)
+  size-text e = ap length (text-bytes e) ∙ omega (arith, length-append text (0 ∷ []))
 
 -- a packet's leading bytes are two, and its packetHead four
 pub length-leading : (d : Direction) → length (leading d) ≡ 2

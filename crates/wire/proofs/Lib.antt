@@ -1,6 +1,8 @@
 pub mod Tests
 pub mod Scan
 pub mod Bytes
+pub mod Copying
+pub mod Rows
 pub mod Field
 pub mod RoundTrip
 pub mod Parts

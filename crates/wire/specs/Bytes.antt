@@ -3,9 +3,7 @@
 -- Assumes nothing.
 use mathlib.Core.List.{List, [], _∷_, _++_}
 use Prim.Native.Nat.{ℕ, _+_, _*_, _/_, _%_}
-use lib.Dec.{leb}
 use lib.ListN.{length, getD, take, drop}
-use Rattle.wire.specs.Pick.{pick}
 
 -- the elements from a place on, `len` of them, or as many as there are
 unfoldable pub part : List ℕ → ℕ → ℕ → List ℕ
@@ -14,10 +12,6 @@ part s start len = take len (drop start s)
 -- the list with these bytes from a place on
 unfoldable pub over : List ℕ → ℕ → List ℕ → List ℕ
 over buffer at bytes = take at buffer ++ (bytes ++ drop (at + length bytes) buffer)
-
--- the buffer after a write: the bytes from a place on where they fit, else as it was
-unfoldable pub put : List ℕ → ℕ → List ℕ → List ℕ
-put buffer at bytes = pick (leb (at + length bytes) (length buffer)) (over buffer at bytes) buffer
 
 -- the integer at a place
 unfoldable pub integerIn : List ℕ → ℕ → ℕ

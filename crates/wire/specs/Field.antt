@@ -5,11 +5,11 @@
 use mathlib.Core.Bool.{Bool, true, false, not}
 use mathlib.Core.List.{List, [], _∷_, _++_}
 use Prim.Native.Nat.{ℕ, _+_}
-use lib.Dec.{leb, ltb, eqb}
+use lib.Dec.{leb, eqb}
 use lib.ListN.{length, getD}
 use Rattle.wire.specs.Pick.{pick, both, either, any}
 use Rattle.wire.specs.Refusal.{cutShort, stringWrong, outOfRange}
-use Rattle.wire.specs.Bytes.{part, put, integerIn, integerBytes}
+use Rattle.wire.specs.Bytes.{part, integerIn, integerBytes}
 use Rattle.wire.specs.declared.read.NumberRead.{NumberRead}
 use Rattle.wire.specs.declared.read.BooleanRead.{BooleanRead}
 use Rattle.wire.specs.declared.read.StringRead.{StringRead}
@@ -107,8 +107,3 @@ stringBytes null text = pick null (integerBytes nullLength) (integerBytes (lengt
 -- a string that may stand in a field: it lacks nothing that the field asks for, and if it is not null it holds no barred byte
 unfoldable pub stringAllowed : Bool → Bool → List ℕ → Bool
 stringAllowed optional null text = both (not (lacks optional null (length text))) (either null (not (holdsBarred text)))
-
--- the buffer with a string written into it; a text of 65535 bytes or more, whose length two bytes cannot tell, is not written
-unfoldable pub putString : List ℕ → ℕ → Bool → List ℕ → List ℕ
-putString buffer at null text =
-    pick (either null (ltb (length text) nullLength)) (put buffer at (stringBytes null text)) buffer

@@ -2,10 +2,18 @@
 -- Document 01, 'Bytes and numbers'.
 -- Assumes nothing.
 use mathlib.Core.List.{List, [], _∷_, _++_}
-use Prim.Native.Nat.{ℕ}
+use Prim.Native.Nat.{ℕ, _+_, _≤_}
 use lib.ListN.{length}
 use Rattle.wire.specs.Bytes.{integerBytes}
 use Rattle.packet.specs.declared.Direction.{Direction}
+
+-- the most bytes of a packet
+abbrev pub maxPacket : ℕ
+maxPacket = 8192
+
+-- bytes at a place fit a buffer and a packet
+abbrev pub Fits : ℕ → List ℕ → List ℕ → Type 0
+Fits at bytes buffer = (at + length bytes ≤ length buffer) × (at + length bytes ≤ maxPacket)
 
 -- 12 34 leads to the container, 41 42 to the server
 abbrev pub leading : Direction → List ℕ

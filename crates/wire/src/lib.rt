@@ -1,5 +1,6 @@
 // The fields of a packet, over lent bytes: `read` and `write`. An inner crate: the layers above call it, a user of the library does not.
-// A packet is a slice of its own bytes and no others; a place is an index into it. Every call answers for any place.
+// A packet is a slice of its own bytes and no others; a place is an index into it. Every call that reads answers for any place; one that
+// writes asks that the field fits.
 ghost use mathlib.Core.Path.{_≡_};
 ghost use Prim.Native.Nat.{_+_, _≤_, _<_};
 ghost use lib.Dec.{leb};
@@ -26,6 +27,9 @@ pub enum StringField {
     AttributeValue,
     Message,
 }
+
+// The most bytes of a packet.
+pub const MAX_PACKET: usize = 8192;
 
 // The length that says null.
 pub const NULL_LENGTH: u16 = 65535;

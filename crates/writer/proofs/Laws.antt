@@ -14,7 +14,7 @@ use Rattle.wire.specs.Pick.{pick}
 use Rattle.wire.specs.Refusal.{notNow, bodySizeWrong}
 use Rattle.wire.specs.Bytes.{over, integerBytes}
 use Rattle.wire.specs.Field.{booleanBytes, stringBytes}
-use Rattle.wire.specs.Packet.{packetHead, packet}
+use Rattle.wire.specs.Packet.{packetHead, packet, Fits}
 use Rattle.packet.specs.declared.Direction.{Direction}
 use Rattle.wire.proofs.Field.{head-four}
 use Rattle.connection.specs.Cycle.{moveKind, directionOf, inState, inSize, after, stepOf}
@@ -23,10 +23,10 @@ use Rattle.connection.specs.declared.Kind.{Kind}
 use Rattle.connection.specs.declared.Move.{Move}
 use Rattle.connection.specs.declared.Step.{Step}
 use Rattle.building.specs.Fault.{unless, orElse, firstFault, fitFault}
-use Rattle.building.specs.Field.{opening, sizeTold, Fits}
+use Rattle.building.specs.Field.{opening, sizeTold}
 use Rattle.building.specs.Call.{Call, refused, done, outcomeBy, refusalOf, outcome, bufferAfter}
 use Rattle.building.proofs.Sizes.{told-exact}
-use Rattle.building.proofs.Rows.{fits-later, joined}
+use Rattle.wire.proofs.Rows.{fits-later, joined}
 use Rattle.building.proofs.Calls.{found-by, refused-buffer, done-buffer, done-fits}
 use Rattle.writer.specs.declared.Sent.{Sent}
 use Rattle.writer.specs.Meaning.{Written, sentOutcome, isWritten}

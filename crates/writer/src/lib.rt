@@ -6,14 +6,15 @@
 ghost use mathlib.Core.Path.{_≡_};
 ghost use lib.ListN.{length};
 ghost use Rattle.wire.specs.Bytes.{over};
+ghost use Rattle.wire.specs.Packet.{Fits};
 ghost use Rattle.connection.specs.declared.Move.{Move};
-ghost use Rattle.building.specs.Field.{sizeTold, Fits};
+ghost use Rattle.building.specs.Field.{sizeTold};
 ghost use Rattle.building.specs.Call.{outcome, bufferAfter};
 ghost use Rattle.writer.specs.Meaning.{sentOutcome, isWritten};
 ghost use Rattle.writer.specs.Private.{readyOf};
 ghost use Rattle.writer.specs.Sending.{packetOf, bodyPayload, chunkPayload, getPayload, endPayload, bareCall, cpingCall, cpongCall, bodyCall, chunkCall, getCall, endCall};
 use building::fault;
-use building::put;
+use building::opening;
 use building::size;
 use connection::Connection;
 use connection::Kind;
@@ -24,6 +25,7 @@ use payload::body::BODY_START;
 use wire::AFTER_CODE_PLACE;
 use wire::PAYLOAD_PLACE;
 use wire::refusal;
+use wire::write;
 
 // Payload sizes: of a CPing and a CPong, of a Get Body Chunk, of an End.
 const BARE_PAYLOAD: u16 = 1;
@@ -96,16 +98,16 @@ fn write_body(buffer: &mut [u8], bytes: &[u8])
     ensures { λ _. ⌜ now (buffer .exit) ≡ over (now (buffer .entry)) 0 (packetOf (Move.Body (length (now (bytes .entry)))) (bodyPayload (now (bytes .entry)))) ⌝ }
 {
     if bytes.len() == 0 {
-        put::head(buffer, Direction::ToContainer, 0);
+        write::packet_head(buffer, Direction::ToContainer, 0);
         return;
     }
-    let at = put::head(
+    let at = write::packet_head(
         buffer,
         Direction::ToContainer,
         (bytes.len() + BEFORE_BODY) as u16,
     );
-    let at = put::integer(buffer, at, bytes.len() as u16);
-    put::bytes(buffer, at, bytes);
+    let at = write::integer(buffer, at, bytes.len() as u16);
+    write::bytes(buffer, at, bytes);
 }
 
 // Writes a Send Body Chunk.
@@ -113,8 +115,8 @@ fn write_body_chunk(buffer: &mut [u8], bytes: &[u8])
     requires { ⌜ Fits 0 (packetOf (Move.BodyChunk (length (now bytes))) (chunkPayload (now bytes))) (now buffer) ⌝ }
     ensures { λ _. ⌜ now (buffer .exit) ≡ over (now (buffer .entry)) 0 (packetOf (Move.BodyChunk (length (now (bytes .entry)))) (chunkPayload (now (bytes .entry)))) ⌝ }
 {
-    let at = put::open(buffer, Kind::BodyChunk, (bytes.len() + AROUND_CHUNK) as u16);
-    put::string(buffer, at, false, bytes);
+    let at = opening::open(buffer, Kind::BodyChunk, (bytes.len() + AROUND_CHUNK) as u16);
+    write::string(buffer, at, false, bytes);
 }
 
 // Writes a Get Body Chunk.
@@ -122,8 +124,8 @@ fn write_get_body(buffer: &mut [u8], asked: u16)
     requires { ⌜ Fits 0 (packetOf (Move.GetBody asked) (getPayload asked)) (now buffer) ⌝ }
     ensures { λ _. ⌜ now (buffer .exit) ≡ over (now (buffer .entry)) 0 (packetOf (Move.GetBody asked) (getPayload asked)) ⌝ }
 {
-    let at = put::open(buffer, Kind::GetBody, GET_BODY_PAYLOAD);
-    put::integer(buffer, at, asked);
+    let at = opening::open(buffer, Kind::GetBody, GET_BODY_PAYLOAD);
+    write::integer(buffer, at, asked);
 }
 
 // Writes an End.
@@ -131,8 +133,8 @@ fn write_end(buffer: &mut [u8], reuse: bool)
     requires { ⌜ Fits 0 (packetOf (Move.End reuse) (endPayload reuse)) (now buffer) ⌝ }
     ensures { λ _. ⌜ now (buffer .exit) ≡ over (now (buffer .entry)) 0 (packetOf (Move.End reuse) (endPayload reuse)) ⌝ }
 {
-    let at = put::open(buffer, Kind::End, END_PAYLOAD);
-    put::boolean(buffer, at, reuse);
+    let at = opening::open(buffer, Kind::End, END_PAYLOAD);
+    write::boolean(buffer, at, reuse);
 }
 
 // Sends a packet whose code is all.
@@ -146,7 +148,7 @@ fn bare(connection: Connection, buffer: &mut [u8], m: Move) -> Sent
         buffer.len(),
     );
     if is_written(answer) {
-        put::open(buffer, m.kind(), BARE_PAYLOAD);
+        opening::open(buffer, m.kind(), BARE_PAYLOAD);
     }
     answer
 }

@@ -1,26 +1,22 @@
--- `places::fill` meets its contract. The invariant: the first i places are written, and the others are the table's own.
+-- `places::fill` meets its contract: the loop copies the places over the table's start.
 -- Assumes nothing.
-use native.Mathlib.Omega.{arith}
+use Prim.Native.Nat.{_-_}
 use native.Mathlib.Nat.{zero-add}
-use mathlib.Core.Path.{_≡_, refl, sym, ap, _∙_}
-use Prim.Native.Nat.{_-_, _≤_}
+use mathlib.Core.Path.{sym}
 use borrow.Author.Needs.{needs}
-use lib.ListN.{length, take, length-set}
-use lib.Seq.{take-length}
-use Rattle.wire.specs.Bytes.{over}
-use Rattle.wire.proofs.Bytes.{over-none, over-more, put-fits, put-short}
+use lib.ListN.{length}
+use Rattle.wire.proofs.Copying.{Copying, copying-start, copying-turn, copying-end}
 use Rattle.places.proofs.fill.Statement.{statement}
 use Rattle.places.proofs.fill.Tie as tie
 
 abbrev Inv-loop : tie.InvT-loop
-Inv-loop table₀ from i₀ table i =
-    (i ≤ length from) × ((table ≡ over table₀ 0 (take i from)) × (length table ≡ length table₀))
+Inv-loop table₀ from i₀ table i = Copying table₀ 0 from table i
 
 abbrev μ-loop : tie.MeasureT-loop
 μ-loop table₀ from i₀ table i = length from - i
 
 loop-holds : tie.Need-loop-holds Inv-loop μ-loop
-loop-holds c = (search needs, (sym (over-none _ _), refl))
+loop-holds c = copying-start (c .args .table .now) 0 (c .args .from .now)
 
 mul-table : tie.Need-mul-table Inv-loop μ-loop
 mul-table c = search needs
@@ -42,31 +38,18 @@ loop-less c = search needs
 
 loop-again : tie.Need-loop-again Inv-loop μ-loop
 loop-again c =
-    let at-loop = c .before .before in
-    let a = at-loop .before .before .args in (
-      search needs,
-      (
-        rw (at-loop .loop .inv .1 .0) (rw (zero-add (at-loop .loop .i)) at (over-more (a .table .now) 0 (a .from .now) (at-loop .loop .i) (search needs) (search needs))),
-        simp length-set (at-loop .loop .inv .1 .1),
-      ),
-    )
+    let here = c .before .before .loop in
+    let a = c .before .before .before .args in
+    copying-turn (a .table .now) 0 (a .from .now) (here .table) (here .i) (here .inv) (here .i) (sym (zero-add (here .i))) (search needs) (search needs)
 
 same-length : tie.Need-same-length Inv-loop μ-loop
 same-length c = search needs
 
 returns : tie.Need-returns Inv-loop μ-loop
 returns c =
-    let at-loop = c .before in
-    let a = at-loop .before .before .args in
-    let e : at-loop .loop .i ≡ length (a .from .now) = omega arith in
-    at-loop .loop .inv .1 .0
-    ∙ ap (over (a .table .now) 0) (rw (e, take-length))
-    ∙ sym (put-fits (a .table .now) 0 (a .from .now) (search needs))
-
-returns-2 : tie.Need-returns-2 Inv-loop μ-loop
-returns-2 c =
-    let a = c .before .args in
-    sym (put-short (a .table .now) 0 (a .from .now) (search needs))
+    let here = c .before .loop in
+    let a = c .before .before .args in
+    copying-end (a .table .now) 0 (a .from .now) (here .table) (here .i) (here .inv) (search needs)
 
 pub fill-spec : {M : Type 1} → statement M
 fill-spec =
@@ -83,5 +66,4 @@ fill-spec =
     loop-less
     loop-again
     same-length
-    returns
-    returns-2)
+    returns)

@@ -1,11 +1,9 @@
 -- `places::put_pair` meets its contract: two stores, one behind the other.
 -- Assumes nothing.
 use native.Mathlib.Omega.{arith}
-use mathlib.Core.Path.{sym, _∙_}
-use mathlib.Core.List.{[], _∷_}
 use borrow.Author.Needs.{needs}
 use lib.ListN.{length-set}
-use Rattle.wire.proofs.Bytes.{over-two, put-fits}
+use Rattle.wire.proofs.Bytes.{over-two}
 use Rattle.places.proofs.put_pair.Statement.{statement}
 use Rattle.places.proofs.put_pair.Tie as tie
 
@@ -28,10 +26,7 @@ same-length : tie.Need-same-length
 same-length c = search needs
 
 returns : tie.Need-returns
-returns c =
-    let a = c .args in
-    let fits = c .pre in
-    over-two (a .table .now) (a .at) _ _ fits ∙ sym (put-fits (a .table .now) (a .at) (a .first ∷ a .second ∷ []) fits)
+returns c = over-two (c .args .table .now) (c .args .at) _ _ (c .pre)
 
 pub put-pair-spec : {M : Type 1} → statement M
 put-pair-spec =

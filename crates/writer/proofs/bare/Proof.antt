@@ -4,7 +4,8 @@ use native.Mathlib.Omega.{arith}
 use borrow.Author.Needs.{needs}
 use mathlib.Core.Path.{sym, ap, subst, _∙_}
 use Rattle.wire.specs.Bytes.{over}
-use Rattle.building.specs.Field.{opening, sizeTold, Fits}
+use Rattle.wire.specs.Packet.{Fits}
+use Rattle.building.specs.Field.{opening, sizeTold}
 use Rattle.building.proofs.Sizes.{told-exact}
 use Rattle.writer.specs.Sending.{barePayload, bareCall}
 use Rattle.writer.proofs.Laws.{Sends, sends, bare-size}

@@ -2,7 +2,7 @@
 -- Assumes nothing.
 use native.Mathlib.Omega.{arith}
 use mathlib.Core.Path.{_≡_, refl, sym, ap, _∙_}
-use Rattle.wire.specs.Bytes.{put}
+use Rattle.wire.specs.Bytes.{over}
 use mathlib.Core.Bool.{true, false}
 use Rattle.names.specs.Names.{isListed}
 use Rattle.packet.specs.declared.Name.{Name}
@@ -38,8 +38,8 @@ returns c =
     let a = told .before .before .args in
     let is : isListed (a .list) (a .code) ≡ true = sym (listed .is-listed .ensures) ∙ c .before .before .before .before .before .if1 .taken in (
       ap (λ (n : Name). n .len) (told .name-of .ensures),
-      c .before .before .bytes3 .ensures
-          ∙ ap (λ (n : Name). put (a .name .now) 0 (n .bytes)) (told .name-of .ensures)
+      c .before .before .bytes3 .ensures .1
+          ∙ ap (λ (n : Name). over (a .name .now) 0 (n .bytes)) (told .name-of .ensures)
           ∙ rw is refl,
     )
 

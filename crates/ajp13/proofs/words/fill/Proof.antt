@@ -1,27 +1,23 @@
--- `words::fill` meets its contract. The invariant: the first i words are written, and the others are the array's own.
+-- `words::fill` meets its contract: the loop copies the words over all of the array.
 -- Assumes nothing.
-use native.Mathlib.Omega.{arith}
 use native.Mathlib.Nat.{zero-add}
-use mathlib.Core.Path.{_≡_, refl, sym, ap, _∙_}
-use Prim.Native.Nat.{_-_, _≤_}
+use mathlib.Core.Path.{sym, _∙_}
+use Prim.Native.Nat.{_-_}
 use borrow.Author.Needs.{needs}
-use lib.ListN.{length, take, length-set}
-use lib.Seq.{take-length}
-use Rattle.wire.specs.Bytes.{over}
-use Rattle.wire.proofs.Bytes.{over-none, over-more}
+use lib.ListN.{length}
+use Rattle.wire.proofs.Copying.{Copying, copying-start, copying-turn, copying-end}
 use Rattle.ajp13.proofs.Lists.{over-all}
 use Rattle.ajp13.proofs.words.fill.Statement.{statement}
 use Rattle.ajp13.proofs.words.fill.Tie as tie
 
 abbrev Inv-loop : tie.InvT-loop
-Inv-loop words₀ from i₀ words i =
-    (i ≤ length from) × ((words ≡ over words₀ 0 (take i from)) × (length words ≡ length words₀))
+Inv-loop words₀ from i₀ words i = Copying words₀ 0 from words i
 
 abbrev μ-loop : tie.MeasureT-loop
 μ-loop words₀ from i₀ words i = length from - i
 
 loop-holds : tie.Need-loop-holds Inv-loop μ-loop
-loop-holds c = (search needs, (sym (over-none _ _), refl))
+loop-holds c = copying-start (c .args .words .now) 0 (c .args .from .now)
 
 mul-words : tie.Need-mul-words Inv-loop μ-loop
 mul-words c = search needs
@@ -43,26 +39,18 @@ loop-less c = search needs
 
 loop-again : tie.Need-loop-again Inv-loop μ-loop
 loop-again c =
-    let at-loop = c .before .before in
-    let a = at-loop .before .args in (
-      search needs,
-      (
-        rw (at-loop .loop .inv .1 .0) (rw (zero-add (at-loop .loop .i)) at (over-more (a .words .now) 0 (a .from .now) (at-loop .loop .i) (search needs) (search needs))),
-        simp length-set (at-loop .loop .inv .1 .1),
-      ),
-    )
+    let here = c .before .before .loop in
+    let a = c .before .before .before .args in
+    copying-turn (a .words .now) 0 (a .from .now) (here .words) (here .i) (here .inv) (here .i) (sym (zero-add (here .i))) (search needs) (search needs)
 
 same-length : tie.Need-same-length Inv-loop μ-loop
 same-length c = search needs
 
 returns : tie.Need-returns Inv-loop μ-loop
 returns c =
-    let at-loop = c .before in
-    let a = at-loop .before .args in
-    let e : at-loop .loop .i ≡ length (a .from .now) = omega arith in
-    at-loop .loop .inv .1 .0
-    ∙ ap (over (a .words .now) 0) (rw (e, take-length))
-    ∙ over-all (a .words .now) (a .from .now) (at-loop .before .pre)
+    let here = c .before .loop in
+    let a = c .before .before .args in
+    copying-end (a .words .now) 0 (a .from .now) (here .words) (here .i) (here .inv) (search needs) ∙ over-all (a .words .now) (a .from .now) (c .before .before .pre)
 
 pub fill-spec : {M : Type 1} → statement M
 fill-spec =

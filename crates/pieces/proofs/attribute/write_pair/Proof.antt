@@ -4,7 +4,7 @@ use borrow.Author.Needs.{needs}
 use mathlib.Core.List.{List, [], _∷_, _++_}
 use Prim.Native.Nat.{ℕ}
 use Rattle.wire.specs.Field.{stringBytes}
-use Rattle.building.proofs.Rows.{joined}
+use Rattle.wire.proofs.Rows.{joined}
 use Rattle.pieces.proofs.attribute.write_pair.Statement.{statement}
 use Rattle.pieces.proofs.attribute.write_pair.Tie as tie
 

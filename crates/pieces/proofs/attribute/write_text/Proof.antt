@@ -3,7 +3,7 @@
 use borrow.Author.Needs.{needs}
 use mathlib.Core.List.{[], _∷_}
 use Rattle.wire.specs.Field.{stringBytes}
-use Rattle.building.proofs.Rows.{joined}
+use Rattle.wire.proofs.Rows.{joined}
 use Rattle.pieces.proofs.attribute.write_text.Statement.{statement}
 use Rattle.pieces.proofs.attribute.write_text.Tie as tie
 

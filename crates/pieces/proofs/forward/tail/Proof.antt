@@ -4,7 +4,7 @@ use mathlib.Core.List.{[], _++_}
 use Rattle.wire.specs.Bytes.{integerBytes}
 use Rattle.wire.specs.Field.{booleanBytes}
 use Rattle.building.specs.Field.{fieldsBytes}
-use Rattle.building.proofs.Rows.{Row, row-start, row-fits, row-next, row-done, row-end}
+use Rattle.wire.proofs.Rows.{Row, row-start, row-fits, row-next, row-done, row-end}
 use Rattle.pieces.specs.Private.{forwardTail}
 use borrow.Author.Needs.{needs}
 use Rattle.pieces.proofs.forward.tail.Statement.{statement}

@@ -3,9 +3,10 @@
 use mathlib.Core.Path.{sym, ap, _∙_, subst}
 use mathlib.Core.List.{[], _∷_, _++_}
 use Rattle.wire.specs.Bytes.{over}
+use Rattle.wire.specs.Packet.{Fits}
 use Rattle.connection.specs.declared.Kind.{Kind}
-use Rattle.building.specs.Field.{opening, fieldsBytes, Fits}
-use Rattle.building.proofs.Rows.{Row, row-start, row-fits, row-next, row-done}
+use Rattle.building.specs.Field.{opening, fieldsBytes}
+use Rattle.wire.proofs.Rows.{Row, row-start, row-fits, row-next, row-done}
 use Rattle.pieces.specs.Private.{forwardStrings, forwardTail}
 use Rattle.pieces.proofs.Laws.{forwardParts, forward-parts}
 use borrow.Author.Needs.{needs}

@@ -3,7 +3,7 @@
 use borrow.Author.Needs.{needs}
 use Rattle.wire.specs.Bytes.{integerBytes}
 use Rattle.wire.specs.Field.{stringBytes}
-use Rattle.building.proofs.Rows.{joined}
+use Rattle.wire.proofs.Rows.{joined}
 use Rattle.pieces.proofs.header.write_coded.Statement.{statement}
 use Rattle.pieces.proofs.header.write_coded.Tie as tie
 

@@ -5,7 +5,7 @@ use Rattle.wire.specs.Bytes.{integerBytes}
 use Rattle.wire.specs.Field.{stringBytes}
 use Rattle.connection.specs.declared.Kind.{Kind}
 use Rattle.building.specs.Field.{opening, fieldsBytes}
-use Rattle.building.proofs.Rows.{Row, row-start, row-fits, row-next, row-done}
+use Rattle.wire.proofs.Rows.{Row, row-start, row-fits, row-next, row-done}
 use Rattle.building_record.specs.declared.BuildingKind.{BuildingKind}
 use Rattle.pieces.specs.Fixed.{fixed, sendHeadersFields}
 use borrow.Author.Needs.{needs}

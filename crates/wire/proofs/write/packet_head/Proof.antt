@@ -1,20 +1,16 @@
--- `wire::write::packet_head` meets its contract: the leading bytes and the length are two writes side by side.
+-- `wire::write::packet_head` meets its contract: the length stands right behind the leading bytes.
 -- Assumes nothing.
 use native.Mathlib.Omega.{arith}
-use mathlib.Core.Path.{sym, ap, _∙_}
+use mathlib.Core.Path.{_≡_, subst, sym, ap, _∙_}
 use mathlib.Core.List.{List}
-use Prim.Native.Nat.{ℕ, _+_, _<_, _≤_}
+use Prim.Native.Nat.{ℕ, _+_}
 use borrow.Author.Needs.{needs}
-use lib.ListN.{length}
-use Rattle.wire.specs.Bytes.{put, integerBytes}
-use Rattle.wire.specs.Packet.{leading, packetHead}
-use Rattle.wire.proofs.Bytes.{room-yes, room-no, put-put, put-short}
-use Rattle.wire.proofs.Field.{length-leading, head-four}
+use lib.ListN.{length, length-append}
+use Rattle.wire.specs.Bytes.{over, integerBytes}
+use Rattle.wire.specs.Packet.{leading, Fits}
+use Rattle.wire.proofs.Rows.{fits-first, fits-later, joined}
 use Rattle.wire.proofs.write.packet_head.Statement.{statement}
 use Rattle.wire.proofs.write.packet_head.Tie as tie
-
-has-room-requires : tie.Need-has-room-requires
-has-room-requires c κs = search needs
 
 leading-bytes-requires : tie.Need-leading-bytes-requires
 leading-bytes-requires c κs = search needs
@@ -23,38 +19,47 @@ slice-aggregate-bytes : tie.Need-slice-aggregate-bytes
 slice-aggregate-bytes c = search needs
 
 bytes-requires : tie.Need-bytes-requires
-bytes-requires c κs = search needs
+bytes-requires c κs =
+    let start = c .before .before .before .before in
+    let a = start .args in
+    subst (λ l. Fits 0 l (a .buffer .now)) (sym (c .before .before .leading-bytes .ensures)) (fits-first (a .buffer .now) 0 (leading (a .direction)) (integerBytes (a .payload)) (start .pre))
+
+-- the buffer with the leading bytes, and the place behind them
+led : (c : tie.After-bytes) → let a = c .before .before .before .before .before .args in
+    (c .bytes .last .0 ≡ over (a .buffer .now) 0 (leading (a .direction))) × (c .bytes .result ≡ 0 + length (leading (a .direction)))
+led c =
+    let a = c .before .before .before .before .before .args in
+    let is = c .before .before .before .leading-bytes .ensures in
+    (c .bytes .ensures .1 ∙ ap (over (a .buffer .now) 0) is, c .bytes .ensures .0 ∙ ap (λ l. 0 + length l) is)
 
 integer-requires : tie.Need-integer-requires
-integer-requires c κs = search needs
+integer-requires c κs =
+    let b = c .before .before .before in
+    let start = b .before .before .before .before .before in
+    let a = start .args in
+    fits-later (a .buffer .now) 0 (leading (a .direction)) (integerBytes (a .payload)) (start .pre) _ _ (led b .0) (led b .1)
 
 same-length : tie.Need-same-length
 same-length c = search needs
 
 returns : tie.Need-returns
 returns c =
-    let a = c .before .before .before .before .before .before .before .before .before .before .before .before .before .args in
-    let room : 0 + 4 ≤ length (a .buffer .now) = room-yes _ _ _ (c .before .before .before .before .before .before .before .before .before .before .before .has-room .ensures) (c .before .before .before .before .before .before .before .before .before .before .if1 .taken) in
-    let two = length-leading (a .direction) in
-    c .before .before .integer .ensures
-    ∙ ap (λ (l : List ℕ). put l 2 (integerBytes (a .payload))) (c .before .before .before .before .before .before .bytes .ensures ∙ ap (put (a .buffer .now) 0) (c .before .before .before .before .before .before .before .before .before .leading-bytes .ensures))
-    ∙ put-put (a .buffer .now) 0 2 (leading (a .direction)) (integerBytes (a .payload)) (omega (arith, two)) (omega (arith, head-four (a .direction) (a .payload)))
-
-returns-2 : tie.Need-returns-2
-returns-2 c =
-    let a = c .before .before .before .args in
-    let short : length (a .buffer .now) < 0 + 4 = room-no _ _ _ (c .before .has-room .ensures) (c .if1 .left) in
-    sym (put-short (a .buffer .now) 0 (packetHead (a .direction) (a .payload)) (omega (arith, head-four (a .direction) (a .payload))))
+    let i = c .before .before in
+    let b = i .before .before .before .before in
+    let start = b .before .before .before .before .before in
+    let a = start .args in
+    let lead : List ℕ = leading (a .direction) in (
+      omega (arith, i .integer .ensures .0, led b .1, length-append lead (integerBytes (a .payload))),
+      joined (a .buffer .now) 0 lead (integerBytes (a .payload)) (start .pre) _ _ _ (led b .0) (led b .1) (i .integer .ensures .1),
+    )
 
 pub packet-head-spec : {M : Type 1} → statement M
 packet-head-spec =
     tie.close
     (tie.spec
-    has-room-requires
     leading-bytes-requires
     slice-aggregate-bytes
     bytes-requires
     integer-requires
     same-length
-    returns
-    returns-2)
+    returns)

@@ -1,4 +1,4 @@
--- `fields::put::open` meets its contract: the first four bytes, and the code right behind them.
+-- `building::opening::open` meets its contract: the first four bytes, and the code right behind them.
 -- Assumes nothing.
 use native.Mathlib.Omega.{arith}
 use mathlib.Core.Path.{_≡_, sym, ap, _∙_}
@@ -11,15 +11,16 @@ use Rattle.wire.specs.Bytes.{over}
 use Rattle.wire.specs.Packet.{packetHead}
 use Rattle.connection.specs.Cycle.{directionOf}
 use Rattle.payload.specs.Code.{codeOf}
-use Rattle.building.proofs.Rows.{fits-first, fits-later, joined, code-small}
-use Rattle.building.proofs.put.open.Statement.{statement}
-use Rattle.building.proofs.put.open.Tie as tie
+use Rattle.wire.proofs.Rows.{fits-first, fits-later, joined}
+use Rattle.building.proofs.Rows.{code-small}
+use Rattle.building.proofs.opening.open.Statement.{statement}
+use Rattle.building.proofs.opening.open.Tie as tie
 
 direction-requires : tie.Need-direction-requires
 direction-requires c κs = search needs
 
-head-requires : tie.Need-head-requires
-head-requires c κs =
+packet-head-requires : tie.Need-packet-head-requires
+packet-head-requires c κs =
     let e = c .before .before .before in
     let a = e .args in
     rw (c .direction .ensures) (fits-first (a .buffer .now) 0 (packetHead (directionOf (a .kind)) (a .payload)) (codeOf (a .kind) ∷ []) (e .pre))
@@ -33,17 +34,17 @@ cast-byte c =
     omega (arith, c .code-of .ensures, code-small (a .kind))
 
 -- the buffer with the first four bytes, and the place behind them
-first-four : (c : tie.After-head) → let a = c .before .before .before .before .args in
-    c .head .last .0 ≡ over (a .buffer .now) 0 (packetHead (directionOf (a .kind)) (a .payload))
+first-four : (c : tie.After-packet-head) → let a = c .before .before .before .before .args in
+    c .packet-head .last .0 ≡ over (a .buffer .now) 0 (packetHead (directionOf (a .kind)) (a .payload))
 first-four c =
     let a = c .before .before .before .before .args in
-    c .head .ensures .1 ∙ ap (λ d. over (a .buffer .now) 0 (packetHead d (a .payload))) (c .before .direction .ensures)
+    c .packet-head .ensures .1 ∙ ap (λ d. over (a .buffer .now) 0 (packetHead d (a .payload))) (c .before .direction .ensures)
 
-behind : (c : tie.After-head) → let a = c .before .before .before .before .args in
-    c .head .result ≡ 0 + length (packetHead (directionOf (a .kind)) (a .payload))
+behind : (c : tie.After-packet-head) → let a = c .before .before .before .before .args in
+    c .packet-head .result ≡ 0 + length (packetHead (directionOf (a .kind)) (a .payload))
 behind c =
     let a = c .before .before .before .before .args in
-    c .head .ensures .0 ∙ ap (λ d. length (packetHead d (a .payload))) (c .before .direction .ensures) ∙ sym (zero-add _)
+    c .packet-head .ensures .0 ∙ ap (λ d. length (packetHead d (a .payload))) (c .before .direction .ensures) ∙ sym (zero-add _)
 
 byte-requires : tie.Need-byte-requires
 byte-requires c κs =
@@ -65,7 +66,7 @@ returns c =
     let code : List ℕ = codeOf (a .kind) ∷ [] in (
       omega (arith, b .byte .ensures .0, behind h, length-append four code),
       joined (a .buffer .now) 0 four code (e .pre) _ _ _ (first-four h) (behind h)
-          (b .byte .ensures .1 ∙ ap (λ n. over (h .head .last .0) (h .head .result) (n ∷ [])) (b .before .code-of .ensures)),
+          (b .byte .ensures .1 ∙ ap (λ n. over (h .packet-head .last .0) (h .packet-head .result) (n ∷ [])) (b .before .code-of .ensures)),
     )
 
 pub open-spec : {M : Type 1} → statement M
@@ -73,7 +74,7 @@ open-spec =
     tie.close
     (tie.spec
     direction-requires
-    head-requires
+    packet-head-requires
     code-of-requires
     cast-byte
     byte-requires

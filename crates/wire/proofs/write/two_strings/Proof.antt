@@ -1,14 +1,14 @@
--- `fields::put::two_strings` meets its contract: the second string stands right behind the first.
+-- `wire::write::two_strings` meets its contract: the second string stands right behind the first.
 -- Assumes nothing.
 use native.Mathlib.Omega.{arith}
 use mathlib.Core.List.{List}
 use Prim.Native.Nat.{ℕ}
 use borrow.Author.Needs.{needs}
 use lib.ListN.{length-append}
 use Rattle.wire.specs.Field.{stringBytes}
-use Rattle.building.proofs.Rows.{fits-first, fits-later, joined}
-use Rattle.building.proofs.put.two_strings.Statement.{statement}
-use Rattle.building.proofs.put.two_strings.Tie as tie
+use Rattle.wire.proofs.Rows.{fits-first, fits-later, joined}
+use Rattle.wire.proofs.write.two_strings.Statement.{statement}
+use Rattle.wire.proofs.write.two_strings.Tie as tie
 
 string-requires : tie.Need-string-requires
 string-requires c κs =
