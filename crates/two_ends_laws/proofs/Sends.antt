@@ -28,7 +28,7 @@ use Rattle.building_record.specs.declared.BuildingKind.{BuildingKind}
 use Rattle.building_record.specs.declared.Building.{Building}
 use Rattle.writer.specs.Meaning.{Written}
 use Rattle.writer.specs.Sending.{packetOf, barePayload, bodyPayload, chunkPayload, getPayload, endPayload, bareCall, bodyCall, chunkCall, getCall, endCall}
-use Rattle.reader.specs.Meaning.{bodyDeclared, accepted}
+use Rattle.reader.specs.Meaning.{accepted}
 use Rattle.reader.specs.Reading.{readAsBody, reading}
 use Rattle.closing.specs.Closing.{closedPacket, closeOutcome, closeBuffer}
 use Rattle.closing.specs.Done.{CloseDone}
