@@ -13,7 +13,7 @@ use lib.Dec.{leb, eqb}
 use lib.ListN.{length, getD, drop}
 use lib.Seq.{take-length, drop-cons}
 use Rattle.wire.specs.Pick.{pick, both, either}
-use Rattle.wire.specs.Refusal.{leftOver, codeNotServed, codeWrong, cutShort}
+use Rattle.wire.specs.Refusal.{codeNotServed, codeWrong, cutShort}
 use Rattle.wire.specs.Bytes.{part}
 use Rattle.wire.specs.Field.{byteAt}
 use Rattle.wire.specs.Packet.{packetHead, packet, afterCodePlace, codePlace}
@@ -33,7 +33,6 @@ use Rattle.connection.specs.declared.Connection.{Connection}
 use Rattle.places.specs.Entries.{maxPlaces}
 use Rattle.payload.specs.Code.{codeOf, codeKind, kindOfCode, kindAt, pingCode, shutdownCode}
 use Rattle.payload.specs.Kinds.{packetAt, packetKind, packetMove}
-use Rattle.payload.specs.Packet.{finished}
 use Rattle.payload.specs.declared.Context.{Context}
 use Rattle.payload.specs.declared.KindRead.{KindRead}
 use Rattle.packet.specs.declared.Packet.{Packet}

@@ -17,7 +17,8 @@ use Rattle.payload.specs.BodyChunk.{chunkAt}
 use Rattle.payload.specs.Forward.{forwardAt}
 use Rattle.payload.specs.SendHeaders.{sendHeadersAt}
 
--- a packet, by its kind; those without headers have no places. What is known beside the bytes is not looked at yet: A6 and A11 will
+-- a packet, by its kind; those without headers have no places
+-- what is known beside the bytes is not looked at yet; requests A6 and A11 will look at it
 abbrev pub packetAt : Context → Kind → List ℕ → Entries PacketRead
 packetAt context Kind.CPing s = ended (bareAt s Packet.CPing)
 packetAt context Kind.CPong s = ended (bareAt s Packet.CPong)

@@ -24,7 +24,6 @@ use Rattle.connection.specs.declared.Connection.{Connection}
 use Rattle.payload.specs.declared.Context.{Context}
 use Rattle.reader.specs.declared.frame.FrameRead.{FrameRead}
 use Rattle.reader.specs.Frame.{differs, leadingDiffers, lengthAt, frameOf, frameAt}
-use Rattle.reader.specs.Meaning.{Meaning, needs, refused, accepted}
 use Rattle.reader.specs.Reading.{Parsed, parseWhole, parseFrame, parse, contextOf, judging, withRoom, reading, tableAfter}
 use Rattle.reader.proofs.Framing.{frame-inside}
 use Rattle.reading_laws.specs.Acceptance.{Answered}

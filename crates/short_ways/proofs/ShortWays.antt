@@ -33,7 +33,7 @@ use Rattle.reader.specs.Frame.{frameAt}
 use Rattle.short_ways.specs.declared.PartRead.{PartRead}
 use Rattle.reader.specs.Meaning.{Meaning}
 use Rattle.reader.specs.Reading.{contextOf, stepped, accepting, reading, tableAfter}
-use Rattle.short_ways.specs.Short.{wholeSize, isChunk, bodySize, chunkSize, shortSize, PartMeaning, other, answered, partMeaning, shortReading}
+use Rattle.short_ways.specs.Short.{wholeSize, isChunk, bodySize, chunkSize, shortSize, other, answered, partMeaning, shortReading}
 use Rattle.short_ways.specs.Private.{partIn, steppedPart}
 use Rattle.reader.proofs.Laws.{accepting-is, plain-is, whole-kind, read-whole}
 use Rattle.wire.specs.Packet.{codePlace}

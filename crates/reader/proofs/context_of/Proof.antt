@@ -1,6 +1,6 @@
 -- `reader::context_of` meets its contract, by the direction.
 -- Assumes nothing.
-use mathlib.Core.Path.{sym, ap, _∙_}
+use mathlib.Core.Path.{sym, ap}
 use Rattle.packet.specs.declared.Direction.{Direction}
 use Rattle.reader.specs.Reading.{contextOf}
 use borrow.Author.Needs.{needs}
