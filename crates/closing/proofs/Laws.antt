@@ -24,10 +24,12 @@ use Rattle.connection.specs.declared.Connection.{Connection}
 use Rattle.connection.specs.declared.Kind.{Kind}
 use Rattle.connection.specs.Connection.{maxPacket, maxPayload, isIdle, isBusy}
 use Rattle.places.specs.Entries.{maxHeaders, maxPlaces}
-use Rattle.payload.specs.Code.{codeOf, codeKind, kindOfCode, kindAt}
+use Rattle.payload.specs.Code.{codeOf, codeKind, kindAt}
 use Rattle.payload.specs.Kinds.{packetAt, packetKind}
+use Rattle.payload.specs.declared.Context.{Context}
 use Rattle.payload.specs.declared.KindRead.{KindRead}
 use Rattle.payload.specs.declared.found.PacketRead.{PacketRead}
+use Rattle.payload.proofs.Laws.{kind-is}
 use Rattle.payload.proofs.Parsed.{parsed-kind}
 use Rattle.building.specs.Fault.{unless, orElse, fitFault}
 use Rattle.building.specs.Call.{Outcome, refused, done}
@@ -41,7 +43,7 @@ use Rattle.writer.specs.Meaning.{Written, sentOutcome, isWritten}
 use Rattle.reader.specs.declared.frame.FrameRead.{FrameRead}
 use Rattle.reader.specs.Frame.{leadingDiffers, lengthAt, frameOf, frameAt}
 use Rattle.reader.specs.Meaning as read
-use Rattle.reader.specs.Reading.{parsedOf, parseWhole, parseFrame, parse, readAsBody, accepting, judging, reading}
+use Rattle.reader.specs.Reading.{parsedOf, parseWhole, parseFrame, parse, readAsBody, contextOf, accepting, judging, reading}
 use Rattle.reader.proofs.Framing.{length-is}
 use Rattle.reading_laws.specs.Acceptance.{Answered}
 use Rattle.reading_laws.proofs.Acceptance.{accepted-is, accepting-answers}
@@ -97,15 +99,15 @@ accepting-whole : (c : Connection) (taken n : ℕ) (r : PacketRead) → acceptin
 accepting-whole c taken n r e = subst Answered e (accepting-answers c taken r)
 
 -- nor is a whole packet
-whole-answered : (d : Direction) (body : Bool) (c : Connection) (s : List ℕ) (n : ℕ) → judging c (parseWhole d body s) ≡ read.needs n → ⊥
+whole-answered : (context : Context) (c : Connection) (s : List ℕ) (n : ℕ) → judging c (parseWhole context s) ≡ read.needs n → ⊥
 unfolding parseWhole
-whole-answered d body c s n = by-kind (kindAt d body s)
+whole-answered context c s n = by-kind (kindAt context s)
   where
-    by-state : (kind : Kind) (allowed : Bool) → pick allowed (accepting c (length s) (packetAt kind s .end)) (read.refused notNow) ≡ read.needs n → ⊥
-    by-state kind true e = accepting-whole c (length s) n (packetAt kind s .end) e
+    by-state : (kind : Kind) (allowed : Bool) → pick allowed (accepting c (length s) (packetAt context kind s .end)) (read.refused notNow) ≡ read.needs n → ⊥
+    by-state kind true e = accepting-whole c (length s) n (packetAt context kind s .end) e
     by-state kind false e = let z : _≡_ {A = ℕ} 0 1 = cc in omega arith
 
-    by-kind : (k : KindRead) → judging c (parsedOf s k) ≡ read.needs n → ⊥
+    by-kind : (k : KindRead) → judging c (parsedOf context s k) ≡ read.needs n → ⊥
     by-kind (KindRead.Refused k) e = let z : _≡_ {A = ℕ} 0 1 = cc in omega arith
     by-kind (KindRead.Kind kind) e = by-state kind (inState c kind) e
 
@@ -130,14 +132,14 @@ module _ (r : Building) (buffer : List ℕ) (can : Closable r buffer) (d : Direc
       ap (λ (f : FrameRead). pick (leadingDiffers d s) (FrameRead.Refused leadingWrong) f) (ap (frameOf (length s)) payload ∙ sized)
 
   -- so "needs" is not the answer
-  frame-answered : (body : Bool) (c : Connection) (n : ℕ) → judging c (parse d body (closedPacket r buffer)) ≡ read.needs n → ⊥
+  frame-answered : (c : Connection) (n : ℕ) → judging c (parse (contextOf d c) (closedPacket r buffer)) ≡ read.needs n → ⊥
   unfolding parse
-  frame-answered body c n e =
-      go (leadingDiffers d (closedPacket r buffer)) (ap (λ (f : FrameRead). judging c (parseFrame d body (closedPacket r buffer) f)) (sym closed-frame) ∙ e)
+  frame-answered c n e =
+      go (leadingDiffers d (closedPacket r buffer)) (ap (λ (f : FrameRead). judging c (parseFrame (contextOf d c) (closedPacket r buffer) f)) (sym closed-frame) ∙ e)
     where
-      go : (differ : Bool) → judging c (parseFrame d body (closedPacket r buffer) (framed differ)) ≡ read.needs n → ⊥
+      go : (differ : Bool) → judging c (parseFrame (contextOf d c) (closedPacket r buffer) (framed differ)) ≡ read.needs n → ⊥
       go true q = let z : _≡_ {A = ℕ} 0 1 = cc in omega arith
-      go false q = whole-answered d body c (part (closedPacket r buffer) 0 (closedLength r)) n q
+      go false q = whole-answered (contextOf d c) c (part (closedPacket r buffer) 0 (closedLength r)) n q
 
   -- and where it is whole, all of it is taken
   frame-taken : (taken : ℕ) → frameAt d (closedPacket r buffer) ≡ FrameRead.Whole taken → taken ≡ closedLength r
@@ -174,23 +176,23 @@ module _ (r : Building) (buffer : List ℕ) (can : Closable r buffer) where
   all-taken taken e = ap (λ (n : ℕ). take n (closedPacket r buffer)) (e ∙ sym (packet-length r buffer can)) ∙ take-length (closedPacket r buffer)
 
   -- by its code it is of the record's kind
-  code-kind : r .headers ≤ maxHeaders → getD buffer codePlace 0 ≡ codeOf (builtKind (r .kind)) → (found : Kind)
-      → kindAt (directionIn r) false (closedPacket r buffer) ≡ KindRead.Kind found → found ≡ builtKind (r .kind)
-  unfolding kindAt byteAt
-  code-kind few is found e =
+  code-kind : r .headers ≤ maxHeaders → getD buffer codePlace 0 ≡ codeOf (builtKind (r .kind)) → (c : Connection) → readAsBody (directionIn r) c ≡ false
+      → (found : Kind) → kindAt (contextOf (directionIn r) c) (closedPacket r buffer) ≡ KindRead.Kind found → found ≡ builtKind (r .kind)
+  unfolding byteAt
+  code-kind few is c none found e =
       let s : List ℕ = closedPacket r buffer in
       let there : byteAt s codePlace ≡ NumberRead.Number (getD s codePlace 0) (codePlace + 1) =
       sym (number-read 1 (getD s codePlace 0) s codePlace (omega (arith, packet-length r buffer can, can .behind, can .apart))) in
       code-of-kind (r .kind) (eqb (r .count .0) codePlace) found
       (ap (codeKind (directionIn r)) (sym (packet-code r buffer can (codeOf (builtKind (r .kind))) few is))
-      ∙ ap (kindOfCode (directionIn r)) (sym there) ∙ e)
+      ∙ sym (kind-is (contextOf (directionIn r) c) false s _ none there) ∙ e)
 
 module _ (c : Connection) (r : Building) (buffer : List ℕ) where
   -- "needs" is never the judge's answer to a packet that is closed
   pub closed-whole : closingFault c r buffer ≡ 0 → (n : ℕ) → judgement c r (closedPacket r buffer) ≡ read.needs n → ⊥
   unfolding judgement
   closed-whole none n e =
-      frame-answered r buffer (ready-closable c r buffer (fault-ready c r buffer none)) (directionIn r) (readAsBody (directionIn r) c) c n e
+      frame-answered r buffer (ready-closable c r buffer (fault-ready c r buffer none)) (directionIn r) c n e
 
   -- where a packet that is closed passes, all of it is taken
   closed-taken : Ready c r buffer → (packet : Packet) (taken : ℕ) (next : Connection)
@@ -211,11 +213,9 @@ module _ (c : Connection) (r : Building) (buffer : List ℕ) where
       let reads : reading (directionIn r) c s maxPlaces ≡ read.accepted packet taken next = aside (directionIn r) c s maxPlaces (omega arith) ∙ e in
       let a = accepted-is (directionIn r) c s maxPlaces packet taken next reads in
       let all : part s 0 taken ≡ s = all-taken r buffer (ready-closable c r buffer ready) taken (closed-taken ready packet taken next e) in
-      let code : kindAt (directionIn r) false s ≡ KindRead.Kind (a .kind) =
-      ap (λ (l : List ℕ). kindAt (directionIn r) false l) (sym all)
-      ∙ ap (λ (body : Bool). kindAt (directionIn r) body (part s 0 taken)) (sym (none-due c (r .kind) (ready .allowed))) ∙ a .kind-is in
-      parsed-kind (a .kind) (part s 0 taken) packet (a .fields-are)
-      ∙ code-kind r buffer (ready-closable c r buffer ready) (can .few) (can .code) (a .kind) code
+      let code : kindAt (contextOf (directionIn r) c) s ≡ KindRead.Kind (a .kind) = ap (kindAt (contextOf (directionIn r) c)) (sym all) ∙ a .kind-is in
+      parsed-kind (contextOf (directionIn r) c) (a .kind) (part s 0 taken) packet (a .fields-are)
+      ∙ code-kind r buffer (ready-closable c r buffer ready) (can .few) (can .code) c (none-due c (r .kind) (ready .allowed)) (a .kind) code
 
   -- the bytes that `read_there` is given are read in the packet's direction as they are judged
   pub read-there : (d : Direction) (room : ℕ) → d ≡ directionIn r → maxPlaces ≤ room → reading d c buffer room ≡ judgement c r buffer

@@ -19,7 +19,7 @@ use Rattle.building_record.specs.declared.Building.{Building}
 use Rattle.building_record.specs.Record.{builtKind, directionIn, isPossible}
 use Rattle.writer.specs.Meaning.{Written}
 use Rattle.reader.specs.Meaning as read
-use Rattle.reader.specs.Reading.{parse, readAsBody, judging}
+use Rattle.reader.specs.Reading.{parse, contextOf, judging}
 use Rattle.wire.specs.Packet.{payloadPlace, lengthPlace}
 
 -- what stands behind the last piece: FF in a Forward, nothing in a Send Headers
@@ -58,7 +58,7 @@ closedPacket r buffer = part (closed r buffer) 0 (closedLength r)
 
 -- what reading would answer to these bytes at the end to which they go, with this connection and the table aside
 unfoldable pub judgement : Connection → Building → List ℕ → read.Meaning
-judgement c r packet = judging c (parse (directionIn r) (readAsBody (directionIn r) c) packet)
+judgement c r packet = judging c (parse (contextOf (directionIn r) c) packet)
 
 -- what closing comes to by that: the judge's number, or written, with the packet's length and the connection after it. "needs" is never the
 -- judge's answer, since the length that was set is the packet's (the law `closed-whole`); 3 stands for it

@@ -55,7 +55,7 @@ use Rattle.messages.specs.Message.{Text, null, text, MessageName, coded,
 use Rattle.messages.specs.Shown.{textShown, nameShown, headersShown, headerPlaces, messageShown}
 use Rattle.messages.specs.Declared.{namesLength, lengthValues, zeroDigit, nineDigit, valueFrom, decimalValue, mostDeclared, LengthDeclared, MessageDeclares}
 use Rattle.messages.proofs.Texts.{null-told, text-told}
-use Rattle.messages.proofs.Parses.{accepted-parses}
+use Rattle.messages.proofs.Parses.{contextFor, accepted-parses}
 use Rattle.messages.proofs.Tables.{tableOf, table-filled, header-places}
 
 -- a number that is read from digits is their decimal value, and they are digits
@@ -386,7 +386,7 @@ forward-declares s table f e =
     (subst (λ (n : ℕ). LengthDeclared n (lengthValues (headersShown s (headers .places)))) (sym (by .3)) (all-declared (by .0) (lengthValues (headersShown s (headers .places))) make))
 
 -- a packet declares what the message that it shows does
-packet-declares : (p : Packet) (s table : List ℕ) → packetAt (packetKind p) s .end ≡ PacketRead.Packet p
+packet-declares : (p : Packet) (s table : List ℕ) → packetAt (contextFor (packetKind p)) (packetKind p) s .end ≡ PacketRead.Packet p
     → MessageDeclares (bodyDeclared p) (messageShown p s (tableOf p s table))
 unfolding messageShown
 packet-declares Packet.CPing s table e = refl

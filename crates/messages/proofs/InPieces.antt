@@ -19,6 +19,7 @@ use Rattle.connection.specs.declared.Connection.{Connection}
 use Rattle.places.specs.Entries.{maxPlaces}
 use Rattle.payload.specs.Code.{codeOf, kindAt}
 use Rattle.payload.specs.Kinds.{packetKind, packetMove}
+use Rattle.payload.specs.declared.Context.{Context}
 use Rattle.payload.specs.declared.KindRead.{KindRead}
 use Rattle.payload.proofs.Handed.{forward-handed}
 use Rattle.packet.specs.declared.Part.{Part}
@@ -30,14 +31,14 @@ use Rattle.building_record.specs.Record as building
 use Rattle.building_record.specs.declared.BuildingKind.{BuildingKind}
 use Rattle.writer.specs.Meaning.{Written}
 use Rattle.reader.specs.Meaning.{accepted}
-use Rattle.reader.specs.Reading.{parse, readAsBody, judging, reading}
+use Rattle.reader.specs.Reading.{parse, contextOf, judging, reading}
 use Rattle.reading_laws.proofs.Aside.{aside}
 use Rattle.messages.specs.Message.{Request, Response, Message, forward, sendHeaders, Header, Attribute, messageDirection}
 use Rattle.messages.specs.Bytes.{payloadOf, messageBytes}
 use Rattle.messages.specs.Writing.{writing}
 use Rattle.messages.specs.RoundTrips.{WrittenBack}
 use Rattle.messages.specs.Shown.{headerPlaces, attributePlaces, messageShown}
-use Rattle.messages.proofs.Parses.{isBody, Parses, packet-as-body, none-due, parses-alone, parses-most, parses-places, accepted-parses, all-parses, kind-written}
+use Rattle.messages.proofs.Parses.{isBody, contextFor, Parses, packet-context, none-due, parses-alone, parses-most, parses-places, accepted-parses, all-parses, kind-written}
 use Rattle.messages.proofs.Tables.{tableOf, forward-table, send-headers-table}
 use Rattle.messages.proofs.RoundTrip.{Forth, Back, own-way, Shows, Stands, stands-back}
 use Rattle.messages.proofs.PiecesWritten.{PiecesWritten, Writes, forward-written, forward-writes, send-headers-written, send-headers-writes}
@@ -76,9 +77,11 @@ kind-found : (c : Connection) (kind : BuildingKind) (rest : List ℕ) (p : Packe
     Parses (directionOf k) (packet (directionOf k) (codeOf k ∷ rest)) p → allowed c (packetMove p) ≡ true → inState c k ≡ true → packetKind p ≡ k)
 kind-found c kind rest p r a in-state =
     let k : Kind = building.builtKind kind in
-    let same : isBody (packetKind p) ≡ isBody k = sym (packet-as-body c (directionOf k) p (r .way) a) ∙ none-due c kind in-state ∙ sym (not-body kind) in
+    let same : contextFor (packetKind p) ≡ contextFor k =
+    sym (packet-context c (directionOf k) p (r .way) a)
+    ∙ ap (λ (body : Bool). record { direction = directionOf k; body = body }) (none-due c kind in-state ∙ sym (not-body kind)) in
     let found : KindRead.Kind (packetKind p) ≡ KindRead.Kind k =
-    sym (r .kind-is) ∙ ap (λ (t : Bool). kindAt (directionOf k) t (packet (directionOf k) (codeOf k ∷ rest))) same
+    sym (r .kind-is) ∙ ap (λ (x : Context). kindAt x (packet (directionOf k) (codeOf k ∷ rest))) same
     ∙ kind-written k rest (not-body kind) in
     cc
 
@@ -130,7 +133,7 @@ send-headers-forth response c buffer w left fit e =
 
 -- a packet that parses is judged good by a connection that allows its move
 parses-judged : {d : Direction} {s : List ℕ} {p : Packet} → Parses d s p → (c : Connection) → allowed c (packetMove p) ≡ true
-    → judging c (parse d (readAsBody d c) s) ≡ accepted p (length s) (after c (packetMove p))
+    → judging c (parse (contextOf d c) s) ≡ accepted p (length s) (after c (packetMove p))
 parses-judged {d} {s} r c a = sym (aside d c s maxPlaces (omega arith)) ∙ parses-alone r c a maxPlaces (parses-places r)
 
 -- a packet in pieces whose fields are kept is written back as its bytes
@@ -142,8 +145,8 @@ kept-back : {c : Connection} {s buffer : List ℕ} {p : Packet} {m : Message} {o
 kept-back {c} {s} {buffer} {p} {m} kind r a in-state fits kept writes =
     let d : Direction = directionOf (building.builtKind kind) in
     let size : length (messageBytes m) ≡ length s = ap length (kept .bytes-are) in
-    let judged : judging c (parse d (readAsBody d c) (messageBytes m)) ≡ accepted p (length s) (after c (packetMove p)) =
-    ap (λ (l : List ℕ). judging c (parse d (readAsBody d c) l)) (kept .bytes-are) ∙ parses-judged r c a in
+    let judged : judging c (parse (contextOf d c) (messageBytes m)) ≡ accepted p (length s) (after c (packetMove p)) =
+    ap (λ (l : List ℕ). judging c (parse (contextOf d c) l)) (kept .bytes-are) ∙ parses-judged r c a in
     let written =
     writes p (length s) (after c (packetMove p)) (kept .own-fine) (kept .headers-fine) (kept .attributes-fine) (kept .few)
     (omega (arith, parses-most r, size)) (omega (arith, size)) in-state judged in

@@ -56,7 +56,7 @@ use Rattle.messages.specs.Bytes.{payloadOf, messageBytes}
 use Rattle.messages.specs.Writing.{wrote, wroteBy, oneCall, writing}
 use Rattle.messages.specs.Shown.{messageShown}
 use Rattle.messages.proofs.Frames.{frame-written, head-kept}
-use Rattle.messages.proofs.Parses.{isBody, Parses, parses-most, coded-parses, coded-kept}
+use Rattle.messages.proofs.Parses.{contextFor, isBody, Parses, parses-most, coded-parses, coded-kept}
 use Rattle.messages.proofs.Tables.{tableOf}
 use Rattle.messages.proofs.RoundTrip.{Forth, Back, wrote-done, Shows, Stands, stands-back}
 
@@ -482,7 +482,7 @@ body-payload {s} bytes (sized n e some size) =
 
 module _ {d : Direction} {s : List ℕ} (bytes : Bytes s) where
   -- the bytes of a packet that is its code alone
-  bare-kept : (p : Packet) → isBody (packetKind p) ≡ false → packetAt (packetKind p) s .end ≡ bareAt s p → Parses d s p
+  bare-kept : (p : Packet) → isBody (packetKind p) ≡ false → packetAt (contextFor (packetKind p)) (packetKind p) s .end ≡ bareAt s p → Parses d s p
       → s ≡ packet (directionOf (packetKind p)) (codeOf (packetKind p) ∷ [])
   bare-kept p b e r =
       let f = finished-is (length s) afterCodePlace p p (sym e ∙ r .fields-are) in

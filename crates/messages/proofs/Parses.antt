@@ -13,7 +13,7 @@ use lib.Dec.{leb, eqb}
 use lib.ListN.{length, getD, drop}
 use lib.Seq.{take-length, drop-cons}
 use Rattle.wire.specs.Pick.{pick, both, either}
-use Rattle.wire.specs.Refusal.{leftOver, codeNotServed, codeWrong, cutShort}
+use Rattle.wire.specs.Refusal.{codeNotServed, codeWrong, cutShort}
 use Rattle.wire.specs.Bytes.{part}
 use Rattle.wire.specs.Field.{byteAt}
 use Rattle.wire.specs.Packet.{packetHead, packet, afterCodePlace, codePlace}
@@ -33,7 +33,7 @@ use Rattle.connection.specs.declared.Connection.{Connection}
 use Rattle.places.specs.Entries.{maxPlaces}
 use Rattle.payload.specs.Code.{codeOf, codeKind, kindOfCode, kindAt, pingCode, shutdownCode}
 use Rattle.payload.specs.Kinds.{packetAt, packetKind, packetMove}
-use Rattle.payload.specs.Packet.{finished}
+use Rattle.payload.specs.declared.Context.{Context}
 use Rattle.payload.specs.declared.KindRead.{KindRead}
 use Rattle.packet.specs.declared.Packet.{Packet}
 use Rattle.payload.specs.declared.found.PacketRead.{PacketRead}
@@ -43,7 +43,7 @@ use Rattle.building_record.specs.Record as building
 use Rattle.building_record.specs.declared.BuildingKind.{BuildingKind}
 use Rattle.reader.specs.Frame.{frameAt}
 use Rattle.reader.specs.Meaning.{accepted, placesNeeded}
-use Rattle.reader.specs.Reading.{readAsBody, reading}
+use Rattle.reader.specs.Reading.{readAsBody, contextOf, reading}
 use Rattle.reader.specs.declared.frame.FrameRead.{FrameRead}
 use Rattle.reader.proofs.Framing.{frame-inside}
 use Rattle.reading_laws.proofs.Acceptance.{accepted-by, accepted-is}
@@ -63,12 +63,16 @@ isBody Kind.SendHeaders = false
 isBody Kind.BodyChunk = false
 isBody Kind.End = false
 
+-- what is known beside its bytes of a packet of a kind: its way, and that it is read as a body packet where it is one
+abbrev pub contextFor : Kind → Context
+contextFor kind = record { direction = directionOf kind; body = isBody kind }
+
 -- bytes are a whole packet of a direction that says this, read as a body packet where it is one and by its code otherwise
 pub record Parses (d : Direction) (s : List ℕ) (p : Packet) : Type 0 where
   pub way : directionOf (packetKind p) ≡ d
   pub whole-is : frameAt d s ≡ FrameRead.Whole (length s)
-  pub kind-is : kindAt d (isBody (packetKind p)) s ≡ KindRead.Kind (packetKind p)
-  pub fields-are : packetAt (packetKind p) s .end ≡ PacketRead.Packet p
+  pub kind-is : kindAt (contextFor (packetKind p)) s ≡ KindRead.Kind (packetKind p)
+  pub fields-are : packetAt (contextFor (packetKind p)) (packetKind p) s .end ≡ PacketRead.Packet p
 
 -- no body packet is due where a connection is Idle
 idle-none : (state : State) (due : Bool) → both (isIdle state) true ≡ true → both (isBusy state) due ≡ false
@@ -93,6 +97,13 @@ pub packet-as-body : (c : Connection) (d : Direction) (p : Packet) → direction
     → readAsBody d c ≡ isBody (packetKind p)
 packet-as-body c d p way a = rw (← way, ← move-kind p) (as-body c (packetMove p) a)
 
+-- and that is all that is known of it beside its bytes
+pub packet-context : (c : Connection) (d : Direction) (p : Packet) → directionOf (packetKind p) ≡ d → allowed c (packetMove p) ≡ true
+    → contextOf d c ≡ contextFor (packetKind p)
+packet-context c d p way a =
+    subst (λ (x : Direction). contextOf x c ≡ contextFor (packetKind p)) way
+    (ap (λ (body : Bool). record { direction = directionOf (packetKind p); body = body }) (packet-as-body c (directionOf (packetKind p)) p refl a))
+
 -- a state that allows a packet in pieces has no body packet due at the end to which it goes
 pub none-due : (c : Connection) (kind : BuildingKind) → inState c (building.builtKind kind) ≡ true
     → readAsBody (directionOf (building.builtKind kind)) c ≡ false
@@ -105,8 +116,10 @@ pub parses-alone : {d : Direction} {s : List ℕ} {p : Packet} → Parses d s p 
 unfolding part
 parses-alone {d} {s} {p} r c a room h =
     let all : part s 0 (length s) ≡ s = take-length s in
-    let body : readAsBody d c ≡ isBody (packetKind p) = packet-as-body c d p (r .way) a in
-    accepted-by d c s room (packetKind p) p (length s) (r .whole-is) (rw (all, body) (r .kind-is)) (rw all (r .fields-are)) a h
+    let known : contextFor (packetKind p) ≡ contextOf d c = sym (packet-context c d p (r .way) a) in
+    accepted-by d c s room (packetKind p) p (length s) (r .whole-is)
+    (rw all (subst (λ (x : Context). kindAt x s ≡ KindRead.Kind (packetKind p)) known (r .kind-is)))
+    (rw all (subst (λ (x : Context). packetAt x (packetKind p) s .end ≡ PacketRead.Packet p) known (r .fields-are))) a h
 
 -- whatever stands behind it
 pub parses-accepted : {d : Direction} {s : List ℕ} {p : Packet} → Parses d s p → (c : Connection) → allowed c (packetMove p) ≡ true
@@ -122,7 +135,7 @@ parses-most {d} {s} r = frame-inside d s (FrameRead.Whole (length s)) (r .whole-
 
 -- it asks for at most 328 places
 pub parses-places : {d : Direction} {s : List ℕ} {p : Packet} → Parses d s p → placesNeeded p ≤ maxPlaces
-parses-places {d} {s} {p} r = packet-inside (packetKind p) s p (r .fields-are) .places-most
+parses-places {d} {s} {p} r = packet-inside (contextFor (packetKind p)) (packetKind p) s p (r .fields-are) .places-most
 
 -- what an accepted packet is
 pub record AcceptedAs (d : Direction) (c : Connection) (s : List ℕ) (packet : Packet) (n : ℕ) (next : Connection) : Type 0 where
@@ -132,14 +145,14 @@ pub record AcceptedAs (d : Direction) (c : Connection) (s : List ℕ) (packet : 
   pub size : n ≡ length (part s 0 n)
 
 -- a packet that is read as a body packet is one, and goes to the container; every other one goes the way that it was read in
-read-way : (d : Direction) (c : Connection) (s : List ℕ) (kind : Kind) → kindAt d (readAsBody d c) s ≡ KindRead.Kind kind → directionOf kind ≡ d
-read-way Direction.ToServer c s kind e = kind-direction Direction.ToServer false s kind e refl
+read-way : (d : Direction) (c : Connection) (s : List ℕ) (kind : Kind) → kindAt (contextOf d c) s ≡ KindRead.Kind kind → directionOf kind ≡ d
+read-way Direction.ToServer c s kind e = kind-direction (contextOf Direction.ToServer c) s kind e refl
 read-way Direction.ToContainer c s kind e = go (bodyDue c) refl
   where
     go : (t : Bool) → bodyDue c ≡ t → directionOf kind ≡ Direction.ToContainer
-    go false q = kind-direction Direction.ToContainer (bodyDue c) s kind e q
+    go false q = kind-direction (contextOf Direction.ToContainer c) s kind e q
     go true q =
-        let k : KindRead.Kind Kind.Body ≡ KindRead.Kind kind = sym (kind-is Direction.ToContainer (bodyDue c) true s (byteAt s codePlace) q refl) ∙ e in
+        let k : KindRead.Kind Kind.Body ≡ KindRead.Kind kind = sym (kind-is (contextOf Direction.ToContainer c) true s (byteAt s codePlace) q refl) ∙ e in
         let b : Kind.Body ≡ kind = cc in
         ap directionOf (sym b)
 
@@ -151,14 +164,15 @@ accepted-parses d c s room p n next e =
     let inside = frame-inside d s (FrameRead.Whole n) (a .whole-is) in
     let there : n ≤ length s = inside .1 .1 in
     let size : length (part s 0 n) ≡ n = length-part s 0 n (rw (zero-add n) there) in
-    let kind : packetKind p ≡ a .kind = parsed-kind (a .kind) (part s 0 n) p (a .fields-are) in
+    let kind : packetKind p ≡ a .kind = parsed-kind (contextOf d c) (a .kind) (part s 0 n) p (a .fields-are) in
     let way : directionOf (packetKind p) ≡ d = ap directionOf kind ∙ read-way d c (part s 0 n) (a .kind) (a .kind-is) in
+    let known : contextOf d c ≡ contextFor (packetKind p) = packet-context c d p way (a .allows) in
     record {
       parses = record {
         way = way;
         whole-is = part-whole d s n (a .whole-is) ∙ ap FrameRead.Whole (sym size);
-        kind-is = rw (← packet-as-body c d p way (a .allows), kind) (a .kind-is);
-        fields-are = rw kind (a .fields-are);
+        kind-is = subst (λ (x : Context). kindAt x (part s 0 n) ≡ KindRead.Kind (packetKind p)) known (rw kind (a .kind-is));
+        fields-are = subst (λ (x : Context). packetAt x (packetKind p) (part s 0 n) .end ≡ PacketRead.Packet p) known (rw kind (a .fields-are));
       };
       allows = a .allows;
       steps = a .steps;
@@ -174,7 +188,7 @@ all-parses d c s room p next e =
 
 -- a packet that was written with a kind's code first in its payload is of that kind; a body packet has no code
 pub kind-written : (k : Kind) (rest : List ℕ) → isBody k ≡ false
-    → kindAt (directionOf k) (isBody k) (packet (directionOf k) (codeOf k ∷ rest)) ≡ KindRead.Kind k
+    → kindAt (contextFor k) (packet (directionOf k) (codeOf k ∷ rest)) ≡ KindRead.Kind k
 kind-written k rest e =
     let d : Direction = directionOf k in
     let code : ℕ = codeOf k in
@@ -182,7 +196,7 @@ kind-written k rest e =
     let read : byteAt (packet d (code ∷ rest)) codePlace ≡ NumberRead.Number code afterCodePlace =
     subst (λ (at : ℕ). byteAt (before ++ (code ∷ rest)) at ≡ NumberRead.Number code (at + 1)) (head-four d (length (code ∷ rest)))
     (byte-written before rest code) in
-    kind-is d (isBody k) false (packet d (code ∷ rest)) (NumberRead.Number code afterCodePlace) e read
+    kind-is (contextFor k) false (packet d (code ∷ rest)) (NumberRead.Number code afterCodePlace) e read
     ∙ code-found k (λ q. false≢true (sym e ∙ ap isBody q))
 
 -- a code that is of a kind is that kind's
@@ -213,29 +227,29 @@ code-of-kind Direction.ToServer code k =
     go false false false false false p q r s t f = cc
 
 -- a packet that is not a body packet has its code behind its packetHead
-code-kept : (d : Direction) (s : List ℕ) (k : Kind) → isBody k ≡ false → kindAt d (isBody k) s ≡ KindRead.Kind k
+code-kept : (s : List ℕ) (k : Kind) → isBody k ≡ false → kindAt (contextFor k) s ≡ KindRead.Kind k
     → (afterCodePlace ≤ length s) × (getD s codePlace 0 ≡ codeOf k)
 unfolding byteAt
-code-kept d s k b e = go (leb afterCodePlace (length s)) refl (sym (kind-is d (isBody k) false s (byteAt s codePlace) b refl) ∙ e)
+code-kept s k b e = go (leb afterCodePlace (length s)) refl (sym (kind-is (contextFor k) false s (byteAt s codePlace) b refl) ∙ e)
   where
     go : (t : Bool) → leb afterCodePlace (length s) ≡ t
-        → kindOfCode d (pick t (NumberRead.Number (getD s codePlace 0) afterCodePlace) (NumberRead.Refused cutShort)) ≡ KindRead.Kind k
+        → kindOfCode (directionOf k) (pick t (NumberRead.Number (getD s codePlace 0) afterCodePlace) (NumberRead.Refused cutShort)) ≡ KindRead.Kind k
         → (afterCodePlace ≤ length s) × (getD s codePlace 0 ≡ codeOf k)
-    go true p q = (leb-true afterCodePlace (length s) p, code-of-kind d (getD s codePlace 0) k q)
+    go true p q = (leb-true afterCodePlace (length s) p, code-of-kind (directionOf k) (getD s codePlace 0) k q)
     go false p q = absurd (let z : _≡_ {A = ℕ} 0 1 = cc in omega arith)
 
 -- so it is its packetHead, its code and what stands behind that
 pub coded-kept : {d : Direction} {s : List ℕ} {p : Packet} → Parses d s p → isBody (packetKind p) ≡ false → Bytes s
     → s ≡ packet (directionOf (packetKind p)) (codeOf (packetKind p) ∷ drop afterCodePlace s)
 coded-kept {d} {s} {p} r b bytes =
-    let code = code-kept d s (packetKind p) b (r .kind-is) in
+    let code = code-kept s (packetKind p) b (r .kind-is) in
     let behind : drop codePlace s ≡ codeOf (packetKind p) ∷ drop afterCodePlace s = drop-cons s codePlace 0 (omega (arith, code .0)) ∙ ap (λ (n : ℕ). n ∷ drop afterCodePlace s) (code .1) in
     head-kept d s (length s) bytes (r .whole-is) refl ∙ ap (packet d) behind
     ∙ ap (λ (way : Direction). packet way (codeOf (packetKind p) ∷ drop afterCodePlace s)) (sym (r .way))
 
 -- a packet that was written with its code first in its payload parses where its fields are read
 pub coded-parses : (p : Packet) (rest : List ℕ) → isBody (packetKind p) ≡ false → length rest + 1 ≤ maxPayload
-    → packetAt (packetKind p) (packet (directionOf (packetKind p)) (codeOf (packetKind p) ∷ rest)) .end ≡ PacketRead.Packet p
+    → packetAt (contextFor (packetKind p)) (packetKind p) (packet (directionOf (packetKind p)) (codeOf (packetKind p) ∷ rest)) .end ≡ PacketRead.Packet p
     → Parses (directionOf (packetKind p)) (packet (directionOf (packetKind p)) (codeOf (packetKind p) ∷ rest)) p
 coded-parses p rest b most fields =
     let k : Kind = packetKind p in

@@ -29,7 +29,7 @@ use Rattle.building_record.specs.declared.Building.{Building}
 use Rattle.building_record.proofs.Laws.{possible-yes}
 use Rattle.writer.specs.Meaning.{Written}
 use Rattle.reader.specs.Meaning.{accepted}
-use Rattle.reader.specs.Reading.{parse, readAsBody, judging}
+use Rattle.reader.specs.Reading.{parse, contextOf, judging}
 use Rattle.closing.specs.Closing.{lastBytes, closedLength, closed, closedPacket, judgement, closeOutcome, closeBuffer}
 use Rattle.closing.specs.Done.{Ready, CloseDone}
 use Rattle.closing.proofs.Laws.{close-done, done-close}
@@ -192,7 +192,7 @@ pub record PiecesWritten (c : Connection) (kind : BuildingKind) (own : List Fiel
   pub is : after ≡ over buffer 0 whole
   pub state : inState c (builtKind kind) ≡ true
   pub found : Packet
-  pub judged : judging c (parse (directionOf (builtKind kind)) (readAsBody (directionOf (builtKind kind)) c) whole)
+  pub judged : judging c (parse (contextOf (directionOf (builtKind kind)) c) whole)
       ≡ accepted found (length whole) (w .connection)
 
 -- and the other way: where no piece has a fault, all fit, and the packet is judged good, it is written
@@ -200,7 +200,7 @@ abbrev pub Writes : Connection → BuildingKind → List Field → List Header �
 Writes c kind own headers attributes whole buffer answer = (p : Packet) (taken : ℕ) (next : Connection) → FieldsFine own
     → HeadersFine (directionOf (builtKind kind)) headers → AttributesFine attributes → length headers ≤ maxHeaders → length whole ≤ maxPacket
     → length whole ≤ length buffer → inState c (builtKind kind) ≡ true
-    → judging c (parse (directionOf (builtKind kind)) (readAsBody (directionOf (builtKind kind)) c) whole) ≡ accepted p taken next
+    → judging c (parse (contextOf (directionOf (builtKind kind)) c) whole) ≡ accepted p taken next
     → answer ≡ wrote (record { size = length whole; connection = next }) (over buffer 0 whole)
 
 module _ (c : Connection) (kind : BuildingKind) (own : List Field) (headers : List Header) (attributes : List Attribute) (buffer : List ℕ) where
@@ -270,8 +270,8 @@ module _ (c : Connection) (kind : BuildingKind) (own : List Field) (headers : Li
         state = closes .ready .allowed;
         found = closes .packet;
         judged =
-            subst (λ (n : ℕ). judging c (parse d (readAsBody d c) whole) ≡ accepted (closes .packet) n (w .connection)) size
-            (subst (λ (l : List ℕ). judging c (parse d (readAsBody d c) l) ≡ accepted (closes .packet) (closedLength r) (w .connection))
+            subst (λ (n : ℕ). judging c (parse (contextOf d c) whole) ≡ accepted (closes .packet) n (w .connection)) size
+            (subst (λ (l : List ℕ). judging c (parse (contextOf d c) l) ≡ accepted (closes .packet) (closedLength r) (w .connection))
             (closed-packet kind own headers attributes buffer came fits) (closes .judged-is));
       }
 
@@ -298,7 +298,7 @@ module _ (c : Connection) (kind : BuildingKind) (own : List Field) (headers : Li
       } in
       let closes =
       done-close c r x ready p taken next
-      (ap (λ (l : List ℕ). judging c (parse d (readAsBody d c) l)) (closed-packet kind own headers attributes buffer came fits) ∙ judged) in
+      (ap (λ (l : List ℕ). judging c (parse (contextOf d c) l)) (closed-packet kind own headers attributes buffer came fits) ∙ judged) in
       ap (closeBuilt c) (here .is)
       ∙ ap (wroteBy (closeBuffer c r x)) (closes .0)
       ∙ ap (wrote w) (closes .1 ∙ closed-bytes kind own headers attributes buffer came (here .room))

@@ -2,13 +2,13 @@
 -- written to the bytes that it was read from. Here is what each kind has to show; the files of the kinds show it.
 -- Assumes nothing.
 use native.Mathlib.Omega.{arith}
-use mathlib.Core.Path.{_≡_, sym, ap, subst, _∙_}
+use mathlib.Core.Path.{_≡_, sym, ap, subst}
 use mathlib.Core.Bool.{true}
 use mathlib.Core.List.{List, _++_}
 use Prim.Native.Nat.{ℕ, _≤_}
 use lib.ListN.{length}
 use lib.Seq.{take-append-seam}
-use Rattle.wire.specs.Bytes.{part, over}
+use Rattle.wire.specs.Bytes.{part}
 use Rattle.packet.specs.declared.Direction.{Direction}
 use Rattle.wire.specs.Facts.{Bytes}
 use Rattle.wire.proofs.Parts.{bytes-part}

@@ -16,7 +16,7 @@ use Rattle.writer.specs.Meaning.{Written}
 use Rattle.reader.specs.Meaning.{accepted}
 use Rattle.reader.specs.Reading.{reading, tableAfter}
 use Rattle.messages.specs.Message.{Message, messageKind, cping, cpong, forward, body, getBody, sendHeaders, bodyChunk, end, messageDirection, placesFor, Fit}
-use Rattle.messages.specs.Bytes.{payloadOf, messageBytes}
+use Rattle.messages.specs.Bytes.{payloadOf}
 use Rattle.messages.specs.Writing.{wrote, writing}
 use Rattle.messages.specs.Shown.{messageShown}
 use Rattle.messages.specs.RoundTrips.{WrittenBytes, ReadBack, WrittenBack}

@@ -2,7 +2,7 @@
 -- and those of its attributes stand behind them.
 -- Assumes nothing.
 use native.Mathlib.Omega.{arith}
-use mathlib.Core.Path.{_≡_, refl, sym, ap, _∙_}
+use mathlib.Core.Path.{_≡_, sym, ap, _∙_}
 use mathlib.Core.List.{List, [], _++_, append-nil}
 use Prim.Native.Nat.{ℕ, _*_}
 use lib.ListN.{length}
@@ -17,28 +17,37 @@ use Rattle.payload.specs.Kinds.{packetAt, packetKind}
 use Rattle.packet.specs.declared.Forward.{Forward}
 use Rattle.packet.specs.declared.SendHeaders.{SendHeaders}
 use Rattle.packet.specs.declared.Packet.{Packet}
+use Rattle.payload.specs.declared.Context.{Context}
 use Rattle.payload.specs.declared.found.PacketRead.{PacketRead}
 use Rattle.payload.proofs.Parsed.{parsed-kind}
 use Rattle.payload.proofs.Handed.{forward-handed, head-handed}
 use Rattle.reader.specs.Meaning.{accepted, headersIn, attributesIn}
-use Rattle.reader.specs.Reading.{reading, tableAfter}
+use Rattle.reader.specs.Reading.{contextOf, reading, tableAfter}
 use Rattle.reading_laws.proofs.Acceptance.{accepted-is, accepted-fills}
 use Rattle.messages.specs.Shown.{headerPlaces, attributePlaces}
+use Rattle.messages.proofs.Parses.{contextFor, packet-context, accepted-parses}
+
+-- the places that a packet has for the table
+abbrev placesIn : Packet → List ℕ → List ℕ
+placesIn p s = packetAt (contextFor (packetKind p)) (packetKind p) s .places
 
 -- the table with a packet's places
 abbrev pub tableOf : Packet → List ℕ → List ℕ → List ℕ
-tableOf p s table = over table 0 (packetAt (packetKind p) s .places)
+tableOf p s table = over table 0 (placesIn p s)
 
 -- an accepted packet fills the table with its own places
 pub table-filled : (d : Direction) (c : Connection) (s table : List ℕ) (p : Packet) (n : ℕ) (next : Connection)
     → reading d c s (length table) ≡ accepted p n next → tableAfter d c s table ≡ tableOf p (part s 0 n) table
 table-filled d c s table p n next e =
     let a = accepted-is d c s (length table) p n next e in
-    let kind : a .kind ≡ packetKind p = sym (parsed-kind (a .kind) (part s 0 n) p (a .fields-are)) in
-    accepted-fills d c s table p n next e .0 ∙ ap (λ (k : Kind). over table 0 (packetAt k (part s 0 n) .places)) kind
+    let kind : a .kind ≡ packetKind p = sym (parsed-kind (contextOf d c) (a .kind) (part s 0 n) p (a .fields-are)) in
+    accepted-fills d c s table p n next e .0
+    ∙ ap (λ (k : Kind). over table 0 (packetAt (contextOf d c) k (part s 0 n) .places)) kind
+    ∙ ap (λ (x : Context). over table 0 (packetAt x (packetKind p) (part s 0 n) .places))
+    (packet-context c d p (accepted-parses d c s (length table) p n next e .parses .way) (a .allows))
 
 -- a packet's places, parted into those of its headers and those of its attributes
-module _ (p : Packet) (s table headers attributes : List ℕ) (are : packetAt (packetKind p) s .places ≡ headers ++ attributes)
+module _ (p : Packet) (s table headers attributes : List ℕ) (are : placesIn p s ≡ headers ++ attributes)
     (many : length headers ≡ 2 * headersIn p) where
   -- the places of its headers in the table, whatever its length
   pub header-places : headerPlaces p (tableOf p s table) ≡ headers

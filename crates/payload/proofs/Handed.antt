@@ -43,6 +43,7 @@ use Rattle.packet.specs.declared.Part.{Part}
 use Rattle.packet.specs.declared.Packet.{Packet}
 use Rattle.payload.specs.declared.field.FieldRead.{FieldRead}
 use Rattle.payload.specs.declared.lists.ListsRead.{ListsRead}
+use Rattle.payload.specs.declared.Context.{Context}
 use Rattle.payload.specs.declared.found.PacketRead.{PacketRead}
 use Rattle.payload.specs.Sequence.{afterCode, behind, stringAsField, stringFieldAt, stringAfter, booleanAsField, booleanFieldAt, booleanAfter, numberAsField, anyIntegerAfter, bounded, byteAfter, integerAfter, fieldPlace, fieldNumber}
 use Rattle.payload.specs.Facts.{ForwardPlaces, SendHeadersPlaces}
@@ -621,21 +622,21 @@ chunk-handed s p = by-length (integerAt s afterCodePlace) refl
         by-tests len (f ∙ ap (NumberRead.Number len) ends) (leb (chunkStart + (len + 1)) (length s)) (eqb (getD s (chunkStart + len) 0) 0) refl q
 
 -- a packet that was read as its own kind
-handed-by : (s : List ℕ) (packet : Packet) → packetAt (packetKind packet) s .end ≡ PacketRead.Packet packet
-    → PacketHanded s packet (packetAt (packetKind packet) s .places)
-handed-by s Packet.CPing e = bare-handed s Packet.CPing e
-handed-by s Packet.CPong e = bare-handed s Packet.CPong e
-handed-by s (Packet.Forward f) e = forward-handed s f e
-handed-by s (Packet.Body p) e = body-handed s p e
-handed-by s (Packet.GetBody asked) e = get-handed s asked e
-handed-by s (Packet.SendHeaders h) e = head-handed s h e
-handed-by s (Packet.BodyChunk p) e = chunk-handed s p e
-handed-by s (Packet.End reuse) e = end-handed s reuse e
+handed-by : (context : Context) (s : List ℕ) (packet : Packet) → packetAt context (packetKind packet) s .end ≡ PacketRead.Packet packet
+    → PacketHanded s packet (packetAt context (packetKind packet) s .places)
+handed-by context s Packet.CPing e = bare-handed s Packet.CPing e
+handed-by context s Packet.CPong e = bare-handed s Packet.CPong e
+handed-by context s (Packet.Forward f) e = forward-handed s f e
+handed-by context s (Packet.Body p) e = body-handed s p e
+handed-by context s (Packet.GetBody asked) e = get-handed s asked e
+handed-by context s (Packet.SendHeaders h) e = head-handed s h e
+handed-by context s (Packet.BodyChunk p) e = chunk-handed s p e
+handed-by context s (Packet.End reuse) e = end-handed s reuse e
 
 -- what any packet that was read hands out was read in it
-pub packet-handed : (kind : Kind) (s : List ℕ) (packet : Packet) → packetAt kind s .end ≡ PacketRead.Packet packet
-    → PacketHanded s packet (packetAt kind s .places)
-packet-handed kind s packet e =
-    let k = parsed-kind kind s packet e in
-    subst (λ (k : Kind). PacketHanded s packet (packetAt k s .places)) k
-    (handed-by s packet (subst (λ (k : Kind). packetAt k s .end ≡ PacketRead.Packet packet) (sym k) e))
+pub packet-handed : (context : Context) (kind : Kind) (s : List ℕ) (packet : Packet) → packetAt context kind s .end ≡ PacketRead.Packet packet
+    → PacketHanded s packet (packetAt context kind s .places)
+packet-handed context kind s packet e =
+    let k = parsed-kind context kind s packet e in
+    subst (λ (k : Kind). PacketHanded s packet (packetAt context k s .places)) k
+    (handed-by context s packet (subst (λ (k : Kind). packetAt context k s .end ≡ PacketRead.Packet packet) (sym k) e))

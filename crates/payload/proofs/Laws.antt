@@ -18,6 +18,7 @@ use Rattle.wire.specs.declared.read.BooleanRead.{BooleanRead}
 use Rattle.wire.specs.declared.read.StringRead.{StringRead}
 use Rattle.connection.specs.declared.Kind.{Kind}
 use Rattle.connection.specs.Cycle.{directionOf}
+use Rattle.payload.specs.declared.Context.{Context}
 use Rattle.payload.specs.declared.KindRead.{KindRead}
 use Rattle.packet.specs.declared.Packet.{Packet}
 use Rattle.payload.specs.declared.found.PacketRead.{PacketRead}
@@ -32,10 +33,10 @@ use Rattle.payload.specs.BodyChunk.{chunkStart, chunkOf, chunkBy, chunkA
 use Rattle.wire.specs.Packet.{payloadPlace, codePlace, afterCodePlace}
 
 -- the kind of a packet, by whether it is read as a body packet and by what its code reads as
-pub kind-is : (d : Direction) (body t : Bool) (s : List ℕ) (r : NumberRead) → body ≡ t → byteAt s codePlace ≡ r
-    → kindAt d body s ≡ pick t (KindRead.Kind Kind.Body) (kindOfCode d r)
+pub kind-is : (context : Context) (t : Bool) (s : List ℕ) (r : NumberRead) → context .body ≡ t → byteAt s codePlace ≡ r
+    → kindAt context s ≡ pick t (KindRead.Kind Kind.Body) (kindOfCode (context .direction) r)
 unfolding kindAt
-kind-is d body t s r p q = rw (p, q)
+kind-is context t s r p q = rw (p, q)
 
 -- a string as a field, by what it reads as
 pub string-field-is : (s : List ℕ) (field : StringField) (at : ℕ) (optional : Bool) (r : StringRead) → optional ≡ isOptional field
@@ -176,7 +177,7 @@ code-read-goes d (NumberRead.Refused n) = tt
 code-read-goes d (NumberRead.Number code next) = code-goes d code
 
 -- the kind of a packet that is not read as a body packet goes the way that the packet goes
-pub kind-direction : (d : Direction) (body : Bool) (s : List ℕ) (k : Kind) → kindAt d body s ≡ KindRead.Kind k → body ≡ false
-    → directionOf k ≡ d
-kind-direction d body s k e f =
-    subst (Goes d) (sym (kind-is d body false s (byteAt s codePlace) f refl) ∙ e) (code-read-goes d (byteAt s codePlace))
+pub kind-direction : (context : Context) (s : List ℕ) (k : Kind) → kindAt context s ≡ KindRead.Kind k → context .body ≡ false
+    → directionOf k ≡ context .direction
+kind-direction context s k e f =
+    subst (Goes (context .direction)) (sym (kind-is context false s (byteAt s codePlace) f refl) ∙ e) (code-read-goes (context .direction) (byteAt s codePlace))

@@ -18,6 +18,7 @@ use Rattle.connection.specs.Cycle.{moveKind}
 use Rattle.headers.specs.declared.HeadersRead.{HeadersRead}
 use Rattle.packet.specs.declared.Packet.{Packet}
 use Rattle.payload.specs.declared.lists.ListsRead.{ListsRead}
+use Rattle.payload.specs.declared.Context.{Context}
 use Rattle.payload.specs.declared.found.PacketRead.{PacketRead}
 use Rattle.payload.specs.Packet.{partFrom, finished}
 use Rattle.payload.specs.End.{endOf, endAt}
@@ -113,20 +114,21 @@ head-kind size reads (HeadersRead.Refused n) = tt
 head-kind size reads (HeadersRead.Headers declared next) = finished-kind size next _
 
 -- what is read as a kind is of that kind
-packet-kind : (kind : Kind) (s : List ℕ) → KindIs kind (packetAt kind s .end)
+packet-kind : (context : Context) (kind : Kind) (s : List ℕ) → KindIs kind (packetAt context kind s .end)
 unfolding forwardAt sendHeadersAt
-packet-kind Kind.CPing s = finished-kind (length s) afterCodePlace Packet.CPing
-packet-kind Kind.CPong s = finished-kind (length s) afterCodePlace Packet.CPong
-packet-kind Kind.Forward s = forward-kind (forwardReads s) (listsAt s (forwardReads s .headers) .end)
-packet-kind Kind.Body s = body-kind s
-packet-kind Kind.GetBody s = get-kind s
-packet-kind Kind.SendHeaders s = head-kind (length s) (sendHeadersReads s) (headersAfter Direction.ToServer s (sendHeadersReads s .headers) .end)
-packet-kind Kind.BodyChunk s = chunk-kind s
-packet-kind Kind.End s = end-kind s
+packet-kind context Kind.CPing s = finished-kind (length s) afterCodePlace Packet.CPing
+packet-kind context Kind.CPong s = finished-kind (length s) afterCodePlace Packet.CPong
+packet-kind context Kind.Forward s = forward-kind (forwardReads s) (listsAt s (forwardReads s .headers) .end)
+packet-kind context Kind.Body s = body-kind s
+packet-kind context Kind.GetBody s = get-kind s
+packet-kind context Kind.SendHeaders s = head-kind (length s) (sendHeadersReads s) (headersAfter Direction.ToServer s (sendHeadersReads s .headers) .end)
+packet-kind context Kind.BodyChunk s = chunk-kind s
+packet-kind context Kind.End s = end-kind s
 
 -- a packet that was read is of the kind that it was read as
-pub parsed-kind : (kind : Kind) (s : List ℕ) (p : Packet) → packetAt kind s .end ≡ PacketRead.Packet p → packetKind p ≡ kind
-parsed-kind kind s p e = subst (KindIs kind) e (packet-kind kind s)
+pub parsed-kind : (context : Context) (kind : Kind) (s : List ℕ) (p : Packet) → packetAt context kind s .end ≡ PacketRead.Packet p
+    → packetKind p ≡ kind
+parsed-kind context kind s p e = subst (KindIs kind) e (packet-kind context kind s)
 
 -- a packet's move is of its kind
 pub move-kind : (p : Packet) → moveKind (packetMove p) ≡ packetKind p

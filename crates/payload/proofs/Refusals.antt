@@ -28,6 +28,7 @@ use Rattle.attributes.proofs.Refusals.{AttributesRefusal, attributes-refusal}
 use Rattle.payload.specs.declared.KindRead.{KindRead}
 use Rattle.payload.specs.declared.field.FieldRead.{FieldRead}
 use Rattle.payload.specs.declared.lists.ListsRead.{ListsRead}
+use Rattle.payload.specs.declared.Context.{Context}
 use Rattle.payload.specs.declared.found.PacketRead.{PacketRead}
 use Rattle.payload.specs.Code.{codeOf, shutdownCode, pingCode, codeKind, kindOfCode, kindAt}
 use Rattle.payload.specs.Sequence.{afterCode, behind, stringAsField, stringFieldAt, stringAfter, booleanAsField, booleanFieldAt, booleanAfter, numberAsField, anyIntegerAfter, bounded, byteAfter, integerAfter}
@@ -81,14 +82,17 @@ code-read-refusal : (d : Direction) (r : NumberRead) → NumberRefusal r → Kin
 code-read-refusal d (NumberRead.Refused n) h = h
 code-read-refusal d (NumberRead.Number code next) h = code-refusal d code
 
-kind-at-refusal : (d : Direction) (body : Bool) (s : List ℕ) → KindRefusal (kindAt d body s)
+kind-at-refusal : (context : Context) (s : List ℕ) → KindRefusal (kindAt context s)
 unfolding kindAt
-kind-at-refusal d true s = tt
-kind-at-refusal d false s = code-read-refusal d (byteAt s codePlace) (byte-refusal s codePlace (byteAt s codePlace) refl)
+kind-at-refusal context s = go (context .body)
+  where
+    go : (body : Bool) → KindRefusal (pick body (KindRead.Kind Kind.Body) (kindOfCode (context .direction) (byteAt s codePlace)))
+    go true = tt
+    go false = code-read-refusal (context .direction) (byteAt s codePlace) (byte-refusal s codePlace (byteAt s codePlace) refl)
 
 -- a packet whose kind is refused is refused with a number of document 01
-pub kind-refusal : (d : Direction) (body : Bool) (s : List ℕ) (n : ℕ) → kindAt d body s ≡ KindRead.Refused n → isRefusal n ≡ true
-kind-refusal d body s n e = subst KindRefusal e (kind-at-refusal d body s)
+pub kind-refusal : (context : Context) (s : List ℕ) (n : ℕ) → kindAt context s ≡ KindRead.Refused n → isRefusal n ≡ true
+kind-refusal context s n e = subst KindRefusal e (kind-at-refusal context s)
 
 -- a fixed field, where it is refused
 abbrev FieldRefusal : FieldRead → Type 0
@@ -280,16 +284,17 @@ chunk-refusal s = go (integerAt s afterCodePlace) (integer-refusal s afterCodePl
     go (NumberRead.Number len next) h = by len (leb (chunkStart + (len + 1)) (length s)) (eqb (getD s (chunkStart + len) 0) 0)
 
 -- a packet of any kind
-read-refusal : (kind : Kind) (s : List ℕ) → PacketRefusal (packetAt kind s .end)
-read-refusal Kind.CPing s = finished-refusal (length s) afterCodePlace Packet.CPing
-read-refusal Kind.CPong s = finished-refusal (length s) afterCodePlace Packet.CPong
-read-refusal Kind.Forward s = forward-refusal s
-read-refusal Kind.Body s = body-refusal s
-read-refusal Kind.GetBody s = get-refusal s
-read-refusal Kind.SendHeaders s = send-headers-refusal s
-read-refusal Kind.BodyChunk s = chunk-refusal s
-read-refusal Kind.End s = end-refusal s
+read-refusal : (context : Context) (kind : Kind) (s : List ℕ) → PacketRefusal (packetAt context kind s .end)
+read-refusal context Kind.CPing s = finished-refusal (length s) afterCodePlace Packet.CPing
+read-refusal context Kind.CPong s = finished-refusal (length s) afterCodePlace Packet.CPong
+read-refusal context Kind.Forward s = forward-refusal s
+read-refusal context Kind.Body s = body-refusal s
+read-refusal context Kind.GetBody s = get-refusal s
+read-refusal context Kind.SendHeaders s = send-headers-refusal s
+read-refusal context Kind.BodyChunk s = chunk-refusal s
+read-refusal context Kind.End s = end-refusal s
 
 -- a packet of any kind is refused with a number of document 01
-pub packet-refusal : (kind : Kind) (s : List ℕ) (n : ℕ) → packetAt kind s .end ≡ PacketRead.Refused n → isRefusal n ≡ true
-packet-refusal kind s n e = subst PacketRefusal e (read-refusal kind s)
+pub packet-refusal : (context : Context) (kind : Kind) (s : List ℕ) (n : ℕ) → packetAt context kind s .end ≡ PacketRead.Refused n
+    → isRefusal n ≡ true
+packet-refusal context kind s n e = subst PacketRefusal e (read-refusal context kind s)

@@ -1,7 +1,6 @@
 -- What kind a packet is: by its code, or a body packet where it is read as one.
 -- Document 01, 'Server to container', 'Container to server' and rows 3, 4 and 5 of 'Refusal numbers'.
 -- Assumes nothing.
-use mathlib.Core.Bool.{Bool}
 use mathlib.Core.List.{List}
 use Prim.Native.Nat.{ℕ}
 use lib.Dec.{eqb}
@@ -11,6 +10,7 @@ use Rattle.wire.specs.Field.{byteAt}
 use Rattle.packet.specs.declared.Direction.{Direction}
 use Rattle.wire.specs.declared.read.NumberRead.{NumberRead}
 use Rattle.connection.specs.declared.Kind.{Kind}
+use Rattle.payload.specs.declared.Context.{Context}
 use Rattle.payload.specs.declared.KindRead.{KindRead}
 use Rattle.wire.specs.Packet.{codePlace}
 
@@ -52,5 +52,5 @@ kindOfCode direction (NumberRead.Refused n) = KindRead.Refused n
 kindOfCode direction (NumberRead.Number code next) = codeKind direction code
 
 -- the kind of a packet that is read as a body packet, or by its code
-unfoldable pub kindAt : Direction → Bool → List ℕ → KindRead
-kindAt direction body s = pick body (KindRead.Kind Kind.Body) (kindOfCode direction (byteAt s codePlace))
+unfoldable pub kindAt : Context → List ℕ → KindRead
+kindAt context s = pick (context .body) (KindRead.Kind Kind.Body) (kindOfCode (context .direction) (byteAt s codePlace))

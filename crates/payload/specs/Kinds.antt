@@ -9,6 +9,7 @@ use Rattle.connection.specs.declared.Move.{Move}
 use Rattle.connection.specs.declared.ForwardMove.{ForwardMove}
 use Rattle.packet.specs.declared.Forward.{Forward}
 use Rattle.packet.specs.declared.Packet.{Packet}
+use Rattle.payload.specs.declared.Context.{Context}
 use Rattle.payload.specs.declared.found.PacketRead.{PacketRead}
 use Rattle.payload.specs.Bare.{bareAt}
 use Rattle.payload.specs.End.{endAt}
@@ -19,15 +20,16 @@ use Rattle.payload.specs.Forward.{forwardAt}
 use Rattle.payload.specs.SendHeaders.{sendHeadersAt}
 
 -- a packet, by its kind; those without headers have no places
-abbrev pub packetAt : Kind → List ℕ → Entries PacketRead
-packetAt Kind.CPing s = ended (bareAt s Packet.CPing)
-packetAt Kind.CPong s = ended (bareAt s Packet.CPong)
-packetAt Kind.Forward s = forwardAt s
-packetAt Kind.Body s = ended (bodyAt s)
-packetAt Kind.GetBody s = ended (getAt s)
-packetAt Kind.SendHeaders s = sendHeadersAt s
-packetAt Kind.BodyChunk s = ended (chunkAt s)
-packetAt Kind.End s = ended (endAt s)
+-- what is known beside the bytes is not looked at yet; requests A6 and A11 will look at it
+abbrev pub packetAt : Context → Kind → List ℕ → Entries PacketRead
+packetAt context Kind.CPing s = ended (bareAt s Packet.CPing)
+packetAt context Kind.CPong s = ended (bareAt s Packet.CPong)
+packetAt context Kind.Forward s = forwardAt s
+packetAt context Kind.Body s = ended (bodyAt s)
+packetAt context Kind.GetBody s = ended (getAt s)
+packetAt context Kind.SendHeaders s = sendHeadersAt s
+packetAt context Kind.BodyChunk s = ended (chunkAt s)
+packetAt context Kind.End s = ended (endAt s)
 
 -- a packet's kind
 abbrev pub packetKind : Packet → Kind

@@ -46,6 +46,12 @@ pub enum KindRead {
     Kind(Kind),
 }
 
+// What is known of a packet beside its bytes: which way it goes, and whether it is read as a body packet.
+pub struct Context {
+    pub direction: Direction,
+    pub body: bool,
+}
+
 // The code of a kind of packet; a body packet has none, and 0 stands for that.
 pub fn code_of(kind: Kind) -> u16
     ensures { λ r. ⌜ r ≡ codeOf kind ⌝ }
@@ -103,11 +109,12 @@ fn kind_of_code(direction: Direction, code: NumberRead) -> KindRead
 }
 
 // The kind of a packet: a body packet where it is read as one, else by its code.
-pub fn kind_of(direction: Direction, body: bool, packet: &[u8]) -> KindRead
-    ensures { λ r. ⌜ r ≡ kindAt direction body (now (packet .entry)) ⌝ }
+pub fn kind_of(context: Context, packet: &[u8]) -> KindRead
+    ensures { λ r. ⌜ r ≡ kindAt context (now (packet .entry)) ⌝ }
 {
-    if body {
+    if context.body {
         return KindRead::Kind(Kind::Body);
     }
+    let direction = context.direction;
     kind_of_code(direction, read::byte(packet, CODE_PLACE))
 }

@@ -9,6 +9,7 @@ use Rattle.places.specs.Entries.{maxPlaces}
 use Rattle.connection.specs.declared.Kind.{Kind}
 use Rattle.payload.specs.Kinds.{packetAt, packetKind}
 use Rattle.packet.specs.declared.Packet.{Packet}
+use Rattle.payload.specs.declared.Context.{Context}
 use Rattle.payload.specs.declared.found.PacketRead.{PacketRead}
 use Rattle.payload.proofs.Handed.{forward-places, send-headers-places}
 use Rattle.payload.proofs.Parsed.{parsed-kind}
@@ -19,10 +20,10 @@ abbrev pub PlacesFit : ℕ → PacketRead → Type 0
 PlacesFit many (PacketRead.Refused n) = Unit
 PlacesFit many (PacketRead.Packet packet) = (many ≡ placesNeeded packet) × (many ≤ maxPlaces)
 
-module _ (s : List ℕ) where
+module _ (context : Context) (s : List ℕ) where
   -- a packet that is read as its own kind
-  own-fit : (packet : Packet) → packetAt (packetKind packet) s .end ≡ PacketRead.Packet packet
-      → PlacesFit (length (packetAt (packetKind packet) s .places)) (PacketRead.Packet packet)
+  own-fit : (packet : Packet) → packetAt context (packetKind packet) s .end ≡ PacketRead.Packet packet
+      → PlacesFit (length (packetAt context (packetKind packet) s .places)) (PacketRead.Packet packet)
   own-fit Packet.CPing e = (refl, omega arith)
   own-fit Packet.CPong e = (refl, omega arith)
   own-fit (Packet.Forward forward) e =
@@ -37,11 +38,11 @@ module _ (s : List ℕ) where
   own-fit (Packet.End reuse) e = (refl, omega arith)
 
   -- every packet that is read is read as its own kind
-  read-fit : (kind : Kind) (r : PacketRead) → packetAt kind s .end ≡ r → PlacesFit (length (packetAt kind s .places)) r
+  read-fit : (kind : Kind) (r : PacketRead) → packetAt context kind s .end ≡ r → PlacesFit (length (packetAt context kind s .places)) r
   read-fit kind (PacketRead.Refused n) e = tt
   read-fit kind (PacketRead.Packet packet) e =
-      subst (λ (k : Kind). packetAt k s .end ≡ PacketRead.Packet packet → PlacesFit (length (packetAt k s .places)) (PacketRead.Packet packet))
-      (parsed-kind kind s packet e) (own-fit packet) e
+      subst (λ (k : Kind). packetAt context k s .end ≡ PacketRead.Packet packet → PlacesFit (length (packetAt context k s .places)) (PacketRead.Packet packet))
+      (parsed-kind context kind s packet e) (own-fit packet) e
 
-  pub places-fit : (kind : Kind) → PlacesFit (length (packetAt kind s .places)) (packetAt kind s .end)
-  places-fit kind = read-fit kind (packetAt kind s .end) refl
+  pub places-fit : (kind : Kind) → PlacesFit (length (packetAt context kind s .places)) (packetAt context kind s .end)
+  places-fit kind = read-fit kind (packetAt context kind s .end) refl

@@ -22,13 +22,14 @@ use Rattle.connection.specs.declared.Connection.{Connection}
 use Rattle.connection.specs.declared.Step.{Step}
 use Rattle.payload.specs.Code.{kindAt}
 use Rattle.payload.specs.Kinds.{packetAt, packetMove}
+use Rattle.payload.specs.declared.Context.{Context}
 use Rattle.payload.specs.declared.KindRead.{KindRead}
 use Rattle.packet.specs.declared.Packet.{Packet}
 use Rattle.payload.specs.declared.found.PacketRead.{PacketRead}
 use Rattle.reader.specs.declared.frame.FrameRead.{FrameRead}
 use Rattle.reader.specs.Frame.{frameAt}
 use Rattle.reader.specs.Meaning.{Meaning, needs, refused, accepted, placesNeeded}
-use Rattle.reader.specs.Reading.{parseWhole, parse, readAsBody, stepped, accepting, withRoom, reading, filled, tableAfter}
+use Rattle.reader.specs.Reading.{parseWhole, parse, contextOf, stepped, accepting, withRoom, reading, filled, tableAfter}
 use Rattle.reader.specs.Private.{needed, tableGiven, allowedReading, allowedTable, wholeOf, tableWhole}
 use Rattle.reader.proofs.Below.{PlacesFit, places-fit}
 
@@ -98,20 +99,20 @@ fill-own (accepted packet taken after) room places blank table h = go (leb (plac
     go false = refl
 
 -- a packet with headers: it was stepped by, and the table was filled from a list of the reader's own
-pub listed-is : (c : Connection) (kind : Kind) (s blank table : List ℕ) (found : PacketRead) (answer r : Meaning) (places exit : List ℕ)
-    → found ≡ packetAt kind s .end → places ≡ over blank 0 (packetAt kind s .places) → answer ≡ accepting c (length s) found
+pub listed-is : (context : Context) (c : Connection) (kind : Kind) (s blank table : List ℕ) (found : PacketRead) (answer r : Meaning) (places exit : List ℕ)
+    → found ≡ packetAt context kind s .end → places ≡ over blank 0 (packetAt context kind s .places) → answer ≡ accepting c (length s) found
     → (r ≡ withRoom (length table) answer) × (exit ≡ tableGiven answer places table)
-    → (r ≡ allowedReading c kind s (length table)) × (exit ≡ allowedTable c kind s table)
+    → (r ≡ allowedReading context c kind s (length table)) × (exit ≡ allowedTable context c kind s table)
 unfolding allowedReading allowedTable tableGiven
-listed-is c kind s blank table found answer r places exit p q e h =
-    let own = accepting c (length s) (packetAt kind s .end) in
+listed-is context c kind s blank table found answer r places exit p q e h =
+    let own = accepting c (length s) (packetAt context kind s .end) in
     let m : answer ≡ own = e ∙ ap (accepting c (length s)) p in
-    let fit = accepting-places c (length s) (length (packetAt kind s .places)) (packetAt kind s .end) (places-fit s kind) in (
+    let fit = accepting-places c (length s) (length (packetAt context kind s .places)) (packetAt context kind s .end) (places-fit context s kind) in (
       h .0 ∙ ap (withRoom (length table)) m,
       h .1
           ∙ ap (λ (a : Meaning). filled (withRoom (length table) a) (take (needed a) places) table) m
           ∙ ap (λ (l : List ℕ). filled (withRoom (length table) own) (take (needed own) l) table) q
-          ∙ fill-own own (length table) (packetAt kind s .places) blank table fit,
+          ∙ fill-own own (length table) (packetAt context kind s .places) blank table fit,
     )
 
 -- an answer that asks for no places is not refused for the table, and leaves it
@@ -124,34 +125,36 @@ none-needed (accepted packet taken after) table h =
     rw e (refl, sym (over-none table 0))
 
 -- a packet without headers: it was stepped by, and the table is as it was
-pub plain-is : (c : Connection) (given kind : Kind) (s table : List ℕ) (end found : PacketRead) (r : Meaning)
-    → given ≡ kind → packetAt kind s ≡ ended end → found ≡ end → r ≡ accepting c (length s) found
-    → (r ≡ allowedReading c given s (length table)) × (table ≡ allowedTable c given s table)
+pub plain-is : (context : Context) (c : Connection) (given kind : Kind) (s table : List ℕ) (end found : PacketRead) (r : Meaning)
+    → given ≡ kind → packetAt context kind s ≡ ended end → found ≡ end → r ≡ accepting c (length s) found
+    → (r ≡ allowedReading context c given s (length table)) × (table ≡ allowedTable context c given s table)
 unfolding allowedReading allowedTable
-plain-is c given kind s table end found r k p q e =
-    let fit : PlacesFit 0 end = rw p at (places-fit s kind) in
+plain-is context c given kind s table end found r k p q e =
+    let fit : PlacesFit 0 end = rw p at (places-fit context s kind) in
     let kept = none-needed (accepting c (length s) end) table (accepting-places c (length s) 0 end fit) in
     rw (k, p) (e ∙ ap (accepting c (length s)) q ∙ kept .0, kept .1)
 
 module _ (direction : Direction) (c : Connection) (s table : List ℕ) where
-  -- a packet whose code is refused
-  pub whole-refused : (n : ℕ) → kindAt direction (readAsBody direction c) s ≡ KindRead.Refused n
-      → (refused n ≡ wholeOf direction c s (length table)) × (table ≡ tableWhole direction c s table)
-  unfolding wholeOf tableWhole parseWhole
-  whole-refused n e = rw e (refl, refl)
+  -- a whole packet, by what is known of it beside its bytes
+  module _ (context : Context) (is : context ≡ contextOf direction c) where
+    -- its code is refused
+    pub whole-refused : (n : ℕ) → kindAt context s ≡ KindRead.Refused n
+        → (refused n ≡ wholeOf direction c s (length table)) × (table ≡ tableWhole direction c s table)
+    unfolding wholeOf tableWhole parseWhole
+    whole-refused n e = rw (← is, e) (refl, refl)
 
-  -- a kind that is not allowed now
-  pub whole-not : (kind : Kind) → kindAt direction (readAsBody direction c) s ≡ KindRead.Kind kind → inState c kind ≡ false
-      → (refused notNow ≡ wholeOf direction c s (length table)) × (table ≡ tableWhole direction c s table)
-  unfolding wholeOf tableWhole parseWhole
-  whole-not kind e q = rw (e, q) (refl, refl)
+    -- a kind that is not allowed now
+    pub whole-not : (kind : Kind) → kindAt context s ≡ KindRead.Kind kind → inState c kind ≡ false
+        → (refused notNow ≡ wholeOf direction c s (length table)) × (table ≡ tableWhole direction c s table)
+    unfolding wholeOf tableWhole parseWhole
+    whole-not kind e q = rw (← is, e, q) (refl, refl)
 
-  -- a kind that is allowed
-  pub whole-kind : (kind : Kind) (r : Meaning) (exit : List ℕ) → kindAt direction (readAsBody direction c) s ≡ KindRead.Kind kind
-      → inState c kind ≡ true → (r ≡ allowedReading c kind s (length table)) × (exit ≡ allowedTable c kind s table)
-      → (r ≡ wholeOf direction c s (length table)) × (exit ≡ tableWhole direction c s table)
-  unfolding wholeOf tableWhole parseWhole allowedReading allowedTable
-  whole-kind kind r exit e q h = rw (e, q) h
+    -- a kind that is allowed
+    pub whole-kind : (kind : Kind) (r : Meaning) (exit : List ℕ) → kindAt context s ≡ KindRead.Kind kind
+        → inState c kind ≡ true → (r ≡ allowedReading context c kind s (length table)) × (exit ≡ allowedTable context c kind s table)
+        → (r ≡ wholeOf direction c s (length table)) × (exit ≡ tableWhole direction c s table)
+    unfolding wholeOf tableWhole parseWhole allowedReading allowedTable
+    whole-kind kind r exit e q h = rw (← is, e, q) h
 
   -- more bytes are needed
   pub read-needs : (n : ℕ) → frameAt direction s ≡ FrameRead.Needs n

@@ -7,9 +7,10 @@ use lib.ListN.{length, take}
 use Rattle.packet.specs.declared.Direction.{Direction}
 use Rattle.connection.specs.declared.Kind.{Kind}
 use Rattle.connection.specs.declared.Connection.{Connection}
+use Rattle.payload.specs.declared.Context.{Context}
 use Rattle.payload.specs.Kinds.{packetAt}
 use Rattle.reader.specs.Meaning.{Meaning, needs, refused, accepted, placesNeeded}
-use Rattle.reader.specs.Reading.{parseWhole, readAsBody, accepting, judging, withRoom, placesOf, filled}
+use Rattle.reader.specs.Reading.{parseWhole, contextOf, accepting, judging, withRoom, placesOf, filled}
 
 -- how many places an answer asks of the table
 abbrev pub needed : Meaning → ℕ
@@ -22,15 +23,15 @@ unfoldable pub tableGiven : Meaning → List ℕ → List ℕ → List ℕ
 tableGiven answer places table = filled (withRoom (length table) answer) (take (needed answer) places) table
 
 -- a packet of a kind that is allowed: the answer, and the table
-unfoldable pub allowedReading : Connection → Kind → List ℕ → ℕ → Meaning
-allowedReading c kind s room = withRoom room (accepting c (length s) (packetAt kind s .end))
+unfoldable pub allowedReading : Context → Connection → Kind → List ℕ → ℕ → Meaning
+allowedReading context c kind s room = withRoom room (accepting c (length s) (packetAt context kind s .end))
 
-unfoldable pub allowedTable : Connection → Kind → List ℕ → List ℕ → List ℕ
-allowedTable c kind s table = filled (allowedReading c kind s (length table)) (packetAt kind s .places) table
+unfoldable pub allowedTable : Context → Connection → Kind → List ℕ → List ℕ → List ℕ
+allowedTable context c kind s table = filled (allowedReading context c kind s (length table)) (packetAt context kind s .places) table
 
 -- a packet that is a list of its own bytes: the answer, and the table
 unfoldable pub wholeOf : Direction → Connection → List ℕ → ℕ → Meaning
-wholeOf direction c s room = withRoom room (judging c (parseWhole direction (readAsBody direction c) s))
+wholeOf direction c s room = withRoom room (judging c (parseWhole (contextOf direction c) s))
 
 unfoldable pub tableWhole : Direction → Connection → List ℕ → List ℕ → List ℕ
-tableWhole direction c s table = filled (wholeOf direction c s (length table)) (placesOf (parseWhole direction (readAsBody direction c) s)) table
+tableWhole direction c s table = filled (wholeOf direction c s (length table)) (placesOf (parseWhole (contextOf direction c) s)) table

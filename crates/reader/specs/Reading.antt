@@ -1,4 +1,4 @@
--- Reading a packet at either end. The connection enters at three places only: whether the packet is read as a body packet, whether its
+-- Reading a packet at either end. The connection enters at three places only: what an end knows of a packet beside its bytes, whether its
 -- kind is allowed (13), and the step (14). All else is `parse`, which sees no connection.
 -- Document 01, 'Refusal numbers': the reading order and the table.
 -- Assumes nothing.
@@ -19,6 +19,7 @@ use Rattle.connection.specs.declared.Connection.{Connection}
 use Rattle.connection.specs.declared.Step.{Step}
 use Rattle.payload.specs.Code.{kindAt}
 use Rattle.payload.specs.Kinds.{packetAt, packetMove}
+use Rattle.payload.specs.declared.Context.{Context}
 use Rattle.payload.specs.declared.KindRead.{KindRead}
 use Rattle.packet.specs.declared.Packet.{Packet}
 use Rattle.payload.specs.declared.found.PacketRead.{PacketRead}
@@ -33,28 +34,32 @@ pub data Parsed : Type 0 where
   whole : Kind → ℕ → Entries PacketRead → Parsed
 
 -- a packet, by its kind
-abbrev pub parsedOf : List ℕ → KindRead → Parsed
-parsedOf s (KindRead.Refused n) = wrong n
-parsedOf s (KindRead.Kind kind) = whole kind (length s) (packetAt kind s)
+abbrev pub parsedOf : Context → List ℕ → KindRead → Parsed
+parsedOf context s (KindRead.Refused n) = wrong n
+parsedOf context s (KindRead.Kind kind) = whole kind (length s) (packetAt context kind s)
 
--- a packet that is a list of its own bytes, read as a body packet or by its code
-unfoldable pub parseWhole : Direction → Bool → List ℕ → Parsed
-parseWhole direction body s = parsedOf s (kindAt direction body s)
+-- a packet that is a list of its own bytes
+unfoldable pub parseWhole : Context → List ℕ → Parsed
+parseWhole context s = parsedOf context s (kindAt context s)
 
 -- bytes, by the first packet's frame: what lies behind it is not looked at
-abbrev pub parseFrame : Direction → Bool → List ℕ → FrameRead → Parsed
-parseFrame direction body s (FrameRead.Needs n) = unfinished n
-parseFrame direction body s (FrameRead.Refused n) = wrong n
-parseFrame direction body s (FrameRead.Whole n) = parseWhole direction body (part s 0 n)
+abbrev pub parseFrame : Context → List ℕ → FrameRead → Parsed
+parseFrame context s (FrameRead.Needs n) = unfinished n
+parseFrame context s (FrameRead.Refused n) = wrong n
+parseFrame context s (FrameRead.Whole n) = parseWhole context (part s 0 n)
 
 -- what the first packet of the bytes is
-unfoldable pub parse : Direction → Bool → List ℕ → Parsed
-parse direction body s = parseFrame direction body s (frameAt direction s)
+unfoldable pub parse : Context → List ℕ → Parsed
+parse context s = parseFrame context s (frameAt (context .direction) s)
 
 -- whether an end takes what comes for a body packet: the container's while one is due, the server's never
 abbrev pub readAsBody : Direction → Connection → Bool
 readAsBody Direction.ToContainer c = bodyDue c
 readAsBody Direction.ToServer c = false
+
+-- what an end knows of a packet of this direction beside its bytes
+abbrev pub contextOf : Direction → Connection → Context
+contextOf direction c = record { direction = direction; body = readAsBody direction c }
 
 -- the step that a packet makes: refused (14), or the connection after it
 abbrev pub stepped : Packet → ℕ → Step → Meaning
@@ -80,7 +85,7 @@ withRoom room (accepted packet taken after) = pick (leb (placesNeeded packet) ro
 
 -- the answer of reading, at the end to which packets of this direction go
 unfoldable pub reading : Direction → Connection → List ℕ → ℕ → Meaning
-reading direction c s room = withRoom room (judging c (parse direction (readAsBody direction c) s))
+reading direction c s room = withRoom room (judging c (parse (contextOf direction c) s))
 
 -- the places that a packet has for the table: for each header its name's and its value's, then for each attribute its code's and its
 -- value's
@@ -98,4 +103,4 @@ filled (accepted packet taken after) places table = over table 0 places
 -- the table after reading
 unfoldable pub tableAfter : Direction → Connection → List ℕ → List ℕ → List ℕ
 tableAfter direction c s table =
-    filled (reading direction c s (length table)) (placesOf (parse direction (readAsBody direction c) s)) table
+    filled (reading direction c s (length table)) (placesOf (parse (contextOf direction c) s)) table

@@ -5,13 +5,14 @@ ghost use Prim.Native.Nat.{_≤_};
 ghost use lib.ListN.{length};
 ghost use Rattle.connection.specs.Connection.{maxPacket};
 ghost use Rattle.reader.specs.Meaning.{receivedMeaning, placesNeeded};
-ghost use Rattle.reader.specs.Reading.{readAsBody, stepped, accepting, withRoom, reading, tableAfter};
+ghost use Rattle.reader.specs.Reading.{contextOf, stepped, accepting, withRoom, reading, tableAfter};
 ghost use Rattle.reader.specs.Private.{needed, tableGiven, allowedReading, allowedTable, wholeOf, tableWhole};
 use connection::Connection;
 use connection::Kind;
 use connection::Step;
 use packet::Direction;
 use packet::Packet;
+use payload::Context;
 use payload::KindRead;
 use payload::found::PacketRead;
 use payload::movement::move_of;
@@ -71,13 +72,19 @@ pub fn read(
     }
 }
 
-// Whether this end takes a packet for a body packet: the container's while one is due, the server's never.
-fn reads_body(direction: Direction, connection: Connection) -> bool
-    ensures { λ r. ⌜ r ≡ readAsBody direction connection ⌝ }
+// What this end knows of a packet beside its bytes: the container's takes it for a body packet while one is due, the server's never.
+fn context_of(direction: Direction, connection: Connection) -> Context
+    ensures { λ r. ⌜ r ≡ contextOf direction connection ⌝ }
 {
     match direction {
-        Direction::ToContainer => connection.is_body_due(),
-        Direction::ToServer => false,
+        Direction::ToContainer => Context {
+            direction: Direction::ToContainer,
+            body: connection.is_body_due(),
+        },
+        Direction::ToServer => Context {
+            direction: Direction::ToServer,
+            body: false,
+        },
     }
 }
 
@@ -87,41 +94,48 @@ fn whole(direction: Direction, connection: Connection, packet: &[u8], table: &mu
     ensures { λ r. ⌜ receivedMeaning r ≡ wholeOf direction connection (now (packet .entry)) (length (now (table .entry))) ⌝ }
     ensures { λ r. ⌜ now (table .exit) ≡ tableWhole direction connection (now (packet .entry)) (now (table .entry)) ⌝ }
 {
-    match payload::kind_of(direction, reads_body(direction, connection), packet) {
+    let context = context_of(direction, connection);
+    match payload::kind_of(context, packet) {
         KindRead::Refused(n) => Received::Refused(n),
         KindRead::Kind(kind) => {
             if !connection.allows(kind) {
                 return Received::Refused(refusal::NOT_NOW);
             }
-            fields(connection, kind, packet, table)
+            fields(context, connection, kind, packet, table)
         }
     }
 }
 
 // A packet of a kind: its fields, then the step, then the table.
-fn fields(connection: Connection, kind: Kind, packet: &[u8], table: &mut [u16]) -> Received
+fn fields(
+    context: Context,
+    connection: Connection,
+    kind: Kind,
+    packet: &[u8],
+    table: &mut [u16],
+) -> Received
     requires { ⌜ length (now packet) ≤ maxPacket ⌝ }
-    ensures { λ r. ⌜ receivedMeaning r ≡ allowedReading connection kind (now (packet .entry)) (length (now (table .entry))) ⌝ }
-    ensures { λ r. ⌜ now (table .exit) ≡ allowedTable connection kind (now (packet .entry)) (now (table .entry)) ⌝ }
+    ensures { λ r. ⌜ receivedMeaning r ≡ allowedReading context connection kind (now (packet .entry)) (length (now (table .entry))) ⌝ }
+    ensures { λ r. ⌜ now (table .exit) ≡ allowedTable context connection kind (now (packet .entry)) (now (table .entry)) ⌝ }
 {
     let size = packet.len();
     match kind {
         Kind::CPing => accept(connection, size, payload::bare::read(packet, Packet::CPing)),
         Kind::CPong => accept(connection, size, payload::bare::read(packet, Packet::CPong)),
-        Kind::Forward => forward(connection, packet, table),
+        Kind::Forward => forward(context, connection, packet, table),
         Kind::Body => accept(connection, size, payload::body::read(packet)),
         Kind::GetBody => accept(connection, size, payload::get_body::read(packet)),
-        Kind::SendHeaders => send_headers(connection, packet, table),
+        Kind::SendHeaders => send_headers(context, connection, packet, table),
         Kind::BodyChunk => accept(connection, size, payload::body_chunk::read(packet)),
         Kind::End => accept(connection, size, payload::end::read(packet)),
     }
 }
 
 // A Forward; the table is filled from a list of our own at the very end, so that a refusal leaves it.
-fn forward(connection: Connection, packet: &[u8], table: &mut [u16]) -> Received
+fn forward(context: Context, connection: Connection, packet: &[u8], table: &mut [u16]) -> Received
     requires { ⌜ length (now packet) ≤ maxPacket ⌝ }
-    ensures { λ r. ⌜ receivedMeaning r ≡ allowedReading connection Kind.Forward (now (packet .entry)) (length (now (table .entry))) ⌝ }
-    ensures { λ r. ⌜ now (table .exit) ≡ allowedTable connection Kind.Forward (now (packet .entry)) (now (table .entry)) ⌝ }
+    ensures { λ r. ⌜ receivedMeaning r ≡ allowedReading context connection Kind.Forward (now (packet .entry)) (length (now (table .entry))) ⌝ }
+    ensures { λ r. ⌜ now (table .exit) ≡ allowedTable context connection Kind.Forward (now (packet .entry)) (now (table .entry)) ⌝ }
 {
     let mut places = [0u16; MAX_PLACES];
     let found = payload::forward::read(packet, &mut places);
@@ -129,10 +143,15 @@ fn forward(connection: Connection, packet: &[u8], table: &mut [u16]) -> Received
 }
 
 // Send Headers, in the same way.
-fn send_headers(connection: Connection, packet: &[u8], table: &mut [u16]) -> Received
+fn send_headers(
+    context: Context,
+    connection: Connection,
+    packet: &[u8],
+    table: &mut [u16],
+) -> Received
     requires { ⌜ length (now packet) ≤ maxPacket ⌝ }
-    ensures { λ r. ⌜ receivedMeaning r ≡ allowedReading connection Kind.SendHeaders (now (packet .entry)) (length (now (table .entry))) ⌝ }
-    ensures { λ r. ⌜ now (table .exit) ≡ allowedTable connection Kind.SendHeaders (now (packet .entry)) (now (table .entry)) ⌝ }
+    ensures { λ r. ⌜ receivedMeaning r ≡ allowedReading context connection Kind.SendHeaders (now (packet .entry)) (length (now (table .entry))) ⌝ }
+    ensures { λ r. ⌜ now (table .exit) ≡ allowedTable context connection Kind.SendHeaders (now (packet .entry)) (now (table .entry)) ⌝ }
 {
     let mut places = [0u16; MAX_PLACES];
     let found = payload::send_headers::read(packet, &mut places);

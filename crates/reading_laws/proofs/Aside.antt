@@ -14,7 +14,7 @@ use Rattle.packet.specs.declared.Packet.{Packet}
 use Rattle.connection.specs.declared.Connection.{Connection}
 use Rattle.places.specs.Entries.{maxPlaces}
 use Rattle.reader.specs.Meaning.{Meaning, needs, refused, accepted, placesNeeded}
-use Rattle.reader.specs.Reading.{parse, readAsBody, judging, withRoom, reading}
+use Rattle.reader.specs.Reading.{parse, contextOf, judging, withRoom, reading}
 use Rattle.reading_laws.specs.Acceptance.{Acceptance}
 use Rattle.reading_laws.proofs.Acceptance.{accepted-is}
 use Rattle.reading_laws.proofs.Inside.{packet-inside}
@@ -28,7 +28,7 @@ room-enough packet taken next room h =
 module _ (d : Direction) (c : Connection) (s : List ℕ) where
   -- what bytes are judged to be
   abbrev judged : Meaning
-  judged = judging c (parse d (readAsBody d c) s)
+  judged = judging c (parse (contextOf d c) s)
 
   -- a packet that passes asks for no more than 328 places
   few-places : (packet : Packet) (taken : ℕ) (next : Connection) → judged ≡ accepted packet taken next → placesNeeded packet ≤ maxPlaces
@@ -37,10 +37,10 @@ module _ (d : Direction) (c : Connection) (s : List ℕ) where
       let room : ℕ = placesNeeded packet in
       let a : Acceptance d c s room packet taken next =
       accepted-is d c s room packet taken next (ap (withRoom room) e ∙ room-enough packet taken next room (omega arith)) in
-      packet-inside (a .kind) (part s 0 taken) packet (a .fields-are) .places-most
+      packet-inside (contextOf d c) (a .kind) (part s 0 taken) packet (a .fields-are) .places-most
 
   -- reading with 328 places or more is judging with the table aside
-  pub aside : (room : ℕ) → maxPlaces ≤ room → reading d c s room ≡ judging c (parse d (readAsBody d c) s)
+  pub aside : (room : ℕ) → maxPlaces ≤ room → reading d c s room ≡ judging c (parse (contextOf d c) s)
   unfolding reading
   aside room h = go judged refl
     where

@@ -11,14 +11,14 @@ use Rattle.connection.specs.declared.Connection.{Connection}
 use Rattle.payload.specs.Handed.{PacketHanded}
 use Rattle.payload.proofs.Handed.{packet-handed}
 use Rattle.reader.specs.Meaning.{accepted}
-use Rattle.reader.specs.Reading.{parse, parseWhole, placesOf, readAsBody, reading}
+use Rattle.reader.specs.Reading.{parse, parseWhole, placesOf, contextOf, reading}
 use Rattle.reading_laws.proofs.Acceptance.{accepted-is}
 
 -- an accepted packet, and its places for the table, are what was read in it
 pub accepted-handed : (direction : Direction) (c : Connection) (s : List ℕ) (room : ℕ) (packet : Packet) (taken : ℕ) (next : Connection)
     → reading direction c s room ≡ accepted packet taken next
-    → PacketHanded (part s 0 taken) packet (placesOf (parse direction (readAsBody direction c) s))
+    → PacketHanded (part s 0 taken) packet (placesOf (parse (contextOf direction c) s))
 unfolding parse parseWhole
 accepted-handed direction c s room packet taken next e =
     let a = accepted-is direction c s room packet taken next e in
-    rw (a .whole-is, a .kind-is) (packet-handed (a .kind) (part s 0 taken) packet (a .fields-are))
+    rw (a .whole-is, a .kind-is) (packet-handed (contextOf direction c) (a .kind) (part s 0 taken) packet (a .fields-are))

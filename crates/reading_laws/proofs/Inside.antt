@@ -31,6 +31,7 @@ use Rattle.payload.specs.declared.field.FieldRead.{FieldRead}
 use Rattle.packet.specs.declared.Forward.{Forward}
 use Rattle.packet.specs.declared.SendHeaders.{SendHeaders}
 use Rattle.packet.specs.declared.Packet.{Packet}
+use Rattle.payload.specs.declared.Context.{Context}
 use Rattle.payload.specs.declared.found.PacketRead.{PacketRead}
 use Rattle.payload.specs.Handed.{StringEnds, StringThere, ForwardHanded, SendHeadersHanded}
 use Rattle.payload.proofs.Handed.{forward-handed, forward-places, head-handed, send-headers-places, body-handed, chunk-handed}
@@ -81,16 +82,16 @@ lists-below s count =
     (headers-below Direction.ToContainer s count) (attributes-below s (headers .end))
 
 -- every place that a packet has for the table is inside the packet
-pub places-inside : (kind : Kind) (s : List ℕ) → AllBelow (length s) (packetAt kind s .places)
+pub places-inside : (context : Context) (kind : Kind) (s : List ℕ) → AllBelow (length s) (packetAt context kind s .places)
 unfolding forwardAt sendHeadersAt
-places-inside Kind.CPing s = none-below (length s)
-places-inside Kind.CPong s = none-below (length s)
-places-inside Kind.Forward s = lists-below s _
-places-inside Kind.Body s = none-below (length s)
-places-inside Kind.GetBody s = none-below (length s)
-places-inside Kind.SendHeaders s = headers-below Direction.ToServer s _
-places-inside Kind.BodyChunk s = none-below (length s)
-places-inside Kind.End s = none-below (length s)
+places-inside context Kind.CPing s = none-below (length s)
+places-inside context Kind.CPong s = none-below (length s)
+places-inside context Kind.Forward s = lists-below s _
+places-inside context Kind.Body s = none-below (length s)
+places-inside context Kind.GetBody s = none-below (length s)
+places-inside context Kind.SendHeaders s = headers-below Direction.ToServer s _
+places-inside context Kind.BodyChunk s = none-below (length s)
+places-inside context Kind.End s = none-below (length s)
 
 -- a string that is read at a place is inside the packet
 string-below : (s : List ℕ) (field : StringField) (at end : ℕ) → StringThere s field at end → at < length s
@@ -122,10 +123,10 @@ plain-inside size packet headers attributes fields =
     }
 
 -- a packet that was read as its own kind
-own-inside : (s : List ℕ) (packet : Packet) → packetAt (packetKind packet) s .end ≡ PacketRead.Packet packet → PacketInside (length s) packet
-own-inside s Packet.CPing e = plain-inside (length s) Packet.CPing refl refl tt
-own-inside s Packet.CPong e = plain-inside (length s) Packet.CPong refl refl tt
-own-inside s (Packet.Forward forward) e =
+own-inside : (context : Context) (s : List ℕ) (packet : Packet) → packetAt context (packetKind packet) s .end ≡ PacketRead.Packet packet → PacketInside (length s) packet
+own-inside context s Packet.CPing e = plain-inside (length s) Packet.CPing refl refl tt
+own-inside context s Packet.CPong e = plain-inside (length s) Packet.CPong refl refl tt
+own-inside context s (Packet.Forward forward) e =
     let f = forward-places s forward e in
     record {
       fields-in = forward-in s forward (forwardAt s .places) (forward-handed s forward e);
@@ -133,10 +134,10 @@ own-inside s (Packet.Forward forward) e =
       attributes-most = f .attributes-most;
       places-most = omega (arith, f .headers-most, f .attributes-most);
     }
-own-inside s (Packet.Body part) e =
+own-inside context s (Packet.Body part) e =
     plain-inside (length s) (Packet.Body part) refl refl (omega (arith, body-handed s part e .rest))
-own-inside s (Packet.GetBody asked) e = plain-inside (length s) (Packet.GetBody asked) refl refl tt
-own-inside s (Packet.SendHeaders head) e =
+own-inside context s (Packet.GetBody asked) e = plain-inside (length s) (Packet.GetBody asked) refl refl tt
+own-inside context s (Packet.SendHeaders head) e =
     let f = send-headers-places s head e in
     record {
       fields-in = string-below s StringField.Message _ _ (head-handed s head e .message-there);
@@ -144,11 +145,11 @@ own-inside s (Packet.SendHeaders head) e =
       attributes-most = omega arith;
       places-most = omega (arith, f .headers-most);
     }
-own-inside s (Packet.BodyChunk part) e =
+own-inside context s (Packet.BodyChunk part) e =
     plain-inside (length s) (Packet.BodyChunk part) refl refl (omega (arith, chunk-handed s part e .rest))
-own-inside s (Packet.End reuse) e = plain-inside (length s) (Packet.End reuse) refl refl tt
+own-inside context s (Packet.End reuse) e = plain-inside (length s) (Packet.End reuse) refl refl tt
 
 -- what is handed out of a packet that was read lies inside it
-pub packet-inside : (kind : Kind) (s : List ℕ) (packet : Packet) → packetAt kind s .end ≡ PacketRead.Packet packet → PacketInside (length s) packet
-packet-inside kind s packet e =
-    own-inside s packet (subst (λ (k : Kind). packetAt k s .end ≡ PacketRead.Packet packet) (sym (parsed-kind kind s packet e)) e)
+pub packet-inside : (context : Context) (kind : Kind) (s : List ℕ) (packet : Packet) → packetAt context kind s .end ≡ PacketRead.Packet packet → PacketInside (length s) packet
+packet-inside context kind s packet e =
+    own-inside context s packet (subst (λ (k : Kind). packetAt context k s .end ≡ PacketRead.Packet packet) (sym (parsed-kind context kind s packet e)) e)

@@ -21,10 +21,10 @@ use Rattle.wire.proofs.Tests.{both-first}
 use Rattle.wire.proofs.Field.{integer-inside}
 use Rattle.connection.specs.Connection.{maxPayload}
 use Rattle.connection.specs.declared.Connection.{Connection}
+use Rattle.payload.specs.declared.Context.{Context}
 use Rattle.reader.specs.declared.frame.FrameRead.{FrameRead}
 use Rattle.reader.specs.Frame.{differs, leadingDiffers, lengthAt, frameOf, frameAt}
-use Rattle.reader.specs.Meaning.{Meaning, needs, refused, accepted}
-use Rattle.reader.specs.Reading.{Parsed, parseWhole, parseFrame, parse, readAsBody, judging, withRoom, reading, tableAfter}
+use Rattle.reader.specs.Reading.{Parsed, parseWhole, parseFrame, parse, contextOf, judging, withRoom, reading, tableAfter}
 use Rattle.reader.proofs.Framing.{frame-inside}
 use Rattle.reading_laws.specs.Acceptance.{Answered}
 
@@ -122,24 +122,24 @@ module _ (s rest : List ℕ) where
           rw (same-leading direction four ∙ e, same-length four ∙ q) (same-sized payload h)
 
   -- what bytes are parsed as
-  same-parse : (direction : Direction) (body : Bool) → Framed (frameAt direction s) → parse direction body (s ++ rest) ≡ parse direction body s
+  same-parse : (context : Context) → Framed (frameAt (context .direction) s) → parse context (s ++ rest) ≡ parse context s
   unfolding parse part
-  same-parse direction body h =
-      ap (parseFrame direction body (s ++ rest)) (same-frame direction h) ∙ go (frameAt direction s) refl
+  same-parse context h =
+      ap (parseFrame context (s ++ rest)) (same-frame (context .direction) h) ∙ go (frameAt (context .direction) s) refl
     where
-      go : (frame : FrameRead) → frameAt direction s ≡ frame → parseFrame direction body (s ++ rest) frame ≡ parseFrame direction body s frame
+      go : (frame : FrameRead) → frameAt (context .direction) s ≡ frame → parseFrame context (s ++ rest) frame ≡ parseFrame context s frame
       go (FrameRead.Needs n) e = refl
       go (FrameRead.Refused n) e = refl
       go (FrameRead.Whole n) e =
-          let inside = frame-inside direction s (FrameRead.Whole n) e in
-          ap (parseWhole direction body) (take-append-le n s rest (inside .1 .1))
+          let inside = frame-inside (context .direction) s (FrameRead.Whole n) e in
+          ap (parseWhole context) (take-append-le n s rest (inside .1 .1))
 
   -- an answer other than "needs" comes of a frame that is refused or whole
   framed : (direction : Direction) (c : Connection) (room : ℕ) → Answered (reading direction c s room) → Framed (frameAt direction s)
   unfolding reading parse
   framed direction c room = go (frameAt direction s)
     where
-      go : (frame : FrameRead) → Answered (withRoom room (judging c (parseFrame direction (readAsBody direction c) s frame))) → Framed frame
+      go : (frame : FrameRead) → Answered (withRoom room (judging c (parseFrame (contextOf direction c) s frame))) → Framed frame
       go (FrameRead.Needs n) h = h
       go (FrameRead.Refused n) h = tt
       go (FrameRead.Whole n) h = tt
@@ -147,10 +147,10 @@ module _ (s rest : List ℕ) where
   pub later-answer : (direction : Direction) (c : Connection) (room : ℕ) → Answered (reading direction c s room)
       → reading direction c (s ++ rest) room ≡ reading direction c s room
   unfolding reading
-  later-answer direction c room h = ap (λ (p : Parsed). withRoom room (judging c p)) (same-parse direction (readAsBody direction c) (framed direction c room h))
+  later-answer direction c room h = ap (λ (p : Parsed). withRoom room (judging c p)) (same-parse (contextOf direction c) (framed direction c room h))
 
   pub later-table : (direction : Direction) (c : Connection) (table : List ℕ) → Answered (reading direction c s (length table))
       → tableAfter direction c (s ++ rest) table ≡ tableAfter direction c s table
   unfolding tableAfter
   later-table direction c table h =
-      rw (later-answer direction c (length table) h, same-parse direction (readAsBody direction c) (framed direction c (length table) h))
+      rw (later-answer direction c (length table) h, same-parse (contextOf direction c) (framed direction c (length table) h))

@@ -21,13 +21,14 @@ use Rattle.connection.specs.declared.Step.{Step}
 use Rattle.connection.proofs.Refusals.{step-refusal}
 use Rattle.payload.specs.Code.{kindAt}
 use Rattle.payload.specs.Kinds.{packetAt, packetMove}
+use Rattle.payload.specs.declared.Context.{Context}
 use Rattle.payload.specs.declared.KindRead.{KindRead}
 use Rattle.payload.specs.declared.found.PacketRead.{PacketRead}
 use Rattle.payload.proofs.Refusals.{kind-refusal, packet-refusal}
 use Rattle.reader.specs.declared.frame.FrameRead.{FrameRead}
 use Rattle.reader.specs.Frame.{leadingDiffers, lengthAt, frameOf, frameAt}
 use Rattle.reader.specs.Meaning.{Meaning, needs, refused, accepted, placesNeeded}
-use Rattle.reader.specs.Reading.{parsedOf, parseWhole, parseFrame, parse, readAsBody, stepped, accepting, judging, withRoom, reading}
+use Rattle.reader.specs.Reading.{parsedOf, parseWhole, parseFrame, parse, contextOf, stepped, accepting, judging, withRoom, reading}
 use Rattle.wire.specs.Packet.{payloadPlace, lengthPlace}
 
 -- an answer that refuses, if it does, with a number of document 01
@@ -69,28 +70,28 @@ room-numbered room (accepted packet taken next) h = go (leb (placesNeeded packet
     go false = refl
 
 -- the fields are refused, or the step is
-accepting-numbered : (c : Connection) (kind : Kind) (s : List ℕ) → Numbered (accepting c (length s) (packetAt kind s .end))
+accepting-numbered : (context : Context) (c : Connection) (kind : Kind) (s : List ℕ) → Numbered (accepting c (length s) (packetAt context kind s .end))
 unfolding accepting
-accepting-numbered c kind s = go (packetAt kind s .end) refl
+accepting-numbered context c kind s = go (packetAt context kind s .end) refl
   where
     by : (packet : Packet) (r : Step) → stepOf c (packetMove packet) ≡ r → Numbered (stepped packet (length s) r)
     by packet (Step.Refused n) e = step-refusal c (packetMove packet) n e
     by packet (Step.Next after) e = tt
 
-    go : (r : PacketRead) → packetAt kind s .end ≡ r → Numbered (accepting c (length s) r)
-    go (PacketRead.Refused n) e = packet-refusal kind s n e
+    go : (r : PacketRead) → packetAt context kind s .end ≡ r → Numbered (accepting c (length s) r)
+    go (PacketRead.Refused n) e = packet-refusal context kind s n e
     go (PacketRead.Packet packet) e = by packet (stepOf c (packetMove packet)) refl
 
 -- a packet by its kind
-kind-numbered : (direction : Direction) (body : Bool) (c : Connection) (s : List ℕ) → Numbered (judging c (parsedOf s (kindAt direction body s)))
-kind-numbered direction body c s = go (kindAt direction body s) refl
+kind-numbered : (context : Context) (c : Connection) (s : List ℕ) → Numbered (judging c (parsedOf context s (kindAt context s)))
+kind-numbered context c s = go (kindAt context s) refl
   where
-    by : (kind : Kind) (t : Bool) → Numbered (pick t (accepting c (length s) (packetAt kind s .end)) (refused notNow))
-    by kind true = accepting-numbered c kind s
+    by : (kind : Kind) (t : Bool) → Numbered (pick t (accepting c (length s) (packetAt context kind s .end)) (refused notNow))
+    by kind true = accepting-numbered context c kind s
     by kind false = refl
 
-    go : (r : KindRead) → kindAt direction body s ≡ r → Numbered (judging c (parsedOf s r))
-    go (KindRead.Refused n) e = kind-refusal direction body s n e
+    go : (r : KindRead) → kindAt context s ≡ r → Numbered (judging c (parsedOf context s r))
+    go (KindRead.Refused n) e = kind-refusal context s n e
     go (KindRead.Kind kind) e = by kind (inState c kind)
 
 -- what reading refuses with is a number of document 01
@@ -98,9 +99,9 @@ pub reading-refusal : (direction : Direction) (c : Connection) (s : List ℕ) (r
     → isRefusal n ≡ true
 unfolding reading parse parseWhole
 reading-refusal direction c s room n e =
-    subst Numbered e (room-numbered room (judging c (parse direction (readAsBody direction c) s)) (go (frameAt direction s) (frame-numbered direction s)))
+    subst Numbered e (room-numbered room (judging c (parse (contextOf direction c) s)) (go (frameAt direction s) (frame-numbered direction s)))
   where
-    go : (f : FrameRead) → FrameNumbered f → Numbered (judging c (parseFrame direction (readAsBody direction c) s f))
+    go : (f : FrameRead) → FrameNumbered f → Numbered (judging c (parseFrame (contextOf direction c) s f))
     go (FrameRead.Needs k) h = tt
     go (FrameRead.Refused k) h = h
-    go (FrameRead.Whole k) h = kind-numbered direction (readAsBody direction c) c (part s 0 k)
+    go (FrameRead.Whole k) h = kind-numbered (contextOf direction c) c (part s 0 k)

@@ -19,15 +19,15 @@ use Rattle.payload.specs.declared.found.PacketRead.{PacketRead}
 use Rattle.reader.specs.declared.frame.FrameRead.{FrameRead}
 use Rattle.reader.specs.Frame.{frameAt}
 use Rattle.reader.specs.Meaning.{Meaning, needs, refused, accepted, placesNeeded}
-use Rattle.reader.specs.Reading.{readAsBody}
+use Rattle.reader.specs.Reading.{contextOf}
 
 -- what is behind a packet that is accepted, of whose bytes so many are taken: its frame is whole, its kind and its fields are read, the
 -- connection allows its move and then steps by it, and the table has room for its places
 pub record Acceptance (direction : Direction) (c : Connection) (s : List ℕ) (room : ℕ) (packet : Packet) (taken : ℕ) (next : Connection) : Type 0 where
   pub kind : Kind
   pub whole-is : frameAt direction s ≡ FrameRead.Whole taken
-  pub kind-is : kindAt direction (readAsBody direction c) (part s 0 taken) ≡ KindRead.Kind kind
-  pub fields-are : packetAt kind (part s 0 taken) .end ≡ PacketRead.Packet packet
+  pub kind-is : kindAt (contextOf direction c) (part s 0 taken) ≡ KindRead.Kind kind
+  pub fields-are : packetAt (contextOf direction c) kind (part s 0 taken) .end ≡ PacketRead.Packet packet
   pub allows : allowed c (packetMove packet) ≡ true
   pub steps : next ≡ after c (packetMove packet)
   pub has-room : placesNeeded packet ≤ room

@@ -21,6 +21,7 @@ use Rattle.connection.specs.declared.Connection.{Connection}
 use Rattle.connection.specs.declared.Step.{Step}
 use Rattle.payload.specs.Code.{codeKind, kindOfCode, kindAt}
 use Rattle.payload.specs.Kinds.{packetAt, packetKind, packetMove}
+use Rattle.payload.specs.declared.Context.{Context}
 use Rattle.payload.specs.declared.KindRead.{KindRead}
 use Rattle.packet.specs.declared.Part.{Part}
 use Rattle.packet.specs.declared.Packet.{Packet}
@@ -31,8 +32,8 @@ use Rattle.reader.specs.declared.frame.FrameRead.{FrameRead}
 use Rattle.reader.specs.Frame.{frameAt}
 use Rattle.short_ways.specs.declared.PartRead.{PartRead}
 use Rattle.reader.specs.Meaning.{Meaning}
-use Rattle.reader.specs.Reading.{readAsBody, stepped, accepting, reading, tableAfter}
-use Rattle.short_ways.specs.Short.{wholeSize, isChunk, bodySize, chunkSize, shortSize, PartMeaning, other, answered, partMeaning, shortReading}
+use Rattle.reader.specs.Reading.{contextOf, stepped, accepting, reading, tableAfter}
+use Rattle.short_ways.specs.Short.{wholeSize, isChunk, bodySize, chunkSize, shortSize, other, answered, partMeaning, shortReading}
 use Rattle.short_ways.specs.Private.{partIn, steppedPart}
 use Rattle.reader.proofs.Laws.{accepting-is, plain-is, whole-kind, read-whole}
 use Rattle.wire.specs.Packet.{codePlace}
@@ -53,7 +54,7 @@ chunk-size-by c s n allowed chunk p q e = rw (p, ← q, e)
 -- a packet that goes a short way: so many bytes are a whole packet of a kind that is allowed
 pub record Short (d : Direction) (c : Connection) (s : List ℕ) (kind : Kind) (n : ℕ) : Type 0 where
   pub whole : frameAt d s ≡ FrameRead.Whole n
-  pub kind-read : kindAt d (readAsBody d c) (part s 0 n) ≡ KindRead.Kind kind
+  pub kind-read : kindAt (contextOf d c) (part s 0 n) ≡ KindRead.Kind kind
   pub allowed : inState c kind ≡ true
 
 -- a size that is not 0 is a whole packet's
@@ -72,14 +73,15 @@ short-body c s n e h = go (bodyDue c) refl e
     go false q e = absurd (h e)
     go true q e = record {
       whole = size-whole (frameAt Direction.ToContainer s) n e h;
-      kind-read = kind-is Direction.ToContainer (bodyDue c) true (part s 0 n) (byteAt (part s 0 n) codePlace) q refl;
+      kind-read = kind-is (contextOf Direction.ToContainer c) true (part s 0 n) (byteAt (part s 0 n) codePlace) q refl;
       allowed = q;
     }
 
 -- a packet with a chunk's code is a Send Body Chunk
-chunk-kind : (s : List ℕ) → isChunk (byteAt s codePlace) ≡ true → kindAt Direction.ToServer false s ≡ KindRead.Kind Kind.BodyChunk
+chunk-kind : (c : Connection) (s : List ℕ) → isChunk (byteAt s codePlace) ≡ true
+    → kindAt (contextOf Direction.ToServer c) s ≡ KindRead.Kind Kind.BodyChunk
 unfolding codeKind
-chunk-kind s e = kind-is Direction.ToServer false false s (byteAt s codePlace) refl refl ∙ go (byteAt s codePlace) e
+chunk-kind c s e = kind-is (contextOf Direction.ToServer c) false s (byteAt s codePlace) refl refl ∙ go (byteAt s codePlace) e
   where
     go : (code : NumberRead) → isChunk code ≡ true → kindOfCode Direction.ToServer code ≡ KindRead.Kind Kind.BodyChunk
     go (NumberRead.Refused n) e = absurd (false≢true e)
@@ -99,18 +101,18 @@ short-chunk c s n e h = go (inState c Kind.BodyChunk) (isChunk (byteAt (part s 0
     go true false p q e = absurd (h e)
     go true true p q e = record {
       whole = size-whole (frameAt Direction.ToServer s) n e h;
-      kind-read = chunk-kind (part s 0 n) (ap (λ (k : ℕ). isChunk (byteAt (part s 0 k) codePlace)) e ∙ q);
+      kind-read = chunk-kind c (part s 0 n) (ap (λ (k : ℕ). isChunk (byteAt (part s 0 k) codePlace)) e ∙ q);
       allowed = p;
     }
 
 -- a packet without headers that goes a short way: it was stepped by, and the table is as it was
 pub short-is : (d : Direction) (c : Connection) (s table : List ℕ) (kind : Kind) (n : ℕ) (packet : List ℕ) (end : PacketRead) (r : Meaning)
-    → Short d c s kind n → packet ≡ part s 0 n → packetAt kind packet ≡ ended end → r ≡ accepting c (length packet) end
+    → Short d c s kind n → packet ≡ part s 0 n → packetAt (contextOf d c) kind packet ≡ ended end → r ≡ accepting c (length packet) end
     → (r ≡ reading d c s (length table)) × (table ≡ tableAfter d c s table)
 short-is d c s table kind n packet end r short p q e =
     read-whole d c s table n packet r table (short .whole) p
-    (whole-kind d c packet table kind r table (ap (kindAt d (readAsBody d c)) p ∙ short .kind-read) (short .allowed)
-    (plain-is c kind kind packet table end end r refl q refl e))
+    (whole-kind d c packet table (contextOf d c) refl kind r table (ap (kindAt (contextOf d c)) p ∙ short .kind-read) (short .allowed)
+    (plain-is (contextOf d c) c kind kind packet table end end r refl q refl e))
 
 -- a packet of a kind with a part: a body packet and a chunk are no more than theirs
 abbrev pub withPart : Kind → Packet → Part → Packet
@@ -141,14 +143,14 @@ part-step of part taken (Step.Refused n) m e = ap answered e
 part-step of part taken (Step.Next after) m e = ap answered e
 
 -- a packet that was read as of a kind with a part, and stepped by the move of the packet with that part
-pub part-stepped : (kind : Kind) (of : Part → Packet) (c : Connection) (s : List ℕ) (taken : ℕ) (packet : Packet) (part : Part) (step : Step)
-    (r : PartRead) → withPart kind packet part ≡ of part → packetAt kind s .end ≡ PacketRead.Packet packet → part ≡ partIn packet
+pub part-stepped : (context : Context) (kind : Kind) (of : Part → Packet) (c : Connection) (s : List ℕ) (taken : ℕ) (packet : Packet) (part : Part) (step : Step)
+    (r : PartRead) → withPart kind packet part ≡ of part → packetAt context kind s .end ≡ PacketRead.Packet packet → part ≡ partIn packet
     → step ≡ stepOf c (packetMove (of part)) → r ≡ steppedPart part taken step
-    → partMeaning of r ≡ answered (accepting c taken (packetAt kind s .end))
-part-stepped kind of c s taken packet part step r with-part e q f is =
+    → partMeaning of r ≡ answered (accepting c taken (packetAt context kind s .end))
+part-stepped context kind of c s taken packet part step r with-part e q f is =
     let same : packet ≡ of part =
     own packet
-    ∙ ap (λ (k : Kind). withPart k packet (partIn packet)) (parsed-kind kind s packet e)
+    ∙ ap (λ (k : Kind). withPart k packet (partIn packet)) (parsed-kind context kind s packet e)
     ∙ ap (withPart kind packet) (sym q)
     ∙ with-part in
     ap (partMeaning of) is
@@ -162,7 +164,7 @@ short-other d c s n e z = rw (← e, z)
 
 -- a packet without headers that goes a short way is answered by what its fields and its step come to
 pub short-answers : (d : Direction) (c : Connection) (s : List ℕ) (kind : Kind) (n : ℕ) (packet : List ℕ) (end : PacketRead)
-    → n ≡ shortSize d c s → (n ≡ 0 → ⊥) → Short d c s kind n → packet ≡ part s 0 n → packetAt kind packet ≡ ended end
+    → n ≡ shortSize d c s → (n ≡ 0 → ⊥) → Short d c s kind n → packet ≡ part s 0 n → packetAt (contextOf d c) kind packet ≡ ended end
     → answered (accepting c (length packet) end) ≡ shortReading d c s
 unfolding shortReading
 short-answers d c s kind n packet end e h short p q =
@@ -181,7 +183,7 @@ answer-by d c s m e = go (eqb (shortSize d c s) 0) refl e
 
 -- a packet without headers that goes a short way is read the same with any table, which is left as it was
 both-tables : (d : Direction) (c : Connection) (s table : List ℕ) (kind : Kind) (n : ℕ) → Short d c s kind n
-    → packetAt kind (part s 0 n) ≡ ended (packetAt kind (part s 0 n) .end)
+    → packetAt (contextOf d c) kind (part s 0 n) ≡ ended (packetAt (contextOf d c) kind (part s 0 n) .end)
     → (reading d c s 0 ≡ reading d c s (length table)) × (table ≡ tableAfter d c s table)
 both-tables d c s table kind n short q =
     let without = short-is d c s [] kind n (part s 0 n) _ _ short refl q refl in

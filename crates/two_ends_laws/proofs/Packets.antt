@@ -23,7 +23,7 @@ use Rattle.packet.specs.declared.Part.{Part}
 use Rattle.payload.proofs.Laws.{body-inside}
 use Rattle.payload.proofs.Parsed.{move-kind}
 use Rattle.reading_laws.proofs.Shown.{bytes-lent}
-use Rattle.messages.proofs.Parses.{isBody, Parses, parses-accepted, parses-places}
+use Rattle.messages.proofs.Parses.{isBody, contextFor, Parses, parses-accepted, parses-places}
 use Rattle.messages.proofs.OneCall.{BodyRead, empty, sized, body-read}
 use Rattle.two_ends_laws.specs.Ends.{PipePacket}
 use Rattle.two_ends_laws.specs.Past.{bodyPart, RequestBody, gets, countPacket}
@@ -55,7 +55,7 @@ abbrev heldBy : payload.Packet → List ℕ → List ℕ
 heldBy p bytes = pick (isBody (packetKind p)) (drop bodyStart bytes) []
 
 -- how many they are, by the packet
-carried : (p : payload.Packet) (bytes : List ℕ) → packetAt (packetKind p) bytes .end ≡ PacketRead.Packet p → Carries (packetMove p) (heldBy p bytes)
+carried : (p : payload.Packet) (bytes : List ℕ) → packetAt (contextFor (packetKind p)) (packetKind p) bytes .end ≡ PacketRead.Packet p → Carries (packetMove p) (heldBy p bytes)
 carried payload.Packet.CPing bytes e = refl
 carried payload.Packet.CPong bytes e = refl
 carried (payload.Packet.Forward f) bytes e = refl
@@ -66,7 +66,7 @@ carried (payload.Packet.BodyChunk p) bytes e = refl
 carried (payload.Packet.End reuse) bytes e = refl
 
 -- they are what is handed out
-handed-out : (p : payload.Packet) (bytes rest : List ℕ) → packetAt (packetKind p) bytes .end ≡ PacketRead.Packet p
+handed-out : (p : payload.Packet) (bytes rest : List ℕ) → packetAt (contextFor (packetKind p)) (packetKind p) bytes .end ≡ PacketRead.Packet p
     → bodyPart (bytes ++ rest) p ≡ heldBy p bytes
 handed-out payload.Packet.CPing bytes rest e = refl
 handed-out payload.Packet.CPong bytes rest e = refl
@@ -78,7 +78,7 @@ handed-out (payload.Packet.BodyChunk p) bytes rest e = refl
 handed-out (payload.Packet.End reuse) bytes rest e = refl
 
 -- and what is counted
-counted-as : (p : payload.Packet) (bytes rest : List ℕ) (before : List RequestBody) → packetAt (packetKind p) bytes .end ≡ PacketRead.Packet p
+counted-as : (p : payload.Packet) (bytes rest : List ℕ) (before : List RequestBody) → packetAt (contextFor (packetKind p)) (packetKind p) bytes .end ≡ PacketRead.Packet p
     → countPacket (bytes ++ rest) p before ≡ counting (packetMove p) (heldBy p bytes) before
 counted-as payload.Packet.CPing bytes rest before e = refl
 counted-as payload.Packet.CPong bytes rest before e = refl

@@ -11,7 +11,7 @@ use Rattle.payload.proofs.kind_of.Tie as tie
 returns : tie.Need-returns
 returns c =
     let a = c .before .before .args in
-    sym (kind-is (a .direction) (a .body) true (a .packet .now) (byteAt (a .packet .now) 4) (c .if1 .taken) refl)
+    sym (kind-is (a .context) true (a .packet .now) (byteAt (a .packet .now) 4) (c .if1 .taken) refl)
 
 byte-requires : tie.Need-byte-requires
 byte-requires c κs = search needs
@@ -24,7 +24,7 @@ returns-2 c =
     let a = c .before .before .before .before .args in
     c .kind-of-code .ensures
     ∙ sym
-    (kind-is (a .direction) (a .body) false (a .packet .now) (c .before .byte .result)
+    (kind-is (a .context) false (a .packet .now) (c .before .byte .result)
     (c .before .before .if1 .left) (sym (c .before .byte .ensures)))
 
 pub kind-of-spec : {M : Type 1} → statement M

@@ -76,12 +76,12 @@ accept-requires-6 c κs = search needs
 returns : tie.Need-returns
 returns c =
     let a = c .before .before .before .before .before .before .args in
-    plain-is (a .connection) (a .kind) Kind.CPing (a .packet .now) (a .table .now) _ _ _ (c .before .before .enum-told .given .1) refl (c .before .read .ensures) (c .accept .ensures)
+    plain-is (a .context) (a .connection) (a .kind) Kind.CPing (a .packet .now) (a .table .now) _ _ _ (c .before .before .enum-told .given .1) refl (c .before .read .ensures) (c .accept .ensures)
 
 returns-2 : tie.Need-returns-2
 returns-2 c =
     let a = c .before .before .before .before .before .before .args in
-    plain-is (a .connection) (a .kind) Kind.CPong (a .packet .now) (a .table .now) _ _ _ (c .before .before .enum-told2 .given .1) refl (c .before .read2 .ensures) (c .accept2 .ensures)
+    plain-is (a .context) (a .connection) (a .kind) Kind.CPong (a .packet .now) (a .table .now) _ _ _ (c .before .before .enum-told2 .given .1) refl (c .before .read2 .ensures) (c .accept2 .ensures)
 
 same-length : tie.Need-same-length
 same-length c = search needs
@@ -92,12 +92,12 @@ returns-3 c = rw (c .before .before .before .before .enum-told3 .given .1) (c .b
 returns-4 : tie.Need-returns-4
 returns-4 c =
     let a = c .before .before .before .before .before .before .args in
-    plain-is (a .connection) (a .kind) Kind.Body (a .packet .now) (a .table .now) _ _ _ (c .before .before .enum-told4 .given .1) refl (c .before .read3 .ensures) (c .accept3 .ensures)
+    plain-is (a .context) (a .connection) (a .kind) Kind.Body (a .packet .now) (a .table .now) _ _ _ (c .before .before .enum-told4 .given .1) refl (c .before .read3 .ensures) (c .accept3 .ensures)
 
 returns-5 : tie.Need-returns-5
 returns-5 c =
     let a = c .before .before .before .before .before .before .args in
-    plain-is (a .connection) (a .kind) Kind.GetBody (a .packet .now) (a .table .now) _ _ _ (c .before .before .enum-told5 .given .1) refl (c .before .read4 .ensures) (c .accept4 .ensures)
+    plain-is (a .context) (a .connection) (a .kind) Kind.GetBody (a .packet .now) (a .table .now) _ _ _ (c .before .before .enum-told5 .given .1) refl (c .before .read4 .ensures) (c .accept4 .ensures)
 
 same-length-2 : tie.Need-same-length-2
 same-length-2 c = search needs
@@ -108,12 +108,12 @@ returns-6 c = rw (c .before .before .before .before .enum-told6 .given .1) (c .b
 returns-7 : tie.Need-returns-7
 returns-7 c =
     let a = c .before .before .before .before .before .before .args in
-    plain-is (a .connection) (a .kind) Kind.BodyChunk (a .packet .now) (a .table .now) _ _ _ (c .before .before .enum-told7 .given .1) refl (c .before .read5 .ensures) (c .accept5 .ensures)
+    plain-is (a .context) (a .connection) (a .kind) Kind.BodyChunk (a .packet .now) (a .table .now) _ _ _ (c .before .before .enum-told7 .given .1) refl (c .before .read5 .ensures) (c .accept5 .ensures)
 
 returns-8 : tie.Need-returns-8
 returns-8 c =
     let a = c .before .before .before .before .before .before .args in
-    plain-is (a .connection) (a .kind) Kind.End (a .packet .now) (a .table .now) _ _ _ (c .before .before .enum-told8 .given .1) refl (c .before .read6 .ensures) (c .accept6 .ensures)
+    plain-is (a .context) (a .connection) (a .kind) Kind.End (a .packet .now) (a .table .now) _ _ _ (c .before .before .enum-told8 .given .1) refl (c .before .read6 .ensures) (c .accept6 .ensures)
 
 pub fields-spec : {M : Type 1} → statement M
 fields-spec =

@@ -27,7 +27,7 @@ same-length c = search needs
 returns : tie.Need-returns
 returns c =
     let a = c .before .before .before .before .before .before .before .before .before .before .before .args in
-    listed-is (a .connection) Kind.Forward (a .packet .now) _ (a .table .now) _ _ _ _ _
+    listed-is (a .context) (a .connection) Kind.Forward (a .packet .now) _ (a .table .now) _ _ _ _ _
     (c .before .before .before .before .before .before .before .read .ensures .0) (c .before .before .before .before .before .before .before .read .ensures .1) (c .before .before .before .before .before .accept .ensures) (c .before .before .fill-table .ensures)
 
 pub forward-spec : {M : Type 1} → statement M

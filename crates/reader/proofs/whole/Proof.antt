@@ -7,8 +7,8 @@ use borrow.Author.Needs.{needs}
 use Rattle.reader.proofs.whole.Statement.{statement}
 use Rattle.reader.proofs.whole.Tie as tie
 
-reads-body-requires : tie.Need-reads-body-requires
-reads-body-requires c κs = search needs
+context-of-requires : tie.Need-context-of-requires
+context-of-requires c κs = search needs
 
 kind-of-requires : tie.Need-kind-of-requires
 kind-of-requires c κs = search needs
@@ -24,8 +24,8 @@ allows-requires c κs = search needs
 
 returns : tie.Need-returns
 returns c =
-    whole-not _ _ _ _ _
-    (rw (c .before .before .before .before .before .before .reads-body .ensures) at (sym (c .before .before .before .before .before .kind-of .ensures) ∙ c .before .before .before .kind .given .1))
+    whole-not _ _ _ _ _ (c .before .before .before .before .before .before .context-of .ensures) _
+    (sym (c .before .before .before .before .before .kind-of .ensures) ∙ c .before .before .before .kind .given .1)
     (sym (c .before .allows .ensures) ∙ not-true _ (c .if1 .taken))
 
 fields-requires : tie.Need-fields-requires
@@ -33,15 +33,16 @@ fields-requires c κs = search needs
 
 returns-2 : tie.Need-returns-2
 returns-2 c =
-    whole-refused _ _ _ _ _ (rw (c .before .before .before .before .reads-body .ensures) at (sym (c .before .before .before .kind-of .ensures) ∙ c .before .n .given .1))
+    whole-refused _ _ _ _ _ (c .before .before .before .before .context-of .ensures) _ (sym (c .before .before .before .kind-of .ensures) ∙ c .before .n .given .1)
 
 same-length : tie.Need-same-length
 same-length c = search needs
 
 returns-3 : tie.Need-returns-3
 returns-3 c =
-    whole-kind _ _ _ (c .before .before .before .before .before .before .before .before .before .before .before .before .before .args .table .now) _ _ _
-    (rw (c .before .before .before .before .before .before .before .before .before .before .reads-body .ensures) at (sym (c .before .before .before .before .before .before .before .before .before .kind-of .ensures) ∙ c .before .before .before .before .before .before .before .kind .given .1))
+    whole-kind _ _ _ (c .before .before .before .before .before .before .before .before .before .before .before .before .before .args .table .now) _
+    (c .before .before .before .before .before .before .before .before .before .before .context-of .ensures) _ _ _
+    (sym (c .before .before .before .before .before .before .before .before .before .kind-of .ensures) ∙ c .before .before .before .before .before .before .before .kind .given .1)
     (sym (c .before .before .before .before .before .allows .ensures) ∙ not-false _ (c .before .before .before .before .if1 .left))
     (c .before .before .fields .ensures)
 
@@ -49,7 +50,7 @@ pub whole-spec : {M : Type 1} → statement M
 whole-spec =
     tie.close
     (tie.spec
-    reads-body-requires
+    context-of-requires
     kind-of-requires
     enum-known-n
     enum-known-kind

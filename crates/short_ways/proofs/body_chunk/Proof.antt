@@ -2,8 +2,9 @@
 -- Assumes nothing.
 use mathlib.Core.Path.{refl, sym, ap, _∙_}
 use Rattle.connection.specs.declared.Kind.{Kind}
+use Rattle.packet.specs.declared.Direction.{Direction}
 use Rattle.packet.specs.declared.Packet.{Packet}
-use Rattle.reader.specs.Reading.{accepting}
+use Rattle.reader.specs.Reading.{contextOf, accepting}
 use Rattle.short_ways.specs.Short.{answered}
 use Rattle.short_ways.proofs.ShortWays.{part-stepped}
 use borrow.Author.Needs.{needs}
@@ -38,7 +39,7 @@ returns c = ap answered (sym (ap (accepting _ _) (sym (c .before .before .before
 returns-2 : tie.Need-returns-2
 returns-2 c =
     let a = c .before .before .before .before .before .before .before .before .before .args in
-    part-stepped Kind.BodyChunk Packet.BodyChunk (a .connection) (a .packet .now) _ _ _ _ _ refl
+    part-stepped (contextOf Direction.ToServer (a .connection)) Kind.BodyChunk Packet.BodyChunk (a .connection) (a .packet .now) _ _ _ _ _ refl
     (sym (c .before .before .before .before .before .before .before .read .ensures) ∙ c .before .before .before .before .before .found .given .1)
     (c .before .before .before .part-in .ensures) (c .before .step-body-chunk .ensures) (c .stepped .ensures)
 
