@@ -7,7 +7,7 @@ use mathlib.Core.Bool.{Bool, true, false, not, false≢true}
 use Prim.Native.Nat.{ℕ, _≤_}
 use native.Mathlib.Omega.{arith}
 use borrow.Author.Tests.{eqb-true, leb-true}
-use lib.Dec.{eqb, leb, ltb}
+use lib.Dec.{eqb, leb}
 use Rattle.wire.specs.Pick.{pick, both}
 use Rattle.wire.specs.Refusal.{none, notNow, bodySizeWrong}
 use Rattle.packet.specs.declared.Direction.{Direction}
@@ -17,8 +17,8 @@ use Rattle.connection.specs.declared.Connection.{Connection}
 use Rattle.connection.specs.declared.Kind.{Kind}
 use Rattle.connection.specs.declared.Move.{Move}
 use Rattle.connection.specs.declared.Step.{Step}
-use Rattle.connection.specs.Connection.{maxBody, isIdle, isPinged, isBusy, rest, withLeft, withDue, withHeaders, busy, tidy, bodyDue}
-use Rattle.connection.specs.Cycle.{moveKind, directionOf, inState, largestBody, sizeAllowed, inSize, allowed, after, stepOf, numberIn, connectionAfterStep}
+use Rattle.connection.specs.Connection.{maxBody, isIdle, isPinged, isBusy, rest, withHeaders, busy, tidy, bodyDue}
+use Rattle.connection.specs.Cycle.{moveKind, directionOf, inState, largestBody, sizeAllowed, inSize, allowed, forwarded, after, stepOf, numberIn, connectionAfterStep}
 use Rattle.connection.specs.Facts.{Commuting, BodyWithin, Ignored}
 use Rattle.connection.proofs.Laws.{largest-by, step-by}
 
@@ -132,7 +132,7 @@ busy-twice c = go (c .due)
 pub settled : (c : Connection) (m : Move) → after c m ≡ tidy (after c m)
 settled c Move.CPing = refl
 settled c Move.CPong = refl
-settled c (Move.Forward f) = sym (busy-twice (withDue (ltb 0 (f .declared .0)) maxBody (withLeft (f .declared .0) (rest State.Busy))))
+settled c (Move.Forward f) = sym (busy-twice (forwarded f))
 settled c (Move.Body k) = refl
 settled c (Move.GetBody r) = refl
 settled c Move.SendHeaders = sym (busy-twice (withHeaders true c))

@@ -11,6 +11,7 @@ use Rattle.packet.specs.declared.Direction.{Direction}
 use Rattle.connection.specs.declared.State.{State}
 use Rattle.connection.specs.declared.Connection.{Connection}
 use Rattle.connection.specs.declared.Kind.{Kind}
+use Rattle.connection.specs.declared.ForwardMove.{ForwardMove}
 use Rattle.connection.specs.declared.Move.{Move}
 use Rattle.connection.specs.declared.Step.{Step}
 use Rattle.connection.specs.Connection.{maxBody, isIdle, isPinged, isBusy, rest, withLeft, withDue, withHeaders, busy, bodyDue}
@@ -72,11 +73,15 @@ inSize c (Move.End reuse) = true
 abbrev pub allowed : Connection → Move → Bool
 allowed c m = both (inState c (moveKind m)) (inSize c m)
 
+-- a request as its Forward tells of it: all of its body is left, and a body packet is due where there is any
+abbrev pub forwarded : ForwardMove → Connection
+forwarded f = withDue (ltb 0 (f .declared .0)) maxBody (withLeft (f .declared .0) (rest State.Busy))
+
 -- the connection after a move that is allowed
 abbrev pub after : Connection → Move → Connection
 after c Move.CPing = rest State.Pinged
 after c Move.CPong = rest State.Idle
-after c (Move.Forward f) = busy (withDue (ltb 0 (f .declared .0)) maxBody (withLeft (f .declared .0) (rest State.Busy)))
+after c (Move.Forward f) = busy (forwarded f)
 after c (Move.Body k) = busy (withDue false 0 (withLeft (c .left .0 - k) c))
 after c (Move.GetBody r) = busy (withDue true r c)
 after c Move.SendHeaders = busy (withHeaders true c)

@@ -2,7 +2,7 @@
 // This crate alone makes a connection record or takes one apart. No call has a condition: any record gets an answer.
 ghost use mathlib.Core.Path.{_≡_};
 ghost use Rattle.connection.specs.Connection.{maxPacket, maxPayload, fresh, rest, withLeft, withDue, withHeaders, busy, isIdle, isPinged, isBusy, bodyDue};
-ghost use Rattle.connection.specs.Cycle.{moveKind, directionOf, inState, largestBody, sizeAllowed, after, stepOf};
+ghost use Rattle.connection.specs.Cycle.{moveKind, directionOf, inState, largestBody, sizeAllowed, forwarded, stepOf};
 ghost use Rattle.wire.specs.Refusal.{notNow};
 ghost use Prim.Native.Nat.{_-_};
 ghost use lib.Dec.{leb};
@@ -308,7 +308,10 @@ impl Connection {
         match m {
             Move::CPing => self.step_any_size(Kind::CPing, Self::rest(State::Pinged)),
             Move::CPong => self.step_any_size(Kind::CPong, Self::rest(State::Idle)),
-            Move::Forward(f) => self.step_any_size(Kind::Forward, Self::forwarded(f)),
+            Move::Forward(f) => {
+                let after = Self::forwarded(f).busy();
+                self.step_any_size(Kind::Forward, after)
+            }
             Move::Body(k) => self.step_body(k),
             Move::GetBody(r) => {
                 let after = self.with_due(true, r).busy();
@@ -354,15 +357,14 @@ impl Connection {
         Step::Next(after)
     }
 
-    // The connection after a Forward: in Busy, with a body packet due where the Forward declares one.
+    // A request as its Forward tells of it: all of its body is left, and a body packet is due where there is any.
     fn forwarded(f: ForwardMove) -> Connection
-        ensures { λ r. ⌜ r ≡ after fresh (Move.Forward f) ⌝ }
+        ensures { λ r. ⌜ r ≡ forwarded f ⌝ }
     {
         let left = f.declared;
         Self::rest(State::Busy)
             .with_left(left)
             .with_due(0 < left.0, Self::MAX_BODY)
-            .busy()
     }
 
     // The connection after a request's end: Idle where it is used again, else Closed.

@@ -25,33 +25,46 @@ shared-slice-read-if3 c = search needs
 
 returns-3 : tie.Need-returns-3
 returns-3 c =
-    let w = c .before .before .before .before .before .args .words .now in
-    connection-judged w (c .before .before .before .before .if1 .left) false
-    (rw (le-leb (word w statePlace) lastState (c .before .before .if2 .left), lt-leb (word w duePlace) lastFlag (c .if3 .taken)))
+    let due = c in
+    let state = due .before .before in
+    let w = state .before .before .before .args .words .now in
+    connection-judged w (state .before .before .if1 .left) false
+    (rw (le-leb (word w statePlace) lastState (state .if2 .left), lt-leb (word w duePlace) lastFlag (due .if3 .taken)))
 
 shared-slice-read-if4 : tie.Need-shared-slice-read-if4
 shared-slice-read-if4 c = search needs
 
 returns-4 : tie.Need-returns-4
 returns-4 c =
-    let w = c .before .before .before .before .before .before .before .args .words .now in
-    connection-judged w (c .before .before .before .before .before .before .if1 .left) false
-    (rw (le-leb (word w statePlace) lastState (c .before .before .before .before .if2 .left), le-leb (word w duePlace) lastFlag (c .before .before .if3 .left), lt-leb (word w askedPlace) lastNumber (c .if4 .taken)))
+    let asked = c in
+    let due = asked .before .before in
+    let state = due .before .before in
+    let w = state .before .before .before .args .words .now in
+    connection-judged w (state .before .before .if1 .left) false
+    (rw (le-leb (word w statePlace) lastState (state .if2 .left), le-leb (word w duePlace) lastFlag (due .if3 .left), lt-leb (word w askedPlace) lastNumber (asked .if4 .taken)))
 
 shared-slice-read-if5 : tie.Need-shared-slice-read-if5
 shared-slice-read-if5 c = search needs
 
 returns-5 : tie.Need-returns-5
 returns-5 c =
-    let w = c .before .before .before .before .before .before .before .before .before .args .words .now in
-    connection-judged w (c .before .before .before .before .before .before .before .before .if1 .left) false
-    (rw (le-leb (word w statePlace) lastState (c .before .before .before .before .before .before .if2 .left), le-leb (word w duePlace) lastFlag (c .before .before .before .before .if3 .left), le-leb (word w askedPlace) lastNumber (c .before .before .if4 .left), lt-leb (word w headersPlace) lastFlag (c .if5 .taken)))
+    let headers = c in
+    let asked = headers .before .before in
+    let due = asked .before .before in
+    let state = due .before .before in
+    let w = state .before .before .before .args .words .now in
+    connection-judged w (state .before .before .if1 .left) false
+    (rw (le-leb (word w statePlace) lastState (state .if2 .left), le-leb (word w duePlace) lastFlag (due .if3 .left), le-leb (word w askedPlace) lastNumber (asked .if4 .left), lt-leb (word w headersPlace) lastFlag (headers .if5 .taken)))
 
 returns-6 : tie.Need-returns-6
 returns-6 c =
-    let w = c .before .before .before .before .before .before .before .before .before .args .words .now in
-    connection-judged w (c .before .before .before .before .before .before .before .before .if1 .left) true
-    (rw (le-leb (word w statePlace) lastState (c .before .before .before .before .before .before .if2 .left), le-leb (word w duePlace) lastFlag (c .before .before .before .before .if3 .left), le-leb (word w askedPlace) lastNumber (c .before .before .if4 .left), le-leb (word w headersPlace) lastFlag (c .if5 .left)))
+    let headers = c in
+    let asked = headers .before .before in
+    let due = asked .before .before in
+    let state = due .before .before in
+    let w = state .before .before .before .args .words .now in
+    connection-judged w (state .before .before .if1 .left) true
+    (rw (le-leb (word w statePlace) lastState (state .if2 .left), le-leb (word w duePlace) lastFlag (due .if3 .left), le-leb (word w askedPlace) lastNumber (asked .if4 .left), le-leb (word w headersPlace) lastFlag (headers .if5 .left)))
 
 pub connection-fault-spec : {M : Type 1} → statement M
 connection-fault-spec =

@@ -35,7 +35,11 @@ flag-word-requires-2 c κs = search needs
 returns : tie.Need-returns
 unfolding connectionWords
 returns c =
-    rw (c .before .before .before .before .before .state-word .ensures, c .before .before .before .before .before .before .state .ensures, c .before .before .before .before .before .before .before .left .ensures, c .before .before .before .flag-word .ensures, c .before .before .before .before .due .ensures, c .before .before .asked .ensures, c .flag-word2 .ensures, c .before .headers .ensures)
+    let headers = c in
+    let asked = headers .before .before in
+    let due = asked .before in
+    let state = due .before .before in
+    rw (state .state-word .ensures, state .before .state .ensures, state .before .before .left .ensures, due .flag-word .ensures, due .before .due .ensures, asked .asked .ensures, headers .flag-word2 .ensures, headers .before .headers .ensures)
 
 pub connection-words-spec : {M : Type 1} → statement M
 connection-words-spec =

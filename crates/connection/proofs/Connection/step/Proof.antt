@@ -33,6 +33,9 @@ enum-known-m c = search needs
 forwarded-requires : tie.Need-forwarded-requires
 forwarded-requires c κs = search needs
 
+busy-requires : tie.Need-busy-requires
+busy-requires c κs = search needs
+
 step-any-size-requires-3 : tie.Need-step-any-size-requires-3
 step-any-size-requires-3 c κs = search needs
 
@@ -48,8 +51,8 @@ enum-known-m-3 c = search needs
 with-due-requires : tie.Need-with-due-requires
 with-due-requires c κs = search needs
 
-busy-requires : tie.Need-busy-requires
-busy-requires c κs = search needs
+busy-requires-2 : tie.Need-busy-requires-2
+busy-requires-2 c κs = search needs
 
 step-any-size-requires-4 : tie.Need-step-any-size-requires-4
 step-any-size-requires-4 c κs = search needs
@@ -60,8 +63,8 @@ enum-told-3 c = search needs
 with-headers-requires : tie.Need-with-headers-requires
 with-headers-requires c κs = search needs
 
-busy-requires-2 : tie.Need-busy-requires-2
-busy-requires-2 c κs = search needs
+busy-requires-3 : tie.Need-busy-requires-3
+busy-requires-3 c κs = search needs
 
 step-any-size-requires-5 : tie.Need-step-any-size-requires-5
 step-any-size-requires-5 c κs = search needs
@@ -96,8 +99,8 @@ returns-2 c =
 returns-3 : tie.Need-returns-3
 returns-3 c =
     c .step-any-size3 .ensures
-    ∙ any-size _ (Move.Forward _) _ refl (c .before .forwarded .ensures)
-    ∙ sym (ap (stepOf _) (c .before .before .before .m .given .1))
+    ∙ any-size _ (Move.Forward _) _ refl (c .before .busy .ensures ∙ ap busy (c .before .before .forwarded .ensures))
+    ∙ sym (ap (stepOf _) (c .before .before .before .before .m .given .1))
 
 returns-4 : tie.Need-returns-4
 returns-4 c =
@@ -107,13 +110,13 @@ returns-4 c =
 returns-5 : tie.Need-returns-5
 returns-5 c =
     c .step-any-size4 .ensures
-    ∙ any-size _ (Move.GetBody _) _ refl (c .before .busy .ensures ∙ ap busy (c .before .before .with-due .ensures))
+    ∙ any-size _ (Move.GetBody _) _ refl (c .before .busy2 .ensures ∙ ap busy (c .before .before .with-due .ensures))
     ∙ sym (ap (stepOf _) (c .before .before .before .before .m3 .given .1))
 
 returns-6 : tie.Need-returns-6
 returns-6 c =
     c .step-any-size5 .ensures
-    ∙ any-size _ Move.SendHeaders _ refl (c .before .busy2 .ensures ∙ ap busy (c .before .before .with-headers .ensures))
+    ∙ any-size _ Move.SendHeaders _ refl (c .before .busy3 .ensures ∙ ap busy (c .before .before .with-headers .ensures))
     ∙ sym (ap (stepOf _) (c .before .before .before .enum-told3 .given .1))
 
 returns-7 : tie.Need-returns-7
@@ -139,16 +142,17 @@ step-spec =
     step-any-size-requires-2
     enum-known-m
     forwarded-requires
+    busy-requires
     step-any-size-requires-3
     enum-known-m-2
     step-body-requires
     enum-known-m-3
     with-due-requires
-    busy-requires
+    busy-requires-2
     step-any-size-requires-4
     enum-told-3
     with-headers-requires
-    busy-requires-2
+    busy-requires-3
     step-any-size-requires-5
     enum-known-m-4
     step-body-chunk-requires
