@@ -26,7 +26,7 @@ use Rattle.building.specs.Call.{done}
 use Rattle.building_record.specs.Record as pieces
 use Rattle.building_record.specs.declared.BuildingKind.{BuildingKind}
 use Rattle.building_record.specs.declared.Building.{Building}
-use Rattle.writer.specs.Meaning.{Written}
+use Rattle.building.specs.Sent.{Written}
 use Rattle.writer.specs.Sending.{packetOf, barePayload, bodyPayload, chunkPayload, getPayload, endPayload, bareCall, bodyCall, chunkCall, getCall, endCall}
 use Rattle.reader.specs.Meaning.{Told, told, accepted}
 use Rattle.reader.specs.Reading.{readAsBody, reading}

@@ -11,7 +11,7 @@ use Rattle.packet.specs.declared.Direction.{Direction}
 use Rattle.connection.specs.declared.Kind.{Kind}
 use Rattle.payload.specs.Body.{bodyStart}
 use Rattle.building.specs.Call.{Outcome, refused, done}
-use Rattle.writer.specs.Meaning.{Written}
+use Rattle.building.specs.Sent.{Written}
 use Rattle.reader.specs.Meaning as read
 use Rattle.reader.specs.Meaning.{Told}
 use Rattle.two_ends_laws.specs.Ends.{Send, callDirection, outcomeOf, bodyGiven, PipePacket, Ends, freshEnds, pipeOf, senderOf, receiverOf, afterSend, Delivery, lent, answerOf, afterAnswer}

@@ -1,12 +1,12 @@
 // The commands that send a packet: in one call, or by closing one that was built. Their first words are the connection, L,D,F,N,F.
 use crate::record;
+use connection::Sent;
 use vectors_text::answer;
 use vectors_text::answer::Answer;
 use vectors_text::commands;
 use vectors_text::parse;
 use vectors_text::string;
 use vectors_text::text;
-use writer::Sent;
 
 // The word that says what the packet holds: bytes, a number or a flag.
 const CONTENT: usize = 7;
