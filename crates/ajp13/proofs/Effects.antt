@@ -17,7 +17,7 @@ use Rattle.building_record.specs.declared.Building.{Building}
 use Rattle.building_record.specs.Record.{builtKind}
 use Rattle.reader.specs.Meaning.{Meaning}
 use Rattle.reader.specs.Reading.{reading, tableAfter}
-use Rattle.writer.specs.Meaning.{Written}
+use Rattle.building.specs.Sent.{Written}
 use Rattle.closing.specs.Closing.{closeOutcome, closeBuffer}
 use Rattle.ajp13.specs.Status as status
 use Rattle.ajp13.specs.Words.{lastNumber, numberFault, connectionSize, connectionRoom, connectionFault, connectionIn, buildingFault, buildingIn}

@@ -18,7 +18,7 @@ use Rattle.building_record.specs.declared.Building.{Building}
 use Rattle.reader.specs.Meaning as read
 use Rattle.reader.specs.Reading.{reading, tableAfter}
 use Rattle.reading_laws.proofs.Acceptance.{refused-keeps, needs-keeps}
-use Rattle.writer.specs.Meaning.{Written}
+use Rattle.building.specs.Sent.{Written}
 use Rattle.closing.specs.Closing.{closeOutcome, closeBuffer}
 use Rattle.closing.proofs.Laws.{close-refused}
 use Rattle.ajp13.specs.Status as status

@@ -22,7 +22,7 @@ use Rattle.reader.specs.Meaning as read
 use Rattle.reader.specs.Reading.{reading}
 use Rattle.reader.proofs.Framing.{frame-inside}
 use Rattle.reading_laws.proofs.Acceptance.{accepted-is, needs-more}
-use Rattle.writer.specs.Meaning.{Written}
+use Rattle.building.specs.Sent.{Written}
 use Rattle.writer.specs.Sending.{packetOf, sending}
 use Rattle.closing.specs.Closing.{closedLength, closeOutcome}
 use Rattle.closing.proofs.Laws.{close-done}

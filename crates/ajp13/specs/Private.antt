@@ -9,7 +9,7 @@ use Rattle.connection.specs.Connection.{maxPacket}
 use Rattle.building.specs.Call as call
 use Rattle.reader.specs.Meaning as read
 use Rattle.reader.specs.Reading.{reading, tableAfter}
-use Rattle.writer.specs.Meaning.{Written}
+use Rattle.building.specs.Sent.{Written}
 use Rattle.ajp13.specs.Words.{word, lastNumber, connectionSize, askedPlace, connectionIn, buildingSize, nextPlace, countPlace, soFarPlace}
 use Rattle.ajp13.specs.Answer.{answerSize}
 use Rattle.ajp13.specs.Effect.{Effect}

@@ -8,7 +8,7 @@ use Rattle.connection.specs.declared.Kind.{Kind}
 use Rattle.building.specs.Fault.{orElse, firstFault}
 use Rattle.building.specs.Call.{Call, Outcome, refused, done, outcome, bufferAfter}
 use Rattle.building_record.specs.Record.{builtKind}
-use Rattle.writer.specs.Meaning.{Written}
+use Rattle.building.specs.Sent.{Written}
 use Rattle.writer.specs.Sending.{cpingCall, cpongCall, bodyCall, chunkCall, getCall, endCall}
 use Rattle.closing.specs.Closing.{closeOutcome, closeBuffer}
 use Rattle.ajp13.specs.Status as status

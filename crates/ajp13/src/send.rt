@@ -3,7 +3,7 @@
 ghost use mathlib.Core.Path.{_≡_};
 ghost use mathlib.Core.List.{List};
 ghost use Prim.Native.Nat.{ℕ};
-ghost use Rattle.writer.specs.Meaning.{sentOutcome};
+ghost use Rattle.building.specs.Sent.{sentOutcome};
 ghost use Rattle.ajp13.specs.Effect.{leaves};
 ghost use Rattle.ajp13.specs.Sending.{afterSending, cpingEffect, cpongEffect, bodyEffect, chunkEffect, getEffect, endEffect};
 ghost use Rattle.ajp13.specs.Private.{Takes, SentWithin};
@@ -20,7 +20,7 @@ use crate::words::number_fault;
 use crate::words::number_in;
 use crate::words::put_connection;
 use connection::Kind;
-use writer::Sent;
+use connection::Sent;
 
 // Tells what sending a packet of a kind came to: the status, the connection after it and the answer's words.
 pub fn tell(kind: Kind, sent: Sent, connection: &mut [u32], answer: &mut [u32]) -> u32

@@ -38,8 +38,8 @@ use Rattle.building_record.specs.declared.BuildingKind.{BuildingKind}
 use Rattle.building_record.specs.declared.Building.{Building}
 use Rattle.building_record.specs.Record.{builtKind, directionIn, isPossible}
 use Rattle.building_record.proofs.Laws.{possible-yes}
-use Rattle.writer.specs.declared.Sent.{Sent}
-use Rattle.writer.specs.Meaning.{Written, sentOutcome, isWritten}
+use Rattle.connection.specs.declared.Sent.{Sent}
+use Rattle.building.specs.Sent.{Written, sentOutcome, isWritten}
 use Rattle.reader.specs.declared.frame.FrameRead.{FrameRead}
 use Rattle.reader.specs.Frame.{leadingDiffers, lengthAt, frameOf, frameAt}
 use Rattle.reader.specs.Meaning as read

@@ -17,7 +17,7 @@ use Rattle.building.specs.Call.{Outcome, refused, done}
 use Rattle.building_record.specs.declared.BuildingKind.{BuildingKind}
 use Rattle.building_record.specs.declared.Building.{Building}
 use Rattle.building_record.specs.Record.{builtKind, directionIn, isPossible}
-use Rattle.writer.specs.Meaning.{Written}
+use Rattle.building.specs.Sent.{Written}
 use Rattle.reader.specs.Meaning as read
 use Rattle.reader.specs.Reading.{parse, contextOf, judging}
 use Rattle.wire.specs.Packet.{payloadPlace, lengthPlace}

@@ -15,7 +15,7 @@ use Rattle.packet.specs.declared.Packet.{Packet}
 use Rattle.payload.specs.Kinds.{packetKind}
 use Rattle.building_record.specs.declared.Building.{Building}
 use Rattle.building_record.specs.Record.{builtKind, directionIn, isPossible}
-use Rattle.writer.specs.Meaning.{Written}
+use Rattle.building.specs.Sent.{Written}
 use Rattle.reader.specs.Meaning as read
 use Rattle.reader.specs.Reading.{reading}
 use Rattle.closing.specs.Closing.{closedLength, closed, closedPacket, judgement, closeBuffer}

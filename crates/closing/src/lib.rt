@@ -6,15 +6,17 @@ ghost use mathlib.Core.Path.{_≡_};
 ghost use lib.ListN.{length, getD};
 ghost use Rattle.wire.specs.Bytes.{over};
 ghost use Rattle.reader.specs.Meaning as read;
-ghost use Rattle.writer.specs.Meaning.{sentOutcome};
+ghost use Rattle.building.specs.Sent.{sentOutcome};
 ghost use Rattle.closing.specs.Closing.{closedLength, closingFault, closed, verdict, judgement, closeOutcome, closeBuffer};
 ghost use Rattle.closing.specs.Private.{lastWith, Closable, putBack};
 use attributes::LAST_MARK;
 use building::fault;
+use building::sent::is_written;
 use building::size::BYTE;
 use building_record::Building;
 use building_record::BuildingKind;
 use connection::Connection;
+use connection::Sent;
 use packet::Place;
 use places::MAX_PLACES;
 use reader::Received;
@@ -24,8 +26,6 @@ use wire::PAYLOAD_PLACE;
 use wire::part_of;
 use wire::refusal;
 use wire::write;
-use writer::Sent;
-use writer::is_written;
 
 // What stood where closing writes: two bytes at the count and two at the length, each pair as the integer that it is, and the byte behind
 // the last piece.

@@ -64,6 +64,12 @@ pub enum Step {
     Next(Connection),
 }
 
+// What a call that sends answers: the refusal's number, or the packet's length and the connection after it.
+pub enum Sent {
+    Refused(u8),
+    Written { size: usize, connection: Connection },
+}
+
 impl State {
     fn is_idle(self) -> bool
         ensures { λ r. ⌜ r ≡ isIdle self ⌝ }

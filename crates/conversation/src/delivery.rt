@@ -1,6 +1,7 @@
 // What becomes of a send: a packet that was written is carried to the other end, which reads it.
 use crate::ends::Ends;
 use connection::Connection;
+use connection::Sent;
 use conversation_text::print;
 use conversation_text::row;
 use conversation_text::told;
@@ -9,7 +10,6 @@ use packet::Direction;
 use places::MAX_PLACES;
 use reader::Received;
 use wire::part_of;
-use writer::Sent;
 
 // The ends after a send: where it was refused, as they were.
 pub fn after(ends: Ends, direction: Direction, sent: Sent, buffer: &[u8]) -> Ends {

@@ -3,6 +3,7 @@
 // with a number, p,NAME,VALUE one that brings its name with it.
 use building_record::Building;
 use connection::Connection;
+use connection::Sent;
 use names::CodeFound;
 use pieces::Added;
 use pieces::attribute;
@@ -14,7 +15,6 @@ use pieces::header;
 use pieces::send_headers;
 use vectors_text::parse;
 use vectors_text::text;
-use writer::Sent;
 
 // The code of attributes that bring their name with them.
 const PAIR: u16 = 10;

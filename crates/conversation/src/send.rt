@@ -5,12 +5,12 @@ use crate::delivery;
 use crate::ends::Ends;
 use crate::piece;
 use connection::Connection;
+use connection::Sent;
 use conversation_text::print;
 use conversation_text::words;
 use packet::Direction;
 use vectors_text::parse;
 use vectors_text::text;
-use writer::Sent;
 
 // The fields of a line.
 const LETTER: usize = 1;

@@ -29,7 +29,7 @@ use Rattle.packet.specs.declared.Packet.{Packet}
 use Rattle.building.specs.Field.{Field}
 use Rattle.building_record.specs.Record as building
 use Rattle.building_record.specs.declared.BuildingKind.{BuildingKind}
-use Rattle.writer.specs.Meaning.{Written}
+use Rattle.building.specs.Sent.{Written}
 use Rattle.reader.specs.Meaning.{accepted}
 use Rattle.reader.specs.Reading.{parse, contextOf, judging, reading}
 use Rattle.reading_laws.proofs.Aside.{aside}

@@ -48,7 +48,7 @@ use Rattle.building.specs.Call.{Call, refused, done, refusalOf, outcomeBy, outc
 use Rattle.building.proofs.Sizes.{unless-none}
 use Rattle.building.proofs.Calls.{done-own, done-fits, after-written, fits-done}
 use Rattle.building.proofs.Faults.{faultless}
-use Rattle.writer.specs.Meaning.{Written}
+use Rattle.building.specs.Sent.{Written}
 use Rattle.writer.specs.Sending.{packetOf, sendingFaults, sending, bodyPayload, chunkPayload, bareCall, bodyCall, chunkCall, getCall, endCall}
 use Rattle.messages.specs.Message as messages
 use Rattle.messages.specs.Message.{Message, cping, cpong, forward, body, getBody, sendHeaders, bodyChunk, end, messageDirection, Fit}

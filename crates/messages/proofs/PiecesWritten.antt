@@ -27,7 +27,7 @@ use Rattle.pieces.specs.Fixed.{unset, fixed, fixedCall, forwardCall, sendHeader
 use Rattle.building_record.specs.declared.BuildingKind.{BuildingKind}
 use Rattle.building_record.specs.declared.Building.{Building}
 use Rattle.building_record.proofs.Laws.{possible-yes}
-use Rattle.writer.specs.Meaning.{Written}
+use Rattle.building.specs.Sent.{Written}
 use Rattle.reader.specs.Meaning.{accepted}
 use Rattle.reader.specs.Reading.{parse, contextOf, judging}
 use Rattle.closing.specs.Closing.{lastBytes, closedLength, closed, closedPacket, judgement, closeOutcome, closeBuffer}

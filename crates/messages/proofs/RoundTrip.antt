@@ -17,7 +17,7 @@ use Rattle.connection.specs.declared.Connection.{Connection}
 use Rattle.payload.specs.Kinds.{packetKind, packetMove}
 use Rattle.packet.specs.declared.Packet.{Packet}
 use Rattle.building.specs.Call.{Outcome, refused, done}
-use Rattle.writer.specs.Meaning.{Written}
+use Rattle.building.specs.Sent.{Written}
 use Rattle.reader.specs.Meaning.{accepted, placesNeeded}
 use Rattle.reader.specs.Reading.{reading, tableAfter}
 use Rattle.reading_laws.proofs.Acceptance.{accepted-is}

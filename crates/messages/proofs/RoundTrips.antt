@@ -12,7 +12,7 @@ use Rattle.wire.specs.Facts.{Bytes}
 use Rattle.connection.specs.declared.Connection.{Connection}
 use Rattle.payload.specs.Kinds.{packetMove}
 use Rattle.packet.specs.declared.Packet.{Packet}
-use Rattle.writer.specs.Meaning.{Written}
+use Rattle.building.specs.Sent.{Written}
 use Rattle.reader.specs.Meaning.{accepted}
 use Rattle.reader.specs.Reading.{reading, tableAfter}
 use Rattle.messages.specs.Message.{Message, messageKind, cping, cpong, forward, body, getBody, sendHeaders, bodyChunk, end, messageDirection, placesFor, Fit}

@@ -9,7 +9,7 @@ use Rattle.wire.specs.Bytes.{part, over}
 use Rattle.packet.specs.declared.Direction.{Direction}
 use Rattle.packet.specs.declared.Packet.{Packet}
 use Rattle.connection.specs.declared.Connection.{Connection}
-use Rattle.writer.specs.Meaning.{Written}
+use Rattle.building.specs.Sent.{Written}
 use Rattle.reader.specs.Meaning.{accepted}
 use Rattle.reader.specs.Reading.{reading, tableAfter}
 use Rattle.messages.specs.Message.{Message, messageDirection, Fit}

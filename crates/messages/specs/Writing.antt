@@ -11,7 +11,7 @@ use Rattle.building_record.specs.declared.Building.{Building}
 use Rattle.pieces.specs.Fixed.{forwardCall, sendHeadersCall}
 use Rattle.pieces.specs.Header.{codedCall, spelledCall}
 use Rattle.pieces.specs.Attribute.{textCall, integerCall, pairCall}
-use Rattle.writer.specs.Meaning.{Written}
+use Rattle.building.specs.Sent.{Written}
 use Rattle.writer.specs.Sending.{cpingCall, cpongCall, bodyCall, chunkCall, getCall, endCall}
 use Rattle.closing.specs.Closing.{closeOutcome, closeBuffer}
 use Rattle.messages.specs.Message.{Text, MessageName, coded, spelled, Header, Value, string, integer, pair, Attribute, Request, Response, Message, cping, cpong, forward, body, getBody, sendHeaders, bodyChunk, end, isNull, contentOf}

@@ -12,10 +12,11 @@ use Rattle.connection.specs.Cycle.{allowed, after}
 use Rattle.connection.specs.declared.Connection.{Connection}
 use Rattle.connection.specs.declared.Move.{Move}
 use Rattle.building.specs.Call.{Outcome, refused, done}
-use Rattle.writer.specs.Meaning.{Written}
+use Rattle.building.specs.Sent.{Written}
 use Rattle.reader.specs.Meaning as read
 use Rattle.reader.specs.Reading.{reading}
-use Rattle.two_ends_laws.specs.Ends.{Send, callDirection, outcomeOf, bufferOf, bodyGiven, PipePacket, Ends, pipeOf, senderOf, receiverOf, withSent, withRead, sentFrom, afterSend, allBytes, Delivery, lent, answerOf, afterAnswer}
+use Rattle.sends.specs.Send.{Send, callDirection, outcomeOf, bufferOf, bodyGiven}
+use Rattle.two_ends_laws.specs.Ends.{PipePacket, Ends, pipeOf, senderOf, receiverOf, withSent, withRead, sentFrom, afterSend, allBytes, Delivery, lent, answerOf, afterAnswer}
 use Rattle.two_ends_laws.specs.Past.{sent, refusedSend, delivered, World, start, send, deliver, entryOf, deliverFrom, happen, sentBytes, receivedBytes, heldIn, bodyBytesIn, RequestBody, requests}
 use Rattle.two_ends_laws.specs.Claims.{AllTaken, NoneChanged}
 use Rattle.two_ends_laws.proofs.Moves.{opposite}

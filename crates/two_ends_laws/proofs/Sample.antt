@@ -33,7 +33,8 @@ use Rattle.writer.specs.Sending.{bareCall, bodyCall, endCall}
 use Rattle.closing.specs.Closing.{closingFault, closed, closedPacket, judgement, closeOutcome, closeBuffer}
 use Rattle.reader.specs.Frame.{leadingDiffers, lengthAt, frameAt}
 use Rattle.reader.specs.Reading.{parseWhole, parse, accepting, reading}
-use Rattle.two_ends_laws.specs.Ends.{body, closeForward, end, closeSendHeaders, freshEnds, Delivery}
+use Rattle.sends.specs.Send.{body, closeForward, end, closeSendHeaders}
+use Rattle.two_ends_laws.specs.Ends.{freshEnds, Delivery}
 use Rattle.two_ends_laws.specs.Past.{start, Event, send, deliver, run, requests, receivedBytes, sentBytes}
 
 -- a buffer in which a Forward was built up to its last header: GET /, content-length 2

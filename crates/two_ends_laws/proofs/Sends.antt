@@ -26,7 +26,7 @@ use Rattle.building.specs.Call.{done}
 use Rattle.building_record.specs.Record as pieces
 use Rattle.building_record.specs.declared.BuildingKind.{BuildingKind}
 use Rattle.building_record.specs.declared.Building.{Building}
-use Rattle.writer.specs.Meaning.{Written}
+use Rattle.building.specs.Sent.{Written}
 use Rattle.writer.specs.Sending.{packetOf, barePayload, bodyPayload, chunkPayload, getPayload, endPayload, bareCall, bodyCall, chunkCall, getCall, endCall}
 use Rattle.reader.specs.Meaning.{accepted}
 use Rattle.reader.specs.Reading.{readAsBody, reading}
@@ -37,7 +37,7 @@ use Rattle.messages.specs.Bytes.{messageBytes}
 use Rattle.messages.proofs.Parses.{isBody, Parses, packet-as-body, none-due, AcceptedAs, accepted-parses, all-parses}
 use Rattle.messages.proofs.OneCall as one
 use Rattle.messages.proofs.OneCall.{OneWritten, done-written, cping-parses, cpong-parses, body-parses, chunk-parses, get-parses, end-parses}
-use Rattle.two_ends_laws.specs.Ends.{recordOf, Send, cping, body, closeForward, cpong, bodyChunk, getBody, end, closeSendHeaders, callDirection, outcomeOf, bufferOf, isBodyCall, bodyGiven}
+use Rattle.sends.specs.Send.{recordOf, Send, cping, body, closeForward, cpong, bodyChunk, getBody, end, closeSendHeaders, callDirection, outcomeOf, bufferOf, isBodyCall, bodyGiven}
 use Rattle.two_ends_laws.specs.Past.{heldIn}
 use Rattle.two_ends_laws.specs.Made.{forwardTold, moveOf, packetBy, Made}
 use Rattle.two_ends_laws.proofs.Packets.{ReadableAs, readable-as}

@@ -12,7 +12,8 @@ use Rattle.connection.specs.declared.Connection.{Connection}
 use Rattle.connection.specs.declared.ForwardMove.{ForwardMove}
 use Rattle.connection.specs.declared.Move.{Move}
 use Rattle.reader.specs.Meaning.{bodyDeclared}
-use Rattle.two_ends_laws.specs.Ends.{Send, cping, body, closeForward, cpong, bodyChunk, getBody, end, closeSendHeaders, callDirection, isBodyCall, bodyGiven, PipePacket}
+use Rattle.sends.specs.Send.{Send, cping, body, closeForward, cpong, bodyChunk, getBody, end, closeSendHeaders, callDirection, isBodyCall, bodyGiven}
+use Rattle.two_ends_laws.specs.Ends.{PipePacket}
 use Rattle.two_ends_laws.specs.Past.{heldIn}
 use Rattle.two_ends_laws.specs.Readable.{Readable}
 

@@ -11,9 +11,10 @@ use Rattle.packet.specs.declared.Direction.{Direction}
 use Rattle.packet.specs.declared.Packet.{Packet}
 use Rattle.payload.specs.Body.{bodyStart}
 use Rattle.building.specs.Call.{Outcome, refused, done}
-use Rattle.writer.specs.Meaning.{Written}
+use Rattle.building.specs.Sent.{Written}
 use Rattle.reader.specs.Meaning as read
-use Rattle.two_ends_laws.specs.Ends.{Send, callDirection, outcomeOf, bodyGiven, PipePacket, Ends, freshEnds, pipeOf, senderOf, receiverOf, afterSend, Delivery, lent, answerOf, afterAnswer}
+use Rattle.sends.specs.Send.{Send, callDirection, outcomeOf, bodyGiven}
+use Rattle.two_ends_laws.specs.Ends.{PipePacket, Ends, freshEnds, pipeOf, senderOf, receiverOf, afterSend, Delivery, lent, answerOf, afterAnswer}
 
 -- something that happened: a send that was written, with the body bytes given to it; a refused send, with the body bytes given to it
 -- and the ends and pipes before it and after it; a delivery, with the packet's bytes, the bytes lent and the answer

@@ -22,14 +22,15 @@ use Rattle.connection.specs.declared.Connection.{Connection}
 use Rattle.connection.specs.declared.Kind.{Kind}
 use Rattle.connection.specs.declared.Move.{Move}
 use Rattle.connection.specs.declared.Step.{Step}
+use Rattle.connection.specs.declared.Sent.{Sent}
 use Rattle.building.specs.Fault.{unless, orElse, firstFault, fitFault}
 use Rattle.building.specs.Field.{opening, sizeTold}
 use Rattle.building.specs.Call.{Call, refused, done, outcomeBy, refusalOf, outcome, bufferAfter}
 use Rattle.building.proofs.Sizes.{told-exact}
 use Rattle.wire.proofs.Rows.{fits-later, joined}
 use Rattle.building.proofs.Calls.{found-by, refused-buffer, done-buffer, done-fits}
-use Rattle.writer.specs.declared.Sent.{Sent}
-use Rattle.writer.specs.Meaning.{Written, sentOutcome, isWritten}
+use Rattle.building.specs.Sent.{Written, sentOutcome, isWritten}
+use Rattle.building.proofs.Answers.{written-none}
 use Rattle.writer.specs.Private.{readyOf}
 use Rattle.writer.specs.Sending.{packetOf, sendingFaults, sending, barePayload, bodyPayload, chunkPayload, endPayload}
 
@@ -73,16 +74,6 @@ ready-outcome c m payload buffer size told =
     ∙ answered-same fault _ _ (λ h.
     let fits : Fits 0 (packetOf m payload) buffer = done-fits call buffer fault refl h in
     ap (λ (n : ℕ). record { size = n; connection = after c m }) (told ∙ told-exact (length (packetOf m payload)) (omega arith)))
-
--- an answer says that the packet is written exactly where there is no fault
-written-none : (r : Sent) (fault : ℕ) (w : Written) → sentOutcome r ≡ outcomeBy fault w → isWritten r ≡ eqb fault 0
-written-none r fault w e = go r (eqb fault 0) e
-  where
-    go : (r : Sent) (t : Bool) → sentOutcome r ≡ pick t (done w) (refused fault) → isWritten r ≡ t
-    go (Sent.Refused n) true e = absurd (let z : _≡_ {A = ℕ} 0 1 = cc in omega arith)
-    go (Sent.Refused n) false e = refl
-    go (Sent.Written size connection) true e = refl
-    go (Sent.Written size connection) false e = absurd (let z : _≡_ {A = ℕ} 0 1 = cc in omega arith)
 
 -- an answer is a call's, and whether it says that the packet is written tells what becomes of the buffer: written, the packet fits and the
 -- buffer with it is the call's; not written, the buffer as it was is the call's

@@ -4,7 +4,7 @@ use Prim.Native.Nat.{ℕ}
 use Rattle.connection.specs.declared.Step.{Step}
 use Rattle.building.specs.Fault.{fitFault}
 use Rattle.building.specs.Call.{Outcome, refused, outcomeBy}
-use Rattle.writer.specs.Meaning.{Written}
+use Rattle.building.specs.Sent.{Written}
 
 -- what a packet of so many bytes that makes a step comes to on a buffer with so much room
 abbrev pub readyOf : Step → ℕ → ℕ → Outcome Written

@@ -19,7 +19,7 @@ use Rattle.connection.specs.declared.Move.{Move}
 use Rattle.payload.specs.Code.{codeOf}
 use Rattle.building.specs.Fault.{unless}
 use Rattle.building.specs.Call.{Call}
-use Rattle.writer.specs.Meaning.{Written}
+use Rattle.building.specs.Sent.{Written}
 
 -- the packet that makes a move, with this payload
 abbrev pub packetOf : Move → List ℕ → List ℕ

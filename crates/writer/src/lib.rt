@@ -10,15 +10,17 @@ ghost use Rattle.wire.specs.Packet.{Fits};
 ghost use Rattle.connection.specs.declared.Move.{Move};
 ghost use Rattle.building.specs.Field.{sizeTold};
 ghost use Rattle.building.specs.Call.{outcome, bufferAfter};
-ghost use Rattle.writer.specs.Meaning.{sentOutcome, isWritten};
+ghost use Rattle.building.specs.Sent.{sentOutcome};
 ghost use Rattle.writer.specs.Private.{readyOf};
 ghost use Rattle.writer.specs.Sending.{packetOf, bodyPayload, chunkPayload, getPayload, endPayload, bareCall, cpingCall, cpongCall, bodyCall, chunkCall, getCall, endCall};
 use building::fault;
 use building::opening;
+use building::sent::is_written;
 use building::size;
 use connection::Connection;
 use connection::Kind;
 use connection::Move;
+use connection::Sent;
 use connection::Step;
 use packet::Direction;
 use payload::body::BODY_START;
@@ -39,12 +41,6 @@ const AROUND_CHUNK: usize = 4;
 
 const BEFORE_BODY: usize = size::INTEGER;
 
-// What a call that sends answers: the refusal's number, or the packet's length and the connection after it.
-pub enum Sent {
-    Refused(u8),
-    Written { size: usize, connection: Connection },
-}
-
 // How many bytes a buffer needs for a body packet with these bytes, 8193 where no packet has room for them.
 pub fn body_needs(bytes: &[u8]) -> usize
     ensures { λ r. ⌜ r ≡ sizeTold (length (packetOf (Move.Body (length (now (bytes .entry)))) (bodyPayload (now (bytes .entry))))) ⌝ }
@@ -61,16 +57,6 @@ pub fn body_chunk_needs(bytes: &[u8]) -> usize
     ensures { λ r. ⌜ r ≡ sizeTold (length (packetOf (Move.BodyChunk (length (now (bytes .entry)))) (chunkPayload (now (bytes .entry))))) ⌝ }
 {
     size::string(AFTER_CODE_PLACE, false, bytes)
-}
-
-// Whether an answer says that the packet is written.
-pub fn is_written(sent: Sent) -> bool
-    ensures { λ r. ⌜ r ≡ isWritten sent ⌝ }
-{
-    match sent {
-        Sent::Refused(_) => false,
-        Sent::Written { size, connection } => true,
-    }
 }
 
 // What a packet of so many bytes that makes a step comes to on a buffer with so much room: the step, then whether it fits.

@@ -1,8 +1,8 @@
 -- `send::tell` meets its contract, by what sending came to.
 -- Assumes nothing.
 use mathlib.Core.Path.{sym, ap, subst, _∙_}
-use Rattle.writer.specs.Meaning.{sentOutcome}
-use Rattle.writer.specs.declared.Sent.{Sent}
+use Rattle.building.specs.Sent.{sentOutcome}
+use Rattle.connection.specs.declared.Sent.{Sent}
 use Rattle.ajp13.specs.Answer.{writtenWords}
 use Rattle.ajp13.specs.Sending.{afterSending}
 use Rattle.ajp13.specs.Private.{SentWithin}

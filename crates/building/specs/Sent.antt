@@ -5,8 +5,8 @@
 use mathlib.Core.Bool.{Bool, true, false}
 use Prim.Native.Nat.{ℕ}
 use Rattle.connection.specs.declared.Connection.{Connection}
+use Rattle.connection.specs.declared.Sent.{Sent}
 use Rattle.building.specs.Call.{Outcome, refused, done}
-use Rattle.writer.specs.declared.Sent.{Sent}
 
 -- a packet that stands in the buffer from its first byte on: how long it is, and the connection after it
 pub record Written : Type 0 where
