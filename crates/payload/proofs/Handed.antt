@@ -520,7 +520,7 @@ send-headers-places s h e =
     record { many = handed .headers-many; headers-most = handed .headers-most }
 
 -- a CPing or a CPong
-bare-handed : (s : List ℕ) (packet : Packet) → finished (length s) afterCodePlace packet ≡ PacketRead.Packet packet → BareHanded s []
+pub bare-handed : (s : List ℕ) (packet : Packet) → finished (length s) afterCodePlace packet ≡ PacketRead.Packet packet → BareHanded s []
 bare-handed s packet e = record { ends = sym (finished-is (length s) afterCodePlace packet packet e .0); no-places = refl }
 
 -- a Get Body Chunk
