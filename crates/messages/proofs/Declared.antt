@@ -169,11 +169,11 @@ name-declares s at end = go (nameAt Direction.ToContainer s at) refl (name-fine 
     go (NameRead.Refused n) e fine ends = absurd ends
     go (NameRead.Code code next) e fine ends =
         let shown : nameShown s at ≡ coded code = rw (code-shown Direction.ToContainer s at code next e) in
-        code-names code (fine .1) ∙ sym (ap namesLength shown)
+        code-names code (fine .2) ∙ sym (ap namesLength shown)
     go (NameRead.Spelled start len next) e fine ends =
         let name = spelled-shown Direction.ToContainer s at start len next e in
         let shown : nameShown s at ≡ spelled (part s start len) = rw (name .0, name .1) in
-        sym (ap namesLength shown ∙ spelled-names (part s start len) (fine .1))
+        sym (ap namesLength shown ∙ spelled-names (part s start len) (fine .2))
 
 -- what headers make of what was declared before them, by the values of those that are content-length: at most one, and none behind one
 abbrev MakeAll : Declared → Declared → List Text → Type 0
@@ -224,9 +224,9 @@ forward-declares s table f e =
     let handed = forward-handed s f e in
     let lists = handed .lists in
     let shown : List Text = lengthValues (headersShown s (lists .of-headers)) in
-    let made = headers-make s (handed .lists-place) Declared.Absent (lists .of-headers) (lists .middle) (lists .after) (lists .headers-there) in
+    let made = headers-make s (handed .lists-place) Declared.Absent (lists .of-headers) (lists .middle) (lists .of-length) (lists .headers-there) in
     subst (λ (l : List ℕ). LengthDeclared (f .declared .0) (lengthValues (headersShown s l))) (sym (forward-table s table f e .0))
-    (subst (λ (n : ℕ). LengthDeclared n shown) (sym (lists .declared-is)) (all-declared (lists .after) shown made))
+    (subst (λ (n : ℕ). LengthDeclared n shown) (sym (lists .declared-is)) (all-declared (lists .of-length) shown made))
 
 -- a packet declares what the message that it shows does
 packet-declares : (p : Packet) (s table : List ℕ) → packetAt (packetKind p) s .end ≡ PacketRead.Packet p

@@ -261,12 +261,12 @@ header-kept d s at value end before after bytes named there = go (nameAt d s at)
         → DeclaresThen d s before r (stringAt s value (isOptional StringField.HeaderValue)) after → NamedKept d s at value end (nameShown s at)
     go (NameRead.Refused n) e fine ends h = absurd ends
     go (NameRead.Code code next) e fine ends h =
-        let k = coded-held d s at code next bytes (fine .0) (fine .1) in
+        let k = coded-held d s at code next bytes (fine .1) (fine .2) in
         let name : FieldKept s at value (codedName d code) = subst (λ (i : ℕ). FieldKept s at i (codedName d code)) ends (k .0) in
         subst (NamedKept d s at value end) (sym (ap (nameBy s at) (code-shown d s at code next e)))
         (fields-front name (fields-last (valued (declares d code) h)), k .1)
     go (NameRead.Spelled start len next) e fine ends h =
-        let k = spelled-held d s at start len next bytes (fine .0) (fine .1) in
+        let k = spelled-held d s at start len next bytes (fine .1) (fine .2) in
         let name : FieldKept s at value (spelledName d false (textView s at)) =
         subst (λ (i : ℕ). FieldKept s at i (spelledName d false (textView s at))) ends k in
         subst (NamedKept d s at value end) (sym (ap (nameBy s at) (spelled-shown d s at start len next e .0)))

@@ -116,7 +116,7 @@ forward-kept s f bytes r =
     rw (boolean-back (f .«is_ssl»)) (boolean-held s (h .ssl-place) (f .«is_ssl») (h .count-place) (h .ssl-read)) in
     let attributes = attributes-kept s (lists .middle) (lists .of-attributes) (length s) bytes (omega arith) (lists .attributes-there) in
     let headers =
-    headers-kept Direction.ToContainer s (h .lists-place) Declared.Absent (lists .of-headers) (lists .middle) (lists .after) bytes (attributes .held .forth)
+    headers-kept Direction.ToContainer s (h .lists-place) Declared.Absent (lists .of-headers) (lists .middle) (lists .of-length) bytes (attributes .held .forth)
     (lists .headers-there) in
     let fixed =
     fields-front (record { held = byte-held s afterCodePlace (f .method) (f .protocol .0) (h .method-read); fine = in-range })
@@ -142,7 +142,7 @@ send-headers-kept s head bytes r =
     let status = integer-held s afterCodePlace (head .status) (head .message .0) bytes (h .status-read) in
     let in-range : rangeFault leastStatus greatestStatus (head .status) ≡ 0 = range-fine leastStatus greatestStatus (head .status) (h .status-range) in
     let headers =
-    headers-kept Direction.ToServer s (h .headers-place) Declared.Absent (sendHeadersAt s .places) (length s) (h .after) bytes (omega arith)
+    headers-kept Direction.ToServer s (h .headers-place) Declared.Absent (sendHeadersAt s .places) (length s) (h .of-length) bytes (omega arith)
     (h .headers-there) in
     let fixed =
     fields-front (record { held = status .0; fine = in-range })

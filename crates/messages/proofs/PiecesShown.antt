@@ -113,7 +113,7 @@ module _ {s : List ℕ} (short : length s ≤ maxPacket) (request : Request) (ow
       let many : length (lists .of-headers) ≡ length (request .headers) + length (request .headers) = omega (arith, lists .headers-many, count .0) in
       let headers =
       headers-show short (attributesBytes (request .attributes) ++ (lastMark ∷ [])) Direction.ToContainer (request .headers) headers-fine (count .1)
-      (lists .of-headers) many (lists .middle) Declared.Absent (lists .after) (lists .headers-there) in
+      (lists .of-headers) many (lists .middle) Declared.Absent (lists .of-length) (lists .headers-there) in
       let attributes =
       attributes-show short (request .attributes) attributes-fine fit (headers .1) (lists .of-attributes) (length s) (lists .attributes-there) in
       rw (headers .0, attributes, r2 .0, r3 .0, r4 .0, r5 .0, r6 .0, first .0, port .0, ssl .0, boolean-back (request .ssl))
@@ -142,7 +142,7 @@ module _ {s : List ℕ} (short : length s ≤ maxPacket) (response : Response) (
       omega (arith, handed .headers-many, count .0) in
       let headers =
       headers-show short [] Direction.ToServer (response .headers) headers-fine (count .1) (sendHeadersAt s .places) many (length s)
-      Declared.Absent (handed .after) (handed .headers-there) in
+      Declared.Absent (handed .of-length) (handed .headers-there) in
       rw (headers .0, r2 .0, first .0)
 
 -- the bytes of a Forward behind the first five
