@@ -142,7 +142,7 @@ send-headers-kept s head bytes r =
     let status = integer-held s afterCodePlace (head .status) (head .message .0) bytes (h .status-read) in
     let in-range : rangeFault leastStatus greatestStatus (head .status) ≡ 0 = range-fine leastStatus greatestStatus (head .status) (h .status-range) in
     let headers =
-    headers-kept Direction.ToServer s (h .headers-place) Declared.Absent (sendHeadersAt s .places) (length s) (h .of-length) bytes (omega arith)
+    headers-kept Direction.ToServer s (h .headers-place) Declared.Absent (sendHeadersAt s .places) (length s) Declared.Absent bytes (omega arith)
     (h .headers-there) in
     let fixed =
     fields-front (record { held = status .0; fine = in-range })

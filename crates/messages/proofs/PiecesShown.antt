@@ -142,7 +142,7 @@ module _ {s : List ℕ} (short : length s ≤ maxPacket) (response : Response) (
       omega (arith, handed .headers-many, count .0) in
       let headers =
       headers-show short [] Direction.ToServer (response .headers) headers-fine (count .1) (sendHeadersAt s .places) many (length s)
-      Declared.Absent (handed .of-length) (handed .headers-there) in
+      Declared.Absent Declared.Absent (handed .headers-there) in
       rw (headers .0, r2 .0, first .0)
 
 -- the bytes of a Forward behind the first five

@@ -125,6 +125,23 @@ headers-to d s at (suc count) before =
     go (HeaderRead.Header value after next) h later =
         header-front d s at value next before after (headersAt d s next count after .places) (headersAt d s next count after .end) h (later after next)
 
+-- a header to the server declares nothing
+header-declares : (s : List ℕ) (before : Declared) (name : NameRead) (value : StringRead) (after : Declared)
+    → DeclaresThen Direction.ToServer s before name value after → before ≡ after
+unfolding declaredAfter
+header-declares s before (NameRead.Refused n) value after e = cc
+header-declares s before (NameRead.Code code next) value after e = cc
+header-declares s before (NameRead.Spelled start len next) value after e = cc
+
+-- nor do several
+headers-declare : (s : List ℕ) (at : ℕ) (before : Declared) (places : List ℕ) (end : ℕ) (after : Declared)
+    → HeadersHanded Direction.ToServer s at before places end after → before ≡ after
+headers-declare s at before [] end after h = h .1
+headers-declare s at before (p ∷ []) end after h = absurd h
+headers-declare s at before (p ∷ q ∷ rest) end after (next, place, named, there, declared, now, later) =
+    header-declares s before (nameAt Direction.ToServer s p) (stringAt s q (isOptional StringField.HeaderValue)) declared now
+    ∙ headers-declare s next declared rest end after later
+
 -- a name that is read: what its first byte says, the integer or the string there, without fault
 abbrev pub NameFine : Direction → List ℕ → ℕ → NameRead → Type 0
 NameFine d s at (NameRead.Refused n) = Unit
@@ -467,7 +484,7 @@ forward-places s f e =
     }
 
 -- nothing stands behind a packet's last field, and the packet is the one that was found
-pub finished-is : (size next : ℕ) (found packet : Packet) → finished size next found ≡ PacketRead.Packet packet → (next ≡ size) × (found ≡ packet)
+finished-is : (size next : ℕ) (found packet : Packet) → finished size next found ≡ PacketRead.Packet packet → (next ≡ size) × (found ≡ packet)
 finished-is size next found packet = go (eqb next size) refl
   where
     go : (t : Bool) → eqb next size ≡ t → pick t (PacketRead.Packet found) (PacketRead.Refused leftOver) ≡ PacketRead.Packet packet
@@ -489,6 +506,8 @@ head-found s h places (HeadersRead.Refused n) b many e = let z : _≡_ {A = ℕ}
 head-found s h places (HeadersRead.Headers after end) b many e =
     let reads = sendHeadersReads s in
     let found = finished-is (length s) end _ (Packet.SendHeaders h) e in
+    let nothing : HeadersHanded Direction.ToServer s (b .0) Declared.Absent places end Declared.Absent =
+    subst (HeadersHanded Direction.ToServer s (b .0) Declared.Absent places end) (sym (headers-declare s (b .0) Declared.Absent places end after (b .2))) (b .2) in
     let count = number-behind (integerAt s) 0 maxHeaders tooMany (reads .message) (b .0) (b .1) in
     let message = string-behind s StringField.Message (reads .status) (fieldPlace (reads .headers) .0) (count .0) in
     let status = number-behind (integerAt s) leastStatus greatestStatus outOfRange afterCode (fieldPlace (reads .message) .0) (message .0) in
@@ -502,8 +521,7 @@ head-found s h places (HeadersRead.Headers after end) b many e =
       count-read = count .1;
       headers-most = range-most maxHeaders (fieldNumber (reads .headers)) (count .2);
       headers-many = many;
-      of-length = after;
-      headers-there = subst (λ (i : ℕ). HeadersHanded Direction.ToServer s (b .0) Declared.Absent places i after) (found .0) (b .2);
+      headers-there = subst (λ (i : ℕ). HeadersHanded Direction.ToServer s (b .0) Declared.Absent places i Declared.Absent) (found .0) nothing;
     })
 
 -- what a Send Headers that was read hands out was read in it
