@@ -1,62 +1,49 @@
--- What is told as declared is what the packet shows: the value of its one content-length. Headers are read one after the other, and what they
--- lengthAfter so far changes only at a header whose name is content-length: a code is that name's exactly where reading takes it for it, and a
--- name that is spelled out and let by is no listed one.
+-- What is told as declared is what the packet shows: the value of its one content-length. What headers declare so far (`payload`'s definition
+-- `Handed`) changes only at a header whose name is content-length: a code is that name's exactly where reading takes it for it, and a name that
+-- is spelled out and let by is no listed one.
 -- Assumes nothing.
 use native.Mathlib.Omega.{arith}
-use borrow.Author.Tests.{eqb-true, leb-true, ltb-true}
+use borrow.Author.Tests.{leb-true, ltb-true}
 use mathlib.Core.Path.{_≡_, refl, sym, ap, subst, _∙_}
 use mathlib.Core.Bool.{Bool, true, false, false≢true}
 use mathlib.Core.List.{List, [], _∷_}
 use Prim.Native.Nat.{ℕ, zero, suc, _+_, _-_, _*_, _≤_, _<_}
-use lib.Dec.{leb, ltb, eqb, lit<}
+use lib.Dec.{leb, ltb, lit<}
 use lib.ListN.{length, getD}
 use Rattle.wire.specs.Pick.{pick, between, all}
-use Rattle.wire.specs.Refusal.{none, cutShort, outOfRange, nameWrong, tooMany, leftOver}
+use Rattle.wire.specs.Refusal.{none, nameWrong}
 use Rattle.wire.specs.Bytes.{part}
-use Rattle.wire.specs.Field.{integerAt, stringAt, isOptional}
 use Rattle.wire.proofs.Tests.{both-first, both-second}
 use Rattle.packet.specs.declared.Direction.{Direction}
-use Rattle.wire.specs.declared.StringField.{StringField}
-use Rattle.wire.specs.declared.read.NumberRead.{NumberRead}
-use Rattle.wire.specs.declared.read.StringRead.{StringRead}
-use Rattle.names.specs.Names.{ascii, requestNames, namesIn, firstCode, isListed, nameFor, letter, sameName, codeFrom, codeIn}
-use Rattle.names.specs.Header.{beginsCode, codeFault, isFound, headerNames, unlistedFault, spelledFault}
+use Rattle.names.specs.Names.{requestNames, namesIn, firstCode, isListed, nameFor, letter, sameName, codeFrom, codeIn}
+use Rattle.names.specs.Header.{codeFault, isFound, unlistedFault, spelledFault}
 use Rattle.names.specs.Token.{isToken}
-use Rattle.headers.specs.Length.{within, digits, decimalOf, decimalDeclared, isContentLength, lengthAfter, declaredLength}
+use Rattle.headers.specs.Length.{digits, decimalOf, decimalDeclared, isContentLength, declaredLength}
 use Rattle.names.specs.declared.NameList.{NameList}
 use Rattle.names.specs.declared.CodeFound.{CodeFound}
 use Rattle.headers.specs.declared.length.Decimal.{Decimal}
 use Rattle.headers.specs.declared.length.Declared.{Declared}
 use Rattle.headers.specs.declared.length.LengthRead.{LengthRead}
 use Rattle.names.proofs.Rule.{agree}
-use Rattle.headers.specs.Headers.{codeNameOf, spelledAt, spelledOf, nameAt, declares, declaredAfter, headerValued, headerValueOf, headerValueAt, headerOf, headerAt, headerThen, headersAt}
+use Rattle.headers.specs.Headers.{nameAt, declaredAfter}
 use Rattle.headers.specs.declared.NameRead.{NameRead}
-use Rattle.headers.specs.declared.HeaderRead.{HeaderRead}
-use Rattle.headers.specs.declared.HeadersRead.{HeadersRead}
-use Rattle.attributes.specs.Attributes.{attributesAt}
-use Rattle.attributes.specs.declared.AttributesRead.{AttributesRead}
-use Rattle.places.specs.Entries.{maxHeaders, maxAttributes}
 use Rattle.connection.specs.declared.Connection.{Connection}
-use Rattle.packet.specs.declared.BodyLeft.{BodyLeft}
 use Rattle.packet.specs.declared.Forward.{Forward}
 use Rattle.packet.specs.declared.Packet.{Packet}
-use Rattle.payload.specs.Sequence.{afterCode, stringAfter, booleanAfter, byteAfter, anyIntegerAfter, integerAfter, fieldNumber}
-use Rattle.payload.specs.Lists.{headersAfter, listsOf, attributesBehind, behindHeaders, listsAt}
-use Rattle.payload.specs.Forward.{firstMethod, lastMethod, forwardOf, forwardAt}
+use Rattle.payload.specs.Forward.{forwardAt}
 use Rattle.payload.specs.Kinds.{packetAt, packetKind}
-use Rattle.payload.specs.declared.field.FieldRead.{FieldRead}
-use Rattle.payload.specs.declared.lists.ListsRead.{ListsRead}
 use Rattle.payload.specs.declared.found.PacketRead.{PacketRead}
-use Rattle.payload.proofs.Listing.{headers-places}
+use Rattle.payload.specs.Handed.{NameEnds, declaringRead, HeadersHanded}
+use Rattle.payload.proofs.Handed.{NameFine, name-fine, forward-handed}
 use Rattle.reader.specs.Meaning.{accepted, bodyDeclared}
 use Rattle.reader.specs.Reading.{reading, tableAfter}
-use Rattle.reading_laws.proofs.Shown.{text-shown, code-shown, spelled-shown}
-use Rattle.messages.specs.Message.{Text, null, text, MessageName, coded, spelled, Header, isNull, contentOf}
+use Rattle.reading_laws.proofs.Shown.{code-shown, spelled-shown}
+use Rattle.messages.specs.Message.{Text, null, text, coded, spelled, isNull, contentOf}
 use Rattle.messages.specs.Shown.{textShown, nameShown, headersShown, headerPlaces, messageShown}
-use Rattle.messages.specs.Declared.{namesLength, lengthValues, zeroDigit, nineDigit, valueFrom, decimalValue, mostDeclared, LengthDeclared, MessageDeclares}
-use Rattle.messages.proofs.Texts.{null-told, text-told}
+use Rattle.messages.specs.Declared.{namesLength, lengthValues, zeroDigit, nineDigit, valueFrom, mostDeclared, LengthDeclared, MessageDeclares}
+use Rattle.messages.proofs.Texts.{declares-shown}
 use Rattle.messages.proofs.Parses.{contextFor, accepted-parses}
-use Rattle.messages.proofs.Tables.{tableOf, table-filled, header-places}
+use Rattle.messages.proofs.Tables.{tableOf, table-filled, forward-table}
 
 -- a number that is read from digits is their decimal value, and they are digits
 abbrev Counted : ℕ → List ℕ → Decimal → Type 0
@@ -159,106 +146,34 @@ Makes Declared.Absent after null true = ⊥
 Makes Declared.Absent after (text bytes) true = (n : ℕ) × (decimalOf bytes ≡ Decimal.Value n) × (after ≡ Declared.Known n)
 Makes (Declared.Known n) after value true = ⊥
 
--- by what its value declares
-abbrev MakesBy : Declared → Text → Bool → LengthRead → Type 0
-MakesBy before value t (LengthRead.Refused n) = Unit
-MakesBy before value t (LengthRead.Now after) = Makes before after value t
-
--- reading lets it lengthAfter just that
-declared-makes : (before : Declared) (value : Text) (t : Bool) → MakesBy before value t (declaredAfter t before (isNull value) (contentOf value))
+-- reading lets it declare just that
+declared-makes : (before : Declared) (value : Text) (t : Bool) (after : Declared)
+    → declaredAfter t before (isNull value) (contentOf value) ≡ LengthRead.Now after → Makes before after value t
 unfolding declaredAfter
-declared-makes before value false = refl
-declared-makes Declared.Absent null true = tt
-declared-makes Declared.Absent (text bytes) true = go (decimalOf bytes) refl
+declared-makes before value false after e = cc
+declared-makes Declared.Absent null true after e = absurd (let z : _≡_ {A = ℕ} 0 1 = cc in omega arith)
+declared-makes Declared.Absent (text bytes) true after e = go (decimalOf bytes) refl e
   where
-    go : (r : Decimal) → decimalOf bytes ≡ r → MakesBy Declared.Absent (text bytes) true (decimalDeclared r)
-    go Decimal.Bad e = tt
-    go (Decimal.Value n) e = (n, e, refl)
-declared-makes (Declared.Known n) value true = tt
+    go : (r : Decimal) → decimalOf bytes ≡ r → decimalDeclared r ≡ LengthRead.Now after → Makes Declared.Absent after (text bytes) true
+    go Decimal.Bad q h = absurd (let z : _≡_ {A = ℕ} 0 1 = cc in omega arith)
+    go (Decimal.Value n) q h = let known : after ≡ Declared.Known n = cc in (n, q, known)
+declared-makes (Declared.Known n) value true after e = absurd (let z : _≡_ {A = ℕ} 0 1 = cc in omega arith)
 
--- a header that is read at a place, by what it shows
-abbrev HeaderMakes : List ℕ → ℕ → Declared → HeaderRead → Type 0
-HeaderMakes s at before (HeaderRead.Refused n) = Unit
-HeaderMakes s at before (HeaderRead.Header value after next) = Makes before after (textShown s value) (namesLength (nameShown s at))
-
--- where this is its value, and this is whether its name is content-length
-value-shows : (s : List ℕ) (at value next : ℕ) (before : Declared) (shown : Text) (t : Bool) → textShown s value ≡ shown
-    → namesLength (nameShown s at) ≡ t → (r : LengthRead) → MakesBy before shown t r → HeaderMakes s at before (headerValued value next r)
-value-shows s at value next before shown t p q (LengthRead.Refused n) h = tt
-value-shows s at value next before shown t p q (LengthRead.Now after) h =
-    subst (λ (v : Text). Makes before after v (namesLength (nameShown s at))) (sym p) (subst (Makes before after shown) (sym q) h)
-
--- a header whose value is read at a place
-value-makes : (s : List ℕ) (at value : ℕ) (before : Declared) (t : Bool) → namesLength (nameShown s at) ≡ t
-    → HeaderMakes s at before (headerValueAt s value t before)
-unfolding headerValueAt
-value-makes s at value before t q = go (stringAt s value (isOptional StringField.HeaderValue)) refl
+-- a name that was read is shown as content-length exactly where reading takes its value for the length
+name-declares : (s : List ℕ) (at end : ℕ) → NameEnds end (nameAt Direction.ToContainer s at)
+    → declaringRead Direction.ToContainer (nameAt Direction.ToContainer s at) ≡ namesLength (nameShown s at)
+name-declares s at end = go (nameAt Direction.ToContainer s at) refl (name-fine Direction.ToContainer s at)
   where
-    go : (r : StringRead) → stringAt s value (isOptional StringField.HeaderValue) ≡ r → HeaderMakes s at before (headerValueOf s value t before r)
-    go (StringRead.Refused n) e = tt
-    go (StringRead.Null next) e =
-        value-shows s at value next before null t (null-told s value (isOptional StringField.HeaderValue) next e) q (declaredAfter t before true [])
-        (declared-makes before null t)
-    go (StringRead.Text start len next) e =
-        let o : Bool = isOptional StringField.HeaderValue in
-        let shown : textShown s value ≡ text (part s start len) =
-        text-told s value o start len next e ∙ ap text (text-shown s value o start len next e .1) in
-        value-shows s at value next before (text (part s start len)) t shown q (declaredAfter t before false (part s start len))
-        (declared-makes before (text (part s start len)) t)
-
--- a name that is read has no fault
-abbrev NameFine : List ℕ → NameRead → Type 0
-NameFine s (NameRead.Refused n) = Unit
-NameFine s (NameRead.Code code next) = codeFault Direction.ToContainer code ≡ none
-NameFine s (NameRead.Spelled start len next) = spelledFault Direction.ToContainer (part s start len) ≡ none
-
-name-fine : (s : List ℕ) (at : ℕ) → NameFine s (nameAt Direction.ToContainer s at)
-unfolding nameAt codeNameOf spelledAt
-name-fine s at = go (leb (at + 2) (length s)) (beginsCode (getD s at 0))
-  where
-    coded-fine : (r : NumberRead) → NameFine s (codeNameOf Direction.ToContainer r)
-    coded-fine (NumberRead.Refused n) = tt
-    coded-fine (NumberRead.Number code next) = by (eqb (codeFault Direction.ToContainer code) none) refl
-      where
-        by : (t : Bool) → eqb (codeFault Direction.ToContainer code) none ≡ t
-            → NameFine s (pick t (NameRead.Code code next) (NameRead.Refused (codeFault Direction.ToContainer code)))
-        by true e = eqb-true (codeFault Direction.ToContainer code) none e
-        by false e = tt
-
-    spelled-fine : (r : StringRead) → NameFine s (spelledOf Direction.ToContainer s r)
-    spelled-fine (StringRead.Refused n) = tt
-    spelled-fine (StringRead.Null next) = tt
-    spelled-fine (StringRead.Text start len next) = by (eqb (spelledFault Direction.ToContainer (part s start len)) none) refl
-      where
-        by : (t : Bool) → eqb (spelledFault Direction.ToContainer (part s start len)) none ≡ t
-            → NameFine s (pick t (NameRead.Spelled start len next) (NameRead.Refused (spelledFault Direction.ToContainer (part s start len))))
-        by true e = eqb-true (spelledFault Direction.ToContainer (part s start len)) none e
-        by false e = tt
-
-    go : (t u : Bool)
-        → NameFine s
-        (pick t
-        (pick u (codeNameOf Direction.ToContainer (integerAt s at))
-        (spelledOf Direction.ToContainer s (stringAt s at (isOptional StringField.HeaderName))))
-        (NameRead.Refused cutShort))
-    go true true = coded-fine (integerAt s at)
-    go true false = spelled-fine (stringAt s at (isOptional StringField.HeaderName))
-    go false u = tt
-
--- a header
-header-makes : (s : List ℕ) (at : ℕ) (before : Declared) → HeaderMakes s at before (headerAt Direction.ToContainer s at before)
-unfolding headerAt
-header-makes s at before = go (nameAt Direction.ToContainer s at) refl (name-fine s at)
-  where
-    go : (r : NameRead) → nameAt Direction.ToContainer s at ≡ r → NameFine s r → HeaderMakes s at before (headerOf Direction.ToContainer s before r)
-    go (NameRead.Refused n) e fine = tt
-    go (NameRead.Code code next) e fine =
+    go : (r : NameRead) → nameAt Direction.ToContainer s at ≡ r → NameFine Direction.ToContainer s at r → NameEnds end r
+        → declaringRead Direction.ToContainer r ≡ namesLength (nameShown s at)
+    go (NameRead.Refused n) e fine ends = absurd ends
+    go (NameRead.Code code next) e fine ends =
         let shown : nameShown s at ≡ coded code = rw (code-shown Direction.ToContainer s at code next e) in
-        value-makes s at next before (isContentLength code) (ap namesLength shown ∙ sym (code-names code fine))
-    go (NameRead.Spelled start len next) e fine =
+        code-names code (fine .2) ∙ sym (ap namesLength shown)
+    go (NameRead.Spelled start len next) e fine ends =
         let name = spelled-shown Direction.ToContainer s at start len next e in
         let shown : nameShown s at ≡ spelled (part s start len) = rw (name .0, name .1) in
-        value-makes s at next before false (ap namesLength shown ∙ spelled-names (part s start len) fine)
+        sym (ap namesLength shown ∙ spelled-names (part s start len) (fine .2))
 
 -- what headers make of what was declared before them, by the values of those that are content-length: at most one, and none behind one
 abbrev MakeAll : Declared → Declared → List Text → Type 0
@@ -278,38 +193,21 @@ make-more Declared.Absent middle after (text bytes) true values h later =
     (h .0, h .1, known .0, known .1)
 make-more (Declared.Known n) middle after value true values h later = absurd h
 
--- headers with these places, where none is refused
-abbrev HeadersMake : List ℕ → Declared → List ℕ → HeadersRead → Type 0
-HeadersMake s before places (HeadersRead.Refused n) = Unit
-HeadersMake s before places (HeadersRead.Headers after end) = MakeAll before after (lengthValues (headersShown s places))
+-- headers that were read make all that of what was declared before them
+headers-make : (s : List ℕ) (at : ℕ) (before : Declared) (places : List ℕ) (end : ℕ) (after : Declared)
+    → HeadersHanded Direction.ToContainer s at before places end after → MakeAll before after (lengthValues (headersShown s places))
+headers-make s at Declared.Absent [] end after h = sym (h .1)
+headers-make s at (Declared.Known n) [] end after h = (sym (h .1), refl)
+headers-make s at before (p ∷ []) end after h = absurd h
+headers-make s at before (p ∷ q ∷ rest) end after (next, place, named, there, declared, now, later) =
+    let is : Bool = declaringRead Direction.ToContainer (nameAt Direction.ToContainer s p) in
+    let made : Makes before declared (textShown s q) (namesLength (nameShown s p)) =
+    subst (Makes before declared (textShown s q)) (name-declares s p q named)
+    (declared-makes before (textShown s q) is declared (declares-shown s q next is before declared there now)) in
+    make-more before declared after (textShown s q) (namesLength (nameShown s p)) (lengthValues (headersShown s rest)) made
+    (headers-make s next declared rest end after later)
 
--- with one in front
-header-front : (s : List ℕ) (at value next : ℕ) (before middle : Declared) (places : List ℕ) (r : HeadersRead)
-    → HeaderMakes s at before (HeaderRead.Header value middle next) → HeadersMake s middle places r → HeadersMake s before (at ∷ value ∷ places) r
-header-front s at value next before middle places (HeadersRead.Refused n) h later = tt
-header-front s at value next before middle places (HeadersRead.Headers after end) h later =
-    make-more before middle after (textShown s value) (namesLength (nameShown s at)) (lengthValues (headersShown s places)) h later
-
--- so many from a place on
-headers-make : (s : List ℕ) (at count : ℕ) (before : Declared)
-    → HeadersMake s before (headersAt Direction.ToContainer s at count before .places) (headersAt Direction.ToContainer s at count before .end)
-unfolding headersAt
-headers-make s at zero Declared.Absent = refl
-headers-make s at zero (Declared.Known n) = (refl, refl)
-headers-make s at (suc count) before =
-    go (headerAt Direction.ToContainer s at before) (header-makes s at before) (λ middle next. headers-make s next count middle)
-  where
-    go : (r : HeaderRead) → HeaderMakes s at before r
-        → ((middle : Declared) (next : ℕ)
-        → HeadersMake s middle (headersAt Direction.ToContainer s next count middle .places) (headersAt Direction.ToContainer s next count middle .end))
-        → HeadersMake s before (headerThen at r (λ middle next. headersAt Direction.ToContainer s next count middle) .places)
-        (headerThen at r (λ middle next. headersAt Direction.ToContainer s next count middle) .end)
-    go (HeaderRead.Refused n) h later = tt
-    go (HeaderRead.Header value middle next) h later =
-        header-front s at value next before middle (headersAt Direction.ToContainer s next count middle .places)
-        (headersAt Direction.ToContainer s next count middle .end) h (later middle next)
-
--- from none on they lengthAfter the decimal value of the one
+-- from none on they declare the decimal value of the one
 all-declared : (after : Declared) (values : List Text) → MakeAll Declared.Absent after values → LengthDeclared (declaredLength after) values
 all-declared after [] h = rw h
 all-declared after (null ∷ later) h = absurd h
@@ -319,71 +217,16 @@ all-declared after (text bytes ∷ later) h =
     subst (λ (d : Declared). LengthDeclared (declaredLength d) (text bytes ∷ later)) (sym (h .2))
     (subst (λ (l : List Text). LengthDeclared n (text bytes ∷ l)) (sym (h .3)) value)
 
--- the headers behind a count
-headers-behind : (s : List ℕ) (count : FieldRead)
-    → HeadersMake s Declared.Absent (headersAfter Direction.ToContainer s count .places) (headersAfter Direction.ToContainer s count .end)
-unfolding headersAfter
-headers-behind s (FieldRead.Refused n) = tt
-headers-behind s (FieldRead.Field at count next) = headers-make s next count Declared.Absent
-
--- what a Forward declares, by its lists: what its headers do
-abbrev ListsDeclare : HeadersRead → ListsRead → Type 0
-ListsDeclare headers (ListsRead.Refused n) = Unit
-ListsDeclare headers (ListsRead.Lists declared attributes) =
-    (after : Declared) × (end : ℕ) × (headers ≡ HeadersRead.Headers after end) × (declared .0 ≡ declaredLength after)
-
-lists-declare : (s : List ℕ) (count : FieldRead) → ListsDeclare (headersAfter Direction.ToContainer s count .end) (listsAt s count .end)
-unfolding listsAt attributesBehind
-lists-declare s count = go (headersAfter Direction.ToContainer s count .end)
-  where
-    go : (r : HeadersRead) → ListsDeclare r (behindHeaders s r .end)
-    go (HeadersRead.Refused n) = tt
-    go (HeadersRead.Headers after end) = by (attributesAt s end maxAttributes [] .end)
-      where
-        by : (r : AttributesRead) → ListsDeclare (HeadersRead.Headers after end) (listsOf (length s) after r)
-        by (AttributesRead.Refused n) = tt
-        by (AttributesRead.Attributes many next) = last (eqb next (length s))
-          where
-            last : (t : Bool)
-                → ListsDeclare (HeadersRead.Headers after end)
-                (pick t (ListsRead.Lists (record { 0 = declaredLength after }) many) (ListsRead.Refused leftOver))
-            last true = (after, end, refl, refl)
-            last false = tt
-
--- a Forward by its fields: what it declares, and how many headers it has
-forward-by : (method protocol uri addr host name port ssl count : FieldRead) (headers : HeadersRead) (r : ListsRead) (f : Forward)
-    → ListsDeclare headers r → forwardOf method protocol uri addr host name port ssl count r ≡ PacketRead.Packet (Packet.Forward f)
-    → (after : Declared) × (end : ℕ) × (headers ≡ HeadersRead.Headers after end) × (f .declared .0 ≡ declaredLength after) × (f .headers ≡ fieldNumber count)
-forward-by method protocol uri addr host name port ssl count headers (ListsRead.Refused n) f h e =
-    let z : _≡_ {A = ℕ} 0 1 = cc in absurd (omega arith)
-forward-by method protocol uri addr host name port ssl count headers (ListsRead.Lists declared attributes) f h e =
-    let same : f .declared ≡ declared = cc in
-    let many : f .headers ≡ fieldNumber count = cc in
-    (h .0, h .1, h .2, ap (λ (left : BodyLeft). left .0) same ∙ h .3, many)
-
 -- a Forward declares what the headers at its places in the table do
 forward-declares : (s table : List ℕ) (f : Forward) → forwardAt s .end ≡ PacketRead.Packet (Packet.Forward f)
     → (let p = Packet.Forward f in LengthDeclared (f .declared .0) (lengthValues (headersShown s (headerPlaces p (tableOf p s table)))))
-unfolding forwardAt listsAt
 forward-declares s table f e =
-    let method = byteAfter s firstMethod lastMethod outOfRange afterCode in
-    let protocol = stringAfter s StringField.Protocol method in
-    let uri = stringAfter s StringField.ReqUri protocol in
-    let addr = stringAfter s StringField.RemoteAddr uri in
-    let host = stringAfter s StringField.RemoteHost addr in
-    let name = stringAfter s StringField.ServerName host in
-    let port = anyIntegerAfter s name in
-    let ssl = booleanAfter s port in
-    let count = integerAfter s 0 maxHeaders tooMany ssl in
-    let headers = headersAfter Direction.ToContainer s count in
-    let by = forward-by method protocol uri addr host name port ssl count (headers .end) (listsAt s count .end) f (lists-declare s count) e in
-    let many = headers-places Direction.ToContainer s count (HeadersRead.Headers (by .0) (by .1)) (by .2) in
-    let places : headerPlaces (Packet.Forward f) (tableOf (Packet.Forward f) s table) ≡ headers .places =
-    header-places (Packet.Forward f) s table (headers .places) (behindHeaders s (headers .end) .places) refl (omega (arith, many, by .4)) in
-    let make : MakeAll Declared.Absent (by .0) (lengthValues (headersShown s (headers .places))) =
-    subst (HeadersMake s Declared.Absent (headers .places)) (by .2) (headers-behind s count) in
-    subst (λ (l : List ℕ). LengthDeclared (f .declared .0) (lengthValues (headersShown s l))) (sym places)
-    (subst (λ (n : ℕ). LengthDeclared n (lengthValues (headersShown s (headers .places)))) (sym (by .3)) (all-declared (by .0) (lengthValues (headersShown s (headers .places))) make))
+    let handed = forward-handed s f e in
+    let lists = handed .lists in
+    let shown : List Text = lengthValues (headersShown s (lists .of-headers)) in
+    let made = headers-make s (handed .lists-place) Declared.Absent (lists .of-headers) (lists .middle) (lists .of-length) (lists .headers-there) in
+    subst (λ (l : List ℕ). LengthDeclared (f .declared .0) (lengthValues (headersShown s l))) (sym (forward-table s table f e .0))
+    (subst (λ (n : ℕ). LengthDeclared n shown) (sym (lists .declared-is)) (all-declared (lists .of-length) shown made))
 
 -- a packet declares what the message that it shows does
 packet-declares : (p : Packet) (s table : List ℕ) → packetAt (contextFor (packetKind p)) (packetKind p) s .end ≡ PacketRead.Packet p

@@ -1,49 +1,49 @@
--- What was read stands as it would be written: the bytes of a string, a header or an attribute that was read are those of what the views show
--- of it, and building finds no fault in that, since it asks for nothing that reading did not ask for.
+-- What was read stands as it would be written: the bytes of a field, a header or an attribute that was handed out (`payload`'s definition
+-- `Handed`) are those of what the views show of it, and building finds no fault in that, since it asks for nothing that reading did not ask for.
 -- Assumes nothing.
 use native.Mathlib.Omega.{arith}
-use borrow.Author.Tests.{leb-true, eqb-true}
+use borrow.Author.Tests.{leb-true}
 use mathlib.Core.Path.{_≡_, refl, sym, ap, subst, _∙_}
 use mathlib.Core.Bool.{Bool, true, false, false≢true}
 use mathlib.Core.List.{List, [], _∷_, _++_, append-assoc}
-use Prim.Native.Nat.{ℕ, zero, suc, _+_, _-_, _≤_, _<_}
-use lib.Dec.{leb, eqb}
-use lib.ListN.{length, getD}
+use Prim.Native.Nat.{ℕ, _+_, _-_, _≤_, _<_}
+use lib.Dec.{leb}
+use lib.ListN.{length, getD, drop}
 use Rattle.wire.specs.Pick.{pick}
 use Rattle.wire.specs.Refusal.{none, cutShort}
 use Rattle.wire.specs.Bytes.{part, integerIn, integerBytes}
-use Rattle.wire.specs.Field.{integerAt, stringAt, isOptional, stringAllowed}
+use Rattle.wire.specs.Field.{numberAt, byteAt, integerAt, booleanAt, booleanBytes, stringAt, isOptional, stringAllowed}
 use Rattle.packet.specs.declared.Direction.{Direction}
 use Rattle.wire.specs.declared.StringField.{StringField}
 use Rattle.wire.specs.declared.read.NumberRead.{NumberRead}
+use Rattle.wire.specs.declared.read.BooleanRead.{BooleanRead}
 use Rattle.wire.specs.declared.read.StringRead.{StringRead}
 use Rattle.wire.proofs.Bytes.{part-none, part-one}
-use Rattle.wire.proofs.Field.{text-read, null-read}
+use Rattle.wire.proofs.Field.{boolean-inside, text-read, null-read}
 use Rattle.wire.specs.Facts.{TextRead, NullRead, Bytes}
-use Rattle.wire.proofs.RoundTrip.{integer-kept, text-kept, null-kept}
-use Rattle.wire.proofs.Parts.{part-join}
-use Rattle.names.specs.Header.{beginsCode, codeFault, spelledFault}
+use Rattle.wire.proofs.RoundTrip.{integer-kept, boolean-kept, text-kept, null-kept}
+use Rattle.wire.proofs.Parts.{rest-part, part-join}
+use Rattle.names.specs.Header.{codeFault, spelledFault}
 use Rattle.names.specs.Attribute.{attributeKind}
 use Rattle.packet.specs.declared.AttributeKind.{AttributeKind}
 use Rattle.headers.specs.declared.length.Declared.{Declared}
 use Rattle.headers.specs.declared.length.LengthRead.{LengthRead}
-use Rattle.headers.specs.Headers.{codeNameOf, spelledAt, spelledOf, nameAt, declares, declaredAfter, headerValued, headerValueOf, headerValueAt, headerOf, headerAt, headerThen, headersAt}
+use Rattle.headers.specs.Headers.{nameAt, declares, declaredAfter}
 use Rattle.headers.specs.declared.NameRead.{NameRead}
-use Rattle.headers.specs.declared.HeaderRead.{HeaderRead}
-use Rattle.headers.specs.declared.HeadersRead.{HeadersRead}
 use Rattle.attributes.specs.Attributes.{lastMark}
-use Rattle.payload.specs.Handed.{StringEnds, NumberEnds, StringThere, ValueThere, AttributesHanded}
+use Rattle.payload.specs.Handed.{StringEnds, NumberEnds, NameEnds, StringThere, readNull, readBytes, DeclaresThen, HeadersHanded, ValueThere, AttributesHanded}
+use Rattle.payload.proofs.Handed.{NameFine, name-fine}
 use Rattle.building.specs.Fault.{orElse, stringFault, faultAfter}
 use Rattle.building.specs.Field.{Field, plain, stringField, faultsOf, fieldsBytes}
 use Rattle.pieces.specs.Header.{codedName, spelledName, lengthFault, valueFault, headerValue}
 use Rattle.pieces.specs.Attribute.{isText, isInteger, isPair, codeField}
 use Rattle.views.specs.View.{integerView, textView}
 use Rattle.reading_laws.proofs.Shown.{integer-shown, text-shown, code-shown, spelled-shown}
-use Rattle.messages.specs.Message.{Text, null, text, MessageName, coded, spelled, isNull, contentOf, NameFits, HeadersFit, ValueFits, AttributesFit}
+use Rattle.messages.specs.Message.{Text, MessageName, isNull, contentOf, NameFits, HeadersFit, ValueFits, AttributesFit}
 use Rattle.messages.specs.Bytes.{fieldsBy, headersBytes, valueFields, attributesBytes}
 use Rattle.messages.specs.Shown.{textShown, nameBy, nameShown, headersShown, valueBy, attributesShown}
 use Rattle.messages.proofs.Fine.{FieldsFine, HeadersFine, AttributesFine}
-use Rattle.messages.proofs.Texts.{textField, null-told, text-told}
+use Rattle.messages.proofs.Texts.{textField, null-told, text-told, declares-shown}
 
 -- a packet has these bytes from a place to another
 pub record Held (s : List ℕ) (at end : ℕ) (bytes : List ℕ) : Type 0 where
@@ -62,11 +62,11 @@ held-byte s at h =
     let one : at + 1 - at ≡ 1 = omega arith in
     record { forth = omega arith; inside = h; are = ap (part s at) one ∙ part-one s at (omega arith) }
 
--- an integer
-held-integer : (s : List ℕ) (at : ℕ) → Bytes s → at + 2 ≤ length s → Held s at (at + 2) (integerBytes (integerIn s at))
-held-integer s at bytes h =
-    let two : at + 2 - at ≡ 2 = omega arith in
-    record { forth = omega arith; inside = h; are = ap (part s at) two ∙ integer-kept s at bytes h }
+-- so many bytes
+pub held-part : (s : List ℕ) (at len : ℕ) → at + len ≤ length s → Held s at (at + len) (part s at len)
+held-part s at len h =
+    let many : at + len - at ≡ len = omega arith in
+    record { forth = omega arith; inside = h; are = ap (part s at) many }
 
 -- bytes, and others where they end
 pub held-join : {s : List ℕ} {at middle end : ℕ} {a b : List ℕ} → Held s at middle a → Held s middle end b → Held s at end (a ++ b)
@@ -154,70 +154,67 @@ string-kept s at field end bytes h = go (stringAt s at (isOptional field)) refl 
         subst (λ (t : Text). FieldKept s at end (textField field t)) (sym (text-told s at (isOptional field) start len next e))
         (subst (λ (i : ℕ). FieldKept s at i (stringField field false (textView s at))) q (text-held s at field start len next bytes e))
 
+-- a number that was read: its value is the one that stands there, in so many bytes
+number-is : (width there : ℕ) (s : List ℕ) (at value next : ℕ) → numberAt width there s at ≡ NumberRead.Number value next
+    → (there ≡ value) × (at + width ≡ next) × (at + width ≤ length s)
+number-is width there s at value next = go (leb (at + width) (length s)) refl
+  where
+    go : (t : Bool) → leb (at + width) (length s) ≡ t
+        → pick t (NumberRead.Number there (at + width)) (NumberRead.Refused cutShort) ≡ NumberRead.Number value next
+        → (there ≡ value) × (at + width ≡ next) × (at + width ≤ length s)
+    go true h e =
+        let same : there ≡ value = cc in
+        let ends : at + width ≡ next = cc in
+        (same, ends, leb-true (at + width) (length s) h)
+    go false h e = absurd (let z : _≡_ {A = ℕ} 0 1 = cc in omega arith)
+
+-- a byte that was read
+pub byte-held : (s : List ℕ) (at value next : ℕ) → byteAt s at ≡ NumberRead.Number value next → Held s at next (value ∷ [])
+unfolding byteAt
+byte-held s at value next e =
+    let n = number-is 1 (getD s at 0) s at value next e in
+    rw (← n .0, ← n .1) (held-byte s at (n .2))
+
 -- a number from two bytes fits them
 integer-fits : (s : List ℕ) (at : ℕ) → Bytes s → integerIn s at < 65536
 unfolding integerIn
 integer-fits s at bytes = omega (arith, bytes at, bytes (at + 1))
 
--- an integer that was read, by where it ends: it has two bytes, and they are its bytes
-abbrev pub NumberKept : List ℕ → ℕ → NumberRead → Type 0
-NumberKept s at (NumberRead.Refused n) = Unit
-NumberKept s at (NumberRead.Number value next) = Held s at next (integerBytes value) × (value < 65536)
-
--- that is so of each that is read
-pub number-kept : (s : List ℕ) (at : ℕ) (r : NumberRead) → Bytes s → integerAt s at ≡ r → NumberKept s at r
+-- an integer that was read, and it fits its bytes
+pub integer-held : (s : List ℕ) (at value next : ℕ) → Bytes s → integerAt s at ≡ NumberRead.Number value next
+    → Held s at next (integerBytes value) × (value < 65536)
 unfolding integerAt
-number-kept s at r bytes e = subst (NumberKept s at) e (go (leb (at + 2) (length s)) refl)
-  where
-    go : (t : Bool) → leb (at + 2) (length s) ≡ t
-        → NumberKept s at (pick t (NumberRead.Number (integerIn s at) (at + 2)) (NumberRead.Refused cutShort))
-    go true h = (held-integer s at bytes (leb-true (at + 2) (length s) h), integer-fits s at bytes)
-    go false h = tt
+integer-held s at value next bytes e =
+    let n = number-is 2 (integerIn s at) s at value next e in
+    let two : at + 2 - at ≡ 2 = omega arith in
+    let held : Held s at (at + 2) (integerBytes (integerIn s at)) =
+    record { forth = omega arith; inside = n .2; are = ap (part s at) two ∙ integer-kept s at bytes (n .2) } in
+    rw (← n .0, ← n .1) (held, integer-fits s at bytes)
 
--- a name that was read, by where it ends and how it is shown
-abbrev NameKept : Direction → List ℕ → ℕ → NameRead → Type 0
-NameKept d s at (NameRead.Refused n) = Unit
-NameKept d s at (NameRead.Code code next) = FieldKept s at next (codedName d code) × (code < 65536)
-NameKept d s at (NameRead.Spelled start len next) = FieldKept s at next (spelledName d false (textView s at))
+-- a boolean that was read
+pub boolean-held : (s : List ℕ) (at : ℕ) (value : Bool) (next : ℕ) → booleanAt s at ≡ BooleanRead.Boolean value next
+    → Held s at next (booleanBytes value)
+boolean-held s at value next e =
+    let i = boolean-inside s at (BooleanRead.Boolean value next) e in
+    let one : next - at ≡ 1 = omega (arith, i .0) in
+    record { forth = omega (arith, i .0); inside = i .1; are = ap (part s at) one ∙ boolean-kept s at value next e }
 
--- a name that begins as a code
-coded-kept : (d : Direction) (s : List ℕ) (at : ℕ) (r : NumberRead) → NumberKept s at r → NameKept d s at (codeNameOf d r)
-unfolding codeNameOf
-coded-kept d s at (NumberRead.Refused n) k = tt
-coded-kept d s at (NumberRead.Number code next) k = go (eqb (codeFault d code) none) refl
-  where
-    go : (t : Bool) → eqb (codeFault d code) none ≡ t → NameKept d s at (pick t (NameRead.Code code next) (NameRead.Refused (codeFault d code)))
-    go true e = (record { held = k .0; fine = eqb-true (codeFault d code) none e }, k .1)
-    go false e = tt
+-- a name that was read as a code, without fault
+coded-held : (d : Direction) (s : List ℕ) (at code next : ℕ) → Bytes s → integerAt s at ≡ NumberRead.Number code next → codeFault d code ≡ none
+    → FieldKept s at next (codedName d code) × (code < 65536)
+coded-held d s at code next bytes e fine =
+    let k = integer-held s at code next bytes e in
+    (record { held = k .0; fine = fine }, k .1)
 
--- a name that begins as a string
-spelled-kept : (d : Direction) (s : List ℕ) (at : ℕ) (r : StringRead) → Bytes s → stringAt s at (isOptional StringField.HeaderName) ≡ r
-    → NameKept d s at (spelledOf d s r)
-unfolding spelledAt
-spelled-kept d s at (StringRead.Refused n) bytes e = tt
-spelled-kept d s at (StringRead.Null next) bytes e = tt
-spelled-kept d s at (StringRead.Text start len next) bytes e = go (eqb (spelledFault d (part s start len)) none) refl
-  where
-    go : (t : Bool) → eqb (spelledFault d (part s start len)) none ≡ t
-        → NameKept d s at (pick t (NameRead.Spelled start len next) (NameRead.Refused (spelledFault d (part s start len))))
-    go true q =
-        let k = text-held s at StringField.HeaderName start len next bytes e in
-        let shown : textView s at ≡ part s start len = text-shown s at (isOptional StringField.HeaderName) start len next e .1 in
-        let listed : spelledFault d (textView s at) ≡ 0 = ap (spelledFault d) shown ∙ eqb-true (spelledFault d (part s start len)) none q in
-        record { held = k .held; fine = ap (λ (f : ℕ). orElse f (spelledFault d (textView s at))) (k .fine) ∙ listed }
-    go false q = tt
-
--- a name
-name-kept : (d : Direction) (s : List ℕ) (at : ℕ) → Bytes s → NameKept d s at (nameAt d s at)
-unfolding nameAt
-name-kept d s at bytes = go (leb (at + 2) (length s)) (beginsCode (getD s at 0))
-  where
-    go : (t u : Bool)
-        → NameKept d s at
-        (pick t (pick u (codeNameOf d (integerAt s at)) (spelledOf d s (stringAt s at (isOptional StringField.HeaderName)))) (NameRead.Refused cutShort))
-    go true true = coded-kept d s at (integerAt s at) (number-kept s at (integerAt s at) bytes refl)
-    go true false = spelled-kept d s at (stringAt s at (isOptional StringField.HeaderName)) bytes refl
-    go false u = tt
+-- a name that was read as a string, without fault
+spelled-held : (d : Direction) (s : List ℕ) (at start len next : ℕ) → Bytes s
+    → stringAt s at (isOptional StringField.HeaderName) ≡ StringRead.Text start len next → spelledFault d (part s start len) ≡ none
+    → FieldKept s at next (spelledName d false (textView s at))
+spelled-held d s at start len next bytes e fine =
+    let k = text-held s at StringField.HeaderName start len next bytes e in
+    let shown : textView s at ≡ part s start len = text-shown s at (isOptional StringField.HeaderName) start len next e .1 in
+    let listed : spelledFault d (textView s at) ≡ 0 = ap (spelledFault d) shown ∙ fine in
+    record { held = k .held; fine = ap (λ (f : ℕ). orElse f (spelledFault d (textView s at))) (k .fine) ∙ listed }
 
 -- a value that may come behind others may come first: it declares nothing, or nothing was declared before it
 declares-first : (isLength : Bool) (before : Declared) (t : Text) (declared : Declared)
@@ -241,123 +238,64 @@ value-fine s at end isLength t k first = record {
   fine = ap (λ (f : ℕ). orElse f (lengthFault (declaredAfter isLength Declared.Absent (isNull t) (contentOf t)))) (k .fine) ∙ first;
 }
 
--- a value that was read, by where it ends
-abbrev ValueKept : List ℕ → ℕ → Bool → HeaderRead → Type 0
-ValueKept s at isLength (HeaderRead.Refused n) = Unit
-ValueKept s at isLength (HeaderRead.Header value declared next) = (value ≡ at) × FieldKept s at next (valueField isLength (textShown s at))
-
--- that is so of each that is read
-value-kept : (s : List ℕ) (at : ℕ) (isLength : Bool) (before : Declared) → Bytes s → ValueKept s at isLength (headerValueAt s at isLength before)
-unfolding headerValueAt
-value-kept s at isLength before bytes = go (stringAt s at (isOptional StringField.HeaderValue)) refl
-  where
-    by : (next : ℕ) (t : Text) → textShown s at ≡ t → StringThere s StringField.HeaderValue at next
-        → (r : LengthRead) → declaredAfter isLength before (isNull t) (contentOf t) ≡ r → ValueKept s at isLength (headerValued at next r)
-    by next t shown h (LengthRead.Refused n) e = tt
-    by next t shown h (LengthRead.Now declared) e = (
-      refl,
-      value-fine s at next isLength (textShown s at) (string-kept s at StringField.HeaderValue next bytes h)
-          (subst (λ (u : Text). lengthFault (declaredAfter isLength Declared.Absent (isNull u) (contentOf u)) ≡ 0) (sym shown)
-          (declares-first isLength before t declared e)),
-    )
-
-    go : (r : StringRead) → stringAt s at (isOptional StringField.HeaderValue) ≡ r → ValueKept s at isLength (headerValueOf s at isLength before r)
-    go (StringRead.Refused n) e = tt
-    go (StringRead.Null next) e =
-        by next null (null-told s at (isOptional StringField.HeaderValue) next e) (subst (StringEnds next) (sym e) refl)
-        (declaredAfter isLength before true []) refl
-    go (StringRead.Text start len next) e =
-        by next (text (part s start len))
-        (text-told s at (isOptional StringField.HeaderValue) start len next e
-        ∙ ap text (text-shown s at (isOptional StringField.HeaderValue) start len next e .1))
-        (subst (StringEnds next) (sym e) refl)
-        (declaredAfter isLength before false (part s start len)) refl
-
 -- a header with this name, and its value at a place
 abbrev NamedKept : Direction → List ℕ → ℕ → ℕ → ℕ → MessageName → Type 0
 NamedKept d s at value end name = FieldsKept s at end (fieldsBy d (textShown s value) name) × NameFits name
 
 -- a header that was read, by where its value is and where it ends
-abbrev HeaderKept : Direction → List ℕ → ℕ → HeaderRead → Type 0
-HeaderKept d s at (HeaderRead.Refused n) = Unit
-HeaderKept d s at (HeaderRead.Header value declared next) = NamedKept d s at value next (nameShown s at)
-
--- a name and the value behind it
-named-kept : (d : Direction) (s : List ℕ) (at middle : ℕ) (name : MessageName) (isLength : Bool) → nameShown s at ≡ name
-    → ((end : ℕ) → FieldKept s middle end (valueField isLength (textShown s middle)) → NamedKept d s at middle end name)
-    → (r : HeaderRead) → ValueKept s middle isLength r → HeaderKept d s at r
-named-kept d s at middle name isLength shown so (HeaderRead.Refused n) k = tt
-named-kept d s at middle name isLength shown so (HeaderRead.Header value declared next) k =
-    subst (NamedKept d s at value next) (sym shown)
-    (subst (λ (i : ℕ). NamedKept d s at i next name) (sym (k .0)) (so next (k .1)))
-
--- that is so of each that is read
-header-kept : (d : Direction) (s : List ℕ) (at : ℕ) (before : Declared) → Bytes s → HeaderKept d s at (headerAt d s at before)
-unfolding headerAt
-header-kept d s at before bytes = go (nameAt d s at) refl (name-kept d s at bytes)
+header-kept : (d : Direction) (s : List ℕ) (at value end : ℕ) (before after : Declared) → Bytes s → NameEnds value (nameAt d s at)
+    → StringThere s StringField.HeaderValue value end
+    → DeclaresThen d s before (nameAt d s at) (stringAt s value (isOptional StringField.HeaderValue)) after
+    → NamedKept d s at value end (nameShown s at)
+header-kept d s at value end before after bytes named there = go (nameAt d s at) refl (name-fine d s at) named
   where
-    go : (r : NameRead) → nameAt d s at ≡ r → NameKept d s at r → HeaderKept d s at (headerOf d s before r)
-    go (NameRead.Refused n) e k = tt
-    go (NameRead.Code code next) e k =
-        named-kept d s at next (coded code) (declares d code) (ap (nameBy s at) (code-shown d s at code next e))
-        (λ end v. (fields-front (k .0) (fields-last v), k .1))
-        (headerValueAt s next (declares d code) before) (value-kept s next (declares d code) before bytes)
-    go (NameRead.Spelled start len next) e k =
-        named-kept d s at next (spelled (textView s at)) false (ap (nameBy s at) (spelled-shown d s at start len next e .0))
-        (λ end v. (fields-front k (fields-last v), tt))
-        (headerValueAt s next false before) (value-kept s next false before bytes)
+    valued : (isLength : Bool)
+        → (let r = stringAt s value (isOptional StringField.HeaderValue) in
+        declaredAfter isLength before (readNull r) (readBytes s r) ≡ LengthRead.Now after)
+        → FieldKept s value end (valueField isLength (textShown s value))
+    valued isLength h =
+        value-fine s value end isLength (textShown s value) (string-kept s value StringField.HeaderValue end bytes there)
+        (declares-first isLength before (textShown s value) after (declares-shown s value end isLength before after there h))
 
--- headers stand as they would be written: from a place to another, with these places for their names and values, two for each of so many
-pub record HeadersKept (d : Direction) (s : List ℕ) (at count : ℕ) (places : List ℕ) (end : ℕ) : Type 0 where
+    go : (r : NameRead) → nameAt d s at ≡ r → NameFine d s at r → NameEnds value r
+        → DeclaresThen d s before r (stringAt s value (isOptional StringField.HeaderValue)) after → NamedKept d s at value end (nameShown s at)
+    go (NameRead.Refused n) e fine ends h = absurd ends
+    go (NameRead.Code code next) e fine ends h =
+        let k = coded-held d s at code next bytes (fine .1) (fine .2) in
+        let name : FieldKept s at value (codedName d code) = subst (λ (i : ℕ). FieldKept s at i (codedName d code)) ends (k .0) in
+        subst (NamedKept d s at value end) (sym (ap (nameBy s at) (code-shown d s at code next e)))
+        (fields-front name (fields-last (valued (declares d code) h)), k .1)
+    go (NameRead.Spelled start len next) e fine ends h =
+        let k = spelled-held d s at start len next bytes (fine .1) (fine .2) in
+        let name : FieldKept s at value (spelledName d false (textView s at)) =
+        subst (λ (i : ℕ). FieldKept s at i (spelledName d false (textView s at))) ends k in
+        subst (NamedKept d s at value end) (sym (ap (nameBy s at) (spelled-shown d s at start len next e .0)))
+        (fields-front name (fields-last (valued false h)), tt)
+
+-- headers stand as they would be written: from a place to another, with these places for their names and values
+pub record HeadersKept (d : Direction) (s : List ℕ) (at : ℕ) (places : List ℕ) (end : ℕ) : Type 0 where
   pub held : Held s at end (headersBytes d (headersShown s places))
   pub fine : HeadersFine d (headersShown s places)
   pub fit : HeadersFit (headersShown s places)
-  pub placed : length places ≡ count + count
 
--- headers with these places, where none is refused
-abbrev HeadersTo : Direction → List ℕ → ℕ → ℕ → List ℕ → HeadersRead → Type 0
-HeadersTo d s at count places (HeadersRead.Refused n) = Unit
-HeadersTo d s at count places (HeadersRead.Headers declared end) = HeadersKept d s at count places end
-
--- a header in front of others
-header-front : (d : Direction) (s : List ℕ) (at value next count : ℕ) (places : List ℕ) (r : HeadersRead) → NamedKept d s at value next (nameShown s at)
-    → HeadersTo d s next count places r → HeadersTo d s at (suc count) (at ∷ value ∷ places) r
-header-front d s at value next count places (HeadersRead.Refused n) k later = tt
-header-front d s at value next count places (HeadersRead.Headers after end) k later = record {
-  held = held-join (k .0 .held) (later .held);
-  fine = (k .0 .fine, later .fine);
-  fit = (k .1, later .fit);
-  placed = omega (arith, later .placed);
-}
-
--- so many headers from a place on
-headers-to : (d : Direction) (s : List ℕ) (at count : ℕ) (declared : Declared) → Bytes s → at ≤ length s
-    → HeadersTo d s at count (headersAt d s at count declared .places) (headersAt d s at count declared .end)
-unfolding headersAt
-headers-to d s at zero declared bytes h = record {
-  held = held-none s at h;
+-- headers that were read from a place to another
+pub headers-kept : (d : Direction) (s : List ℕ) (at : ℕ) (before : Declared) (places : List ℕ) (end : ℕ) (after : Declared) → Bytes s
+    → end ≤ length s → HeadersHanded d s at before places end after → HeadersKept d s at places end
+headers-kept d s at before [] end after bytes inside h = record {
+  held = subst (λ (i : ℕ). Held s i end []) (sym (h .0)) (held-none s end inside);
   fine = tt;
   fit = tt;
-  placed = refl;
 }
-headers-to d s at (suc count) declared bytes h =
-    go (headerAt d s at declared) (header-kept d s at declared bytes) (λ after next k. headers-to d s next count after bytes k)
-  where
-    go : (r : HeaderRead) → HeaderKept d s at r
-        → ((after : Declared) (next : ℕ) → next ≤ length s → HeadersTo d s next count (headersAt d s next count after .places) (headersAt d s next count after .end))
-        → HeadersTo d s at (suc count) (headerThen at r (λ after next. headersAt d s next count after) .places)
-        (headerThen at r (λ after next. headersAt d s next count after) .end)
-    go (HeaderRead.Refused n) k later = tt
-    go (HeaderRead.Header value after next) k later =
-        header-front d s at value next count (headersAt d s next count after .places) (headersAt d s next count after .end) k
-        (later after next (k .0 .held .inside))
-
--- headers that were read from a place on
-pub headers-kept : (d : Direction) (s : List ℕ) (at count : ℕ) (declared after : Declared) (end : ℕ) → Bytes s → at ≤ length s
-    → headersAt d s at count declared .end ≡ HeadersRead.Headers after end
-    → HeadersKept d s at count (headersAt d s at count declared .places) end
-headers-kept d s at count declared after end bytes h e =
-    subst (HeadersTo d s at count (headersAt d s at count declared .places)) e (headers-to d s at count declared bytes h)
+headers-kept d s at before (p ∷ []) end after bytes inside h = absurd h
+headers-kept d s at before (p ∷ q ∷ rest) end after bytes inside (next, place, named, there, declared, now, later) =
+    let k = header-kept d s p q next before declared bytes named there now in
+    let l = headers-kept d s next declared rest end after bytes inside later in
+    subst (λ (i : ℕ). HeadersKept d s i (p ∷ q ∷ rest) end) place
+    (record {
+      held = held-join (k .0 .held) (l .held);
+      fine = (k .0 .fine, l .fine);
+      fit = (k .1, l .fit);
+    })
 
 -- what is behind a code, by the kind of value that it has
 abbrev CodedKept : List ℕ → ℕ → ℕ → ℕ → AttributeKind → Type 0
@@ -391,7 +329,7 @@ integer-there s at end bytes h = go (integerAt s at) refl h
         → FieldKept s at end (plain (integerBytes (integerView s at))) × (integerView s at < 65536)
     go (NumberRead.Refused n) e q = absurd q
     go (NumberRead.Number value next) e q =
-        let k = number-kept s at (NumberRead.Number value next) bytes e in
+        let k = integer-held s at value next bytes e in
         subst (λ (n : ℕ). FieldKept s at end (plain (integerBytes n)) × (n < 65536)) (sym (integer-shown s at value next e))
         (record { held = subst (λ (i : ℕ). Held s at i (integerBytes value)) q (k .0); fine = refl }, k .1)
 
@@ -442,3 +380,7 @@ attributes-kept s at (p ∷ q ∷ rest) end bytes inside (next, place, there, la
       fine = (k .0 .fine, l .fine);
       fit = (omega (arith, bytes p), k .1, l .fit);
     })
+
+-- what is held up to the end is what stands there
+pub held-rest : (s : List ℕ) (at : ℕ) (bytes : List ℕ) → Held s at (length s) bytes → drop at s ≡ bytes
+held-rest s at bytes h = rest-part s at (length s - at) (omega (arith, h .forth)) ∙ h .are

@@ -24,6 +24,7 @@ use Rattle.packet.specs.declared.AttributeKind.{AttributeKind}
 use Rattle.connection.specs.Connection.{maxPacket}
 use Rattle.headers.specs.Headers.{declares, nameAt}
 use Rattle.headers.specs.declared.NameRead.{NameRead}
+use Rattle.headers.specs.declared.length.Declared.{Declared}
 use Rattle.attributes.specs.Attributes.{lastMark}
 use Rattle.payload.specs.Handed.{StringThere, NameEnds, HeadersHanded, ValueThere, AttributesHanded}
 use Rattle.building.specs.Fault.{unless, stringFault}
@@ -186,16 +187,16 @@ module _ {s : List ℕ} (short : length s ≤ maxPacket) where
   -- headers are shown as they were written, where as many were read, and where they end stand the bytes behind them
   pub headers-show : {at : ℕ} (rest : List ℕ) (d : Direction) (headers : List Header) → HeadersFine d headers
       → Ahead s at (headersBytes d headers ++ rest) → (places : List ℕ) → length places ≡ length headers + length headers → (next : ℕ)
-      → HeadersHanded d s at places next → (headersShown s places ≡ headers) × Ahead s next rest
-  headers-show rest d [] fine r [] many next handed = (refl, rw handed at r)
-  headers-show rest d [] fine r (p ∷ places) many next handed = absurd (omega arith)
-  headers-show rest d (header ∷ later) fine r [] many next handed = absurd (omega arith)
-  headers-show rest d (header ∷ later) fine r (p ∷ []) many next handed = absurd handed
-  headers-show {at} rest d (header ∷ later) fine r (p ∷ q ∷ places) many next handed =
+      → (before after : Declared) → HeadersHanded d s at before places next after → (headersShown s places ≡ headers) × Ahead s next rest
+  headers-show rest d [] fine r [] many next before after handed = (refl, rw (handed .0) at r)
+  headers-show rest d [] fine r (p ∷ places) many next before after handed = absurd (omega arith)
+  headers-show rest d (header ∷ later) fine r [] many next before after handed = absurd (omega arith)
+  headers-show rest d (header ∷ later) fine r (p ∷ []) many next before after handed = absurd handed
+  headers-show {at} rest d (header ∷ later) fine r (p ∷ q ∷ places) many next before after handed =
       let here : Ahead s p (fieldsBytes (headerFields d header) ++ (headersBytes d later ++ rest)) =
       rw (handed .1) (simp append-assoc at r) in
       let first = header-by (headersBytes d later ++ rest) d (header .value) (header .name) (fine .0) here q (handed .0) (handed .2) (handed .3) in
-      let others = headers-show rest d later (fine .1) (first .2) places (omega arith) next (handed .4) in
+      let others = headers-show rest d later (fine .1) (first .2) places (omega arith) next (handed .4) after (handed .6) in
       (rw (first .0, first .1, others .0), others .1)
 
   -- an attribute's value behind its code: it is shown as it was written, and where it ends stand the bytes behind it

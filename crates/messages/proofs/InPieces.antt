@@ -21,7 +21,6 @@ use Rattle.payload.specs.Code.{codeOf, kindAt}
 use Rattle.payload.specs.Kinds.{packetKind, packetMove}
 use Rattle.payload.specs.declared.Context.{Context}
 use Rattle.payload.specs.declared.KindRead.{KindRead}
-use Rattle.payload.proofs.Handed.{forward-handed}
 use Rattle.packet.specs.declared.Part.{Part}
 use Rattle.packet.specs.declared.Forward.{Forward}
 use Rattle.packet.specs.declared.SendHeaders.{SendHeaders}
@@ -37,9 +36,9 @@ use Rattle.messages.specs.Message.{Request, Response, Message, forward, 
 use Rattle.messages.specs.Bytes.{payloadOf, messageBytes}
 use Rattle.messages.specs.Writing.{writing}
 use Rattle.messages.specs.RoundTrips.{WrittenBack}
-use Rattle.messages.specs.Shown.{headerPlaces, attributePlaces, messageShown}
+use Rattle.messages.specs.Shown.{messageShown}
 use Rattle.messages.proofs.Parses.{isBody, contextFor, Parses, packet-context, none-due, parses-alone, parses-most, parses-places, accepted-parses, all-parses, kind-written}
-use Rattle.messages.proofs.Tables.{tableOf, forward-table, send-headers-table}
+use Rattle.messages.proofs.Tables.{forward-table, send-headers-table}
 use Rattle.messages.proofs.RoundTrip.{Forth, Back, own-way, Shows, Stands, stands-back}
 use Rattle.messages.proofs.PiecesWritten.{PiecesWritten, Writes, forward-written, forward-writes, send-headers-written, send-headers-writes}
 use Rattle.messages.proofs.PiecesShown.{forward-shown, send-headers-shown}
@@ -163,13 +162,10 @@ forward-back f d c s table bytes r a room buffer fits =
     own-way
     (λ q.
     let places = forward-table s table f (q .fields-are) in
-    let lists = forward-handed s f (q .fields-are) .lists in
-    let kept =
-    forward-kept s f (headerPlaces (Packet.Forward f) (tableOf (Packet.Forward f) s table))
-    (attributePlaces (Packet.Forward f) (tableOf (Packet.Forward f) s table)) bytes q
-    (rw (places .0, places .1) (lists .are)) (rw (places .0) (lists .headers-many)) in
-    kept-back BuildingKind.Forward q a (both-first (inState c Kind.Forward) true a) fits (kept .2)
-    (rw (kept .1) (forward-writes c (kept .0) buffer)))
+    let kept = forward-kept s f bytes q in
+    rw (places .0, places .1)
+    (kept-back BuildingKind.Forward q a (both-first (inState c Kind.Forward) true a) fits (kept .2)
+    (rw (kept .1) (forward-writes c (kept .0) buffer))))
     r
 
 -- and so is a Send Headers

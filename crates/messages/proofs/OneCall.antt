@@ -3,12 +3,12 @@
 -- the bytes that are written for the message that it shows.
 -- Assumes nothing.
 use native.Mathlib.Omega.{arith}
-use borrow.Author.Tests.{le-ltb, ltb-false, eq-eqb, ne-eqb, eqb-true, eqb-false}
+use borrow.Author.Tests.{le-ltb, eq-eqb, ne-eqb, eqb-true, eqb-false}
 use mathlib.Core.Path.{_≡_, refl, sym, ap, subst, _∙_}
 use mathlib.Core.Bool.{Bool, true, false}
 use mathlib.Core.List.{List, [], _∷_, _++_}
 use Prim.Native.Nat.{ℕ, _+_, _≤_, _<_}
-use lib.Dec.{leb, ltb, eqb}
+use lib.Dec.{leb, eqb}
 use lib.ListN.{length, getD, drop, length-append}
 use lib.Seq.{take-length, getD-append-seam, getD-append-add}
 use Rattle.wire.specs.Pick.{pick}
@@ -17,32 +17,29 @@ use Rattle.wire.specs.Field.{byteAt, integerAt, booleanAt, booleanBytes}
 use Rattle.wire.specs.Packet.{packetHead, packet, payloadPlace, afterCodePlace}
 use Rattle.packet.specs.declared.Direction.{Direction}
 use Rattle.wire.specs.declared.read.NumberRead.{NumberRead}
-use Rattle.wire.specs.declared.read.BooleanRead.{BooleanRead}
 use Rattle.wire.proofs.Tests.{both-first, both-second}
-use Rattle.wire.proofs.Bytes.{length-part, part-middle, part-add, part-one}
-use Rattle.wire.proofs.Field.{boolean-inside}
-use Rattle.wire.proofs.RoundTrip.{integer-written, integer-kept, boolean-kept}
+use Rattle.wire.proofs.Bytes.{length-part, part-middle, part-add}
+use Rattle.wire.proofs.RoundTrip.{integer-written, integer-kept}
 use Rattle.wire.specs.Facts.{Bytes}
 use Rattle.wire.proofs.Parts.{part-zero, rest-part, stands-there}
-use Rattle.wire.specs.Refusal.{cutShort, leftOver, bodySizeWrong, stringWrong, notNow}
+use Rattle.wire.specs.Refusal.{cutShort, bodySizeWrong, notNow}
 use Rattle.connection.specs.Cycle.{moveKind, directionOf, inState, inSize, allowed, after}
 use Rattle.connection.specs.declared.Connection.{Connection}
 use Rattle.connection.specs.declared.Kind.{Kind}
 use Rattle.connection.specs.declared.Move.{Move}
 use Rattle.connection.specs.Connection.{maxBody, maxPacket}
-use Rattle.payload.specs.Kinds.{packetAt, packetKind, packetMove}
+use Rattle.payload.specs.Kinds.{packetKind, packetMove}
 use Rattle.payload.specs.Packet.{partFrom}
 use Rattle.payload.specs.Code.{codeOf, kindAt}
-use Rattle.payload.specs.Bare.{bareAt}
-use Rattle.payload.specs.End.{endOf, endAt}
-use Rattle.payload.specs.GetBody.{getOf, getAt}
-use Rattle.payload.specs.Body.{bodyStart, sizedAt, sizedOf, bodyAt}
-use Rattle.payload.specs.BodyChunk.{chunkStart, chunkOf, chunkBy, chunkAt}
+use Rattle.payload.specs.End.{endAt}
+use Rattle.payload.specs.Body.{bodyStart, bodyAt}
+use Rattle.payload.specs.BodyChunk.{chunkStart}
 use Rattle.packet.specs.declared.Part.{Part}
 use Rattle.packet.specs.declared.Packet.{Packet}
 use Rattle.payload.specs.declared.found.PacketRead.{PacketRead}
 use Rattle.payload.proofs.Laws.{get-is, chunk-is, chunk-closed, body-is, sized-by}
-use Rattle.payload.proofs.Handed.{finished-is}
+use Rattle.payload.specs.Handed.{BareHanded}
+use Rattle.payload.proofs.Handed.{bare-handed, get-handed, end-handed, body-handed, chunk-handed}
 use Rattle.building.specs.Field.{opening}
 use Rattle.building.specs.Call.{Call, refused, done, refusalOf, outcomeBy, outcome, bufferAfter}
 use Rattle.building.proofs.Sizes.{unless-none}
@@ -58,6 +55,7 @@ use Rattle.messages.specs.Shown.{messageShown}
 use Rattle.messages.proofs.Frames.{frame-written, head-kept}
 use Rattle.messages.proofs.Parses.{contextFor, isBody, Parses, parses-most, coded-parses, coded-kept}
 use Rattle.messages.proofs.Tables.{tableOf}
+use Rattle.messages.proofs.FieldsKept.{Held, held-none, held-byte, held-part, held-join, held-rest, integer-held, boolean-held}
 use Rattle.messages.proofs.RoundTrip.{Forth, Back, wrote-done, Shows, Stands, stands-back}
 
 -- a call that is done: there was no fault, and its answer is what was outcomeBy
@@ -366,109 +364,32 @@ one-forth m one c buffer w left fit e =
     let k = one-packet m one fit in
     stands-back (one-stands k (one-written c (packetMove (k .packet)) (payloadOf m) buffer w left (sym (k .calls .call-is c buffer) ∙ e)))
 
--- what a Get Body Chunk was read from
-get-read : (s : List ℕ) (asked : ℕ) → getAt s ≡ PacketRead.Packet (Packet.GetBody asked) → (length s ≡ afterCodePlace + 2) × (integerIn s afterCodePlace ≡ asked)
-unfolding getAt integerAt
-get-read s asked = go (leb (afterCodePlace + 2) (length s))
-  where
-    go : (t : Bool) → getOf (length s) (pick t (NumberRead.Number (integerIn s afterCodePlace) (afterCodePlace + 2)) (NumberRead.Refused cutShort)) ≡ PacketRead.Packet (Packet.GetBody asked)
-        → (length s ≡ afterCodePlace + 2) × (integerIn s afterCodePlace ≡ asked)
-    go true e =
-        let f = finished-is (length s) (afterCodePlace + 2) (Packet.GetBody (integerIn s afterCodePlace)) (Packet.GetBody asked) e in
-        let g : Packet.GetBody (integerIn s afterCodePlace) ≡ Packet.GetBody asked = f .1 in
-        (sym (f .0), cc)
-    go false e = absurd (let z : _≡_ {A = ℕ} 0 1 = cc in omega arith)
-
--- what an End was read from
-end-read : (s : List ℕ) (reuse : Bool) → endAt s ≡ PacketRead.Packet (Packet.End reuse)
-    → (length s ≡ afterCodePlace + 1) × (booleanAt s afterCodePlace ≡ BooleanRead.Boolean reuse (afterCodePlace + 1))
-unfolding endAt
-end-read s reuse = go (booleanAt s afterCodePlace) refl
-  where
-    go : (r : BooleanRead) → booleanAt s afterCodePlace ≡ r → endOf (length s) r ≡ PacketRead.Packet (Packet.End reuse)
-        → (length s ≡ afterCodePlace + 1) × (booleanAt s afterCodePlace ≡ BooleanRead.Boolean reuse (afterCodePlace + 1))
-    go (BooleanRead.Refused n) q e = absurd (let z : _≡_ {A = ℕ} 0 1 = cc in omega arith)
-    go (BooleanRead.Boolean value next) q e =
-        let inside = boolean-inside s afterCodePlace (BooleanRead.Boolean value next) q in
-        let f = finished-is (length s) next (Packet.End value) (Packet.End reuse) e in
-        let g : Packet.End value ≡ Packet.End reuse = f .1 in
-        let v : value ≡ reuse = cc in
-        let ends : next ≡ afterCodePlace + 1 = inside .0 in
-        (sym (f .0) ∙ ends, rw (← v, ← ends) q)
-
--- what a chunk was read from
-record ChunkRead (s : List ℕ) (p : Part) : Type 0 where
-  starts : p .start .0 ≡ chunkStart
-  len-is : integerIn s afterCodePlace ≡ p .len
-  zero : getD s (chunkStart + p .len) 0 ≡ 0
-  size : length s ≡ chunkStart + (p .len + 1)
-
--- a chunk was read from these
-chunk-read : (s : List ℕ) (p : Part) → chunkAt s ≡ PacketRead.Packet (Packet.BodyChunk p) → ChunkRead s p
-unfolding chunkAt integerAt chunkOf
-chunk-read s p = go (leb chunkStart (length s))
-  where
-    n : ℕ
-    n = integerIn s afterCodePlace
-
-    by : (t u v : Bool) → eqb (getD s (chunkStart + n) 0) 0 ≡ u → eqb (chunkStart + n + 1) (length s) ≡ v
-        → pick t
-        (pick u (pick v (PacketRead.Packet (Packet.BodyChunk (partFrom chunkStart n))) (PacketRead.Refused leftOver)) (PacketRead.Refused stringWrong))
-        (PacketRead.Refused cutShort) ≡ PacketRead.Packet (Packet.BodyChunk p) → ChunkRead s p
-    by true true true q r e =
-        let same : partFrom chunkStart n ≡ p = cc in
-        rw (← same) (record {
-          starts = refl;
-          len-is = refl;
-          zero = eqb-true (getD s (chunkStart + n) 0) 0 q;
-          size = omega (arith, eqb-true (chunkStart + n + 1) (length s) r);
-        })
-    by true true false q r e = absurd (let z : _≡_ {A = ℕ} 0 1 = cc in omega arith)
-    by true false v q r e = absurd (let z : _≡_ {A = ℕ} 0 1 = cc in omega arith)
-    by false u v q r e = absurd (let z : _≡_ {A = ℕ} 0 1 = cc in omega arith)
-
-    go : (t : Bool) → chunkBy s (pick t (NumberRead.Number n chunkStart) (NumberRead.Refused cutShort)) ≡ PacketRead.Packet (Packet.BodyChunk p) → ChunkRead s p
-    go true e = by (leb (chunkStart + (n + 1)) (length s)) (eqb (getD s (chunkStart + n) 0) 0) (eqb (chunkStart + n + 1) (length s)) refl refl e
-    go false e = absurd (let z : _≡_ {A = ℕ} 0 1 = cc in omega arith)
-
 -- what a body packet was read from: nothing behind the packetHead, or a size and so many bytes
 pub data BodyRead (s : List ℕ) : Part → Type 0 where
   empty : length s ≡ payloadPlace → BodyRead s (partFrom payloadPlace 0)
   sized : (n : ℕ) → integerIn s payloadPlace ≡ n → eqb n 0 ≡ false → length s ≡ bodyStart + n → BodyRead s (partFrom bodyStart n)
 
+-- so many bytes behind the number that says so
+abbrev partRead : NumberRead → Part
+partRead (NumberRead.Refused n) = partFrom 0 0
+partRead (NumberRead.Number len start) = partFrom start len
+
 -- a body packet was read from one of the two
 pub body-read : (s : List ℕ) (p : Part) → bodyAt s ≡ PacketRead.Packet (Packet.Body p) → BodyRead s p
-unfolding bodyAt integerAt sizedAt
-body-read s p = go (eqb (length s) payloadPlace) (leb bodyStart (length s)) refl
+unfolding integerAt
+body-read s p e = let h = body-handed s p e in go (eqb (length s) payloadPlace) (leb bodyStart (length s)) refl (h .size-read) (h .empty) (h .rest)
   where
-    n : ℕ
-    n = integerIn s payloadPlace
-
-    by : (t u v : Bool) → ltb (length s) (bodyStart + n) ≡ t → ltb (bodyStart + n) (length s) ≡ u → eqb n 0 ≡ v
-        → pick t (PacketRead.Refused cutShort)
-        (pick u (PacketRead.Refused leftOver) (pick v (PacketRead.Refused bodySizeWrong) (PacketRead.Packet (Packet.Body (partFrom bodyStart n)))))
-        ≡ PacketRead.Packet (Packet.Body p) → BodyRead s p
-    by true u v q r k e = absurd (let z : _≡_ {A = ℕ} 0 1 = cc in omega arith)
-    by false true v q r k e = absurd (let z : _≡_ {A = ℕ} 0 1 = cc in omega arith)
-    by false false true q r k e = absurd (let z : _≡_ {A = ℕ} 0 1 = cc in omega arith)
-    by false false false q r k e =
-        let same : partFrom bodyStart n ≡ p = cc in
-        rw (← same) (sized n refl k (omega (arith, ltb-false (length s) (bodyStart + n) q, ltb-false (bodyStart + n) (length s) r)))
-
     go : (t u : Bool) → eqb (length s) payloadPlace ≡ t
-        → pick t (PacketRead.Packet (Packet.Body (partFrom payloadPlace 0)))
-        (sizedOf (length s) (pick u (NumberRead.Number n bodyStart) (NumberRead.Refused cutShort))) ≡ PacketRead.Packet (Packet.Body p) → BodyRead s p
-    go true u q e =
-        let same : partFrom payloadPlace 0 ≡ p = cc in
-        rw (← same) (empty (eqb-true (length s) payloadPlace q))
-    go false true q e = by (ltb (length s) (bodyStart + n)) (ltb (bodyStart + n) (length s)) (eqb n 0) refl refl refl e
-    go false false q e = absurd (let z : _≡_ {A = ℕ} 0 1 = cc in omega arith)
-
--- a packet with a code, and so many bytes behind it
-behind-kept : {d : Direction} {s : List ℕ} {p : Packet} → Parses d s p → isBody (packetKind p) ≡ false → Bytes s → (n : ℕ) → length s ≡ afterCodePlace + n
-    → (behind : List ℕ) → part s afterCodePlace n ≡ behind → s ≡ packet (directionOf (packetKind p)) (codeOf (packetKind p) ∷ behind)
-behind-kept {d} {s} {p} r b bytes n size behind e =
-    coded-kept r b bytes ∙ ap (λ (l : List ℕ). packet (directionOf (packetKind p)) (codeOf (packetKind p) ∷ l)) (rest-part s afterCodePlace n size ∙ e)
+        → pick t (NumberRead.Number 0 payloadPlace) (pick u (NumberRead.Number (integerIn s payloadPlace) bodyStart) (NumberRead.Refused cutShort))
+        ≡ NumberRead.Number (p .len) (p .start .0)
+        → eqb (p .len) 0 ≡ t → p .start .0 + p .len ≡ length s → BodyRead s p
+    go true u none read no-bytes all = subst (BodyRead s) (ap partRead read) (empty (eqb-true (length s) payloadPlace none))
+    go false true some read bytes all =
+        let many : integerIn s payloadPlace ≡ p .len = cc in
+        let starts : bodyStart ≡ p .start .0 = cc in
+        subst (BodyRead s) (ap partRead read)
+        (sized (integerIn s payloadPlace) refl (ap (λ (n : ℕ). eqb n 0) many ∙ bytes) (omega (arith, many, starts, all)))
+    go false false some read bytes all = absurd (let z : _≡_ {A = ℕ} 0 1 = cc in omega arith)
 
 -- the payload of a body packet is that of its bytes
 body-payload : {s : List ℕ} {p : Part} → Bytes s → BodyRead s p
@@ -480,52 +401,56 @@ body-payload {s} bytes (sized n e some size) =
     rest-part s payloadPlace (2 + n) (omega (arith, size)) ∙ part-add s payloadPlace 2 n ∙ rw (integer-kept s payloadPlace bytes (omega (arith, size)), e) in
     (behind ∙ rw (long, some), long)
 
-module _ {d : Direction} {s : List ℕ} (bytes : Bytes s) where
-  -- the bytes of a packet that is its code alone
-  bare-kept : (p : Packet) → isBody (packetKind p) ≡ false → packetAt (contextFor (packetKind p)) (packetKind p) s .end ≡ bareAt s p → Parses d s p
-      → s ≡ packet (directionOf (packetKind p)) (codeOf (packetKind p) ∷ [])
-  bare-kept p b e r =
-      let f = finished-is (length s) afterCodePlace p p (sym e ∙ r .fields-are) in
-      behind-kept r b bytes 0 (sym (f .0)) [] (part-zero s afterCodePlace)
+-- a packet with a code, and these bytes behind it
+behind-kept : {d : Direction} {s : List ℕ} {p : Packet} → Parses d s p → isBody (packetKind p) ≡ false → Bytes s
+    → (behind : List ℕ) → Held s afterCodePlace (length s) behind → s ≡ packet (directionOf (packetKind p)) (codeOf (packetKind p) ∷ behind)
+behind-kept {d} {s} {p} r b bytes behind h =
+    coded-kept r b bytes ∙ ap (λ (l : List ℕ). packet (directionOf (packetKind p)) (codeOf (packetKind p) ∷ l)) (held-rest s afterCodePlace behind h)
 
-  -- of CPing
+-- nothing stands behind the code
+bare-held : (s : List ℕ) → BareHanded s [] → Held s afterCodePlace (length s) []
+bare-held s h = subst (λ (at : ℕ). Held s at (length s) []) (h .ends) (held-none s (length s) (omega arith))
+
+module _ {d : Direction} {s : List ℕ} (bytes : Bytes s) where
+  -- the bytes of CPing
   cping-kept : Parses d s Packet.CPing → s ≡ messageBytes cping
   unfolding messageBytes
-  cping-kept r = bare-kept Packet.CPing refl refl r
+  cping-kept r = behind-kept r refl bytes [] (bare-held s (bare-handed s Packet.CPing (r .fields-are)))
 
   -- of CPong
   cpong-kept : Parses d s Packet.CPong → s ≡ messageBytes cpong
   unfolding messageBytes
-  cpong-kept r = bare-kept Packet.CPong refl refl r
+  cpong-kept r = behind-kept r refl bytes [] (bare-held s (bare-handed s Packet.CPong (r .fields-are)))
 
   -- of a Get Body Chunk, which asks for an integer
   get-kept : (asked : ℕ) → Parses d s (Packet.GetBody asked) → (s ≡ messageBytes (getBody asked)) × (asked < 65536)
-  unfolding messageBytes integerIn
+  unfolding messageBytes
   get-kept asked r =
-      let f = get-read s asked (r .fields-are) in (
-        behind-kept r refl bytes 2 (f .0) (integerBytes asked)
-            (integer-kept s afterCodePlace bytes (omega (arith, f .0)) ∙ ap integerBytes (f .1)),
-        omega (arith, f .1, bytes afterCodePlace, bytes (afterCodePlace + 1)),
-      )
+      let k = integer-held s afterCodePlace asked (length s) bytes (get-handed s asked (r .fields-are) .asked-read) in
+      (behind-kept r refl bytes (integerBytes asked) (k .0), k .1)
 
   -- of an End
   end-kept : (reuse : Bool) → Parses d s (Packet.End reuse) → s ≡ messageBytes (end reuse)
   unfolding messageBytes
   end-kept reuse r =
-      let f = end-read s reuse (r .fields-are) in
-      behind-kept r refl bytes 1 (f .0) (booleanBytes reuse) (boolean-kept s afterCodePlace reuse (afterCodePlace + 1) (f .1))
+      behind-kept r refl bytes (booleanBytes reuse)
+      (boolean-held s afterCodePlace reuse (length s) (end-handed s reuse (r .fields-are) .reuse-read))
 
   -- of a chunk
   chunk-kept : (p : Part) → Parses d s (Packet.BodyChunk p)
       → (s ≡ messageBytes (bodyChunk (part s (p .start .0) (p .len)))) × (length (part s (p .start .0) (p .len)) ≡ p .len)
   unfolding messageBytes
   chunk-kept p r =
-      let f = chunk-read s p (r .fields-are) in
+      let h = chunk-handed s p (r .fields-are) in
+      let start : ℕ = p .start .0 in
       let n : ℕ = p .len in
-      let size : length (part s chunkStart n) ≡ n = length-part s chunkStart n (omega (arith, f .size)) in
-      let behind : part s afterCodePlace (2 + (n + 1)) ≡ integerBytes (length (part s chunkStart n)) ++ (part s chunkStart n ++ (0 ∷ [])) =
-      part-add s afterCodePlace 2 (n + 1) ∙ rw (part-add s chunkStart n 1, part-one s (chunkStart + n) (omega (arith, f .size)), f .zero, integer-kept s afterCodePlace bytes (omega (arith, f .size)), f .len-is, size) in
-      rw (f .starts) (behind-kept r refl bytes (2 + (n + 1)) (omega (arith, f .size)) _ behind, size)
+      let size : length (part s start n) ≡ n = length-part s start n (omega (arith, h .rest)) in
+      let zero : Held s (start + n) (length s) (0 ∷ []) =
+      rw (← h .rest, ← h .closed) (held-byte s (start + n) (omega (arith, h .rest))) in
+      let own = held-join (held-part s start n (omega (arith, h .rest))) zero in
+      let behind : Held s afterCodePlace (length s) (integerBytes (length (part s start n)) ++ (part s start n ++ (0 ∷ []))) =
+      rw size (held-join (integer-held s afterCodePlace n start bytes (h .size-read) .0) own) in
+      (behind-kept r refl bytes _ behind, size)
 
   -- of a body packet
   body-kept : (p : Part) → Parses d s (Packet.Body p)

@@ -50,7 +50,7 @@ table-filled d c s table p n next e =
 module _ (p : Packet) (s table headers attributes : List ℕ) (are : placesIn p s ≡ headers ++ attributes)
     (many : length headers ≡ 2 * headersIn p) where
   -- the places of its headers in the table, whatever its length
-  pub header-places : headerPlaces p (tableOf p s table) ≡ headers
+  header-places : headerPlaces p (tableOf p s table) ≡ headers
   header-places = rw (are, ← many) (over-first table headers attributes)
 
   -- and those of its attributes

@@ -126,17 +126,36 @@ headers-to d s at (suc count) before =
     go (HeaderRead.Header value after next) h later =
         header-front d s at value next before after (headersAt d s next count after .places) (headersAt d s next count after .end) h (later after next)
 
--- a name that is read: the integer or the string there, without fault
+-- a header to the server declares nothing
+header-declares : (s : List ℕ) (before : Declared) (name : NameRead) (value : StringRead) (after : Declared)
+    → DeclaresThen Direction.ToServer s before name value after → before ≡ after
+unfolding declaredAfter
+header-declares s before (NameRead.Refused n) value after e = cc
+header-declares s before (NameRead.Code code next) value after e = cc
+header-declares s before (NameRead.Spelled start len next) value after e = cc
+
+-- nor do several
+headers-declare : (s : List ℕ) (at : ℕ) (before : Declared) (places : List ℕ) (end : ℕ) (after : Declared)
+    → HeadersHanded Direction.ToServer s at before places end after → before ≡ after
+headers-declare s at before [] end after h = h .1
+headers-declare s at before (p ∷ []) end after h = absurd h
+headers-declare s at before (p ∷ q ∷ rest) end after (next, place, named, there, declared, now, later) =
+    header-declares s before (nameAt Direction.ToServer s p) (stringAt s q (isOptional StringField.HeaderValue)) declared now
+    ∙ headers-declare s next declared rest end after later
+
+-- a name that is read: what its first byte says, the integer or the string there, without fault
 abbrev pub NameFine : Direction → List ℕ → ℕ → NameRead → Type 0
 NameFine d s at (NameRead.Refused n) = Unit
-NameFine d s at (NameRead.Code code next) = (integerAt s at ≡ NumberRead.Number code next) × (codeFault d code ≡ none)
+NameFine d s at (NameRead.Code code next) =
+    (beginsCode (getD s at 0) ≡ true) × (integerAt s at ≡ NumberRead.Number code next) × (codeFault d code ≡ none)
 NameFine d s at (NameRead.Spelled start len next) =
-    (stringAt s at (isOptional StringField.HeaderName) ≡ StringRead.Text start len next) × (spelledFault d (part s start len) ≡ none)
+    (beginsCode (getD s at 0) ≡ false) × (stringAt s at (isOptional StringField.HeaderName) ≡ StringRead.Text start len next)
+    × (spelledFault d (part s start len) ≡ none)
 
 -- each name that is read is
 pub name-fine : (d : Direction) (s : List ℕ) (at : ℕ) → NameFine d s at (nameAt d s at)
 unfolding nameAt codeNameOf spelledAt
-name-fine d s at = go (leb (at + 2) (length s)) (beginsCode (getD s at 0))
+name-fine d s at = go (leb (at + 2) (length s)) (beginsCode (getD s at 0)) refl
   where
     unless : (fault : ℕ) (name : NameRead) → (fault ≡ none → NameFine d s at name) → NameFine d s at (nameUnless fault name)
     unless fault name h = by (eqb fault none) refl
@@ -145,21 +164,23 @@ name-fine d s at = go (leb (at + 2) (length s)) (beginsCode (getD s at 0))
         by true e = h (eqb-true fault none e)
         by false e = tt
 
-    coded : (r : NumberRead) → integerAt s at ≡ r → NameFine d s at (codeNameOf d r)
-    coded (NumberRead.Refused n) e = tt
-    coded (NumberRead.Number code next) e = unless (codeFault d code) (NameRead.Code code next) (λ fine. (e, fine))
+    coded : beginsCode (getD s at 0) ≡ true → (r : NumberRead) → integerAt s at ≡ r → NameFine d s at (codeNameOf d r)
+    coded q (NumberRead.Refused n) e = tt
+    coded q (NumberRead.Number code next) e = unless (codeFault d code) (NameRead.Code code next) (λ fine. (q, e, fine))
 
-    spelled : (r : StringRead) → stringAt s at (isOptional StringField.HeaderName) ≡ r → NameFine d s at (spelledOf d s r)
-    spelled (StringRead.Refused n) e = tt
-    spelled (StringRead.Null next) e = tt
-    spelled (StringRead.Text start len next) e = unless (spelledFault d (part s start len)) (NameRead.Spelled start len next) (λ fine. (e, fine))
+    spelled : beginsCode (getD s at 0) ≡ false → (r : StringRead) → stringAt s at (isOptional StringField.HeaderName) ≡ r
+        → NameFine d s at (spelledOf d s r)
+    spelled q (StringRead.Refused n) e = tt
+    spelled q (StringRead.Null next) e = tt
+    spelled q (StringRead.Text start len next) e =
+        unless (spelledFault d (part s start len)) (NameRead.Spelled start len next) (λ fine. (q, e, fine))
 
-    go : (t u : Bool)
+    go : (t u : Bool) → beginsCode (getD s at 0) ≡ u
         → NameFine d s at
         (pick t (pick u (codeNameOf d (integerAt s at)) (spelledOf d s (stringAt s at (isOptional StringField.HeaderName)))) (NameRead.Refused cutShort))
-    go true true = coded (integerAt s at) refl
-    go true false = spelled (stringAt s at (isOptional StringField.HeaderName)) refl
-    go false u = tt
+    go true true q = coded q (integerAt s at) refl
+    go true false q = spelled q (stringAt s at (isOptional StringField.HeaderName)) refl
+    go false u q = tt
 
 -- a value, where one of its kind is read
 abbrev ValueRight : List ℕ → AttributeKind → ℕ → ValueRead → Type 0
@@ -389,7 +410,7 @@ lists-to s count = go (headersAfter Direction.ToContainer s count .end) refl (he
             attributes-many = attributes-many s middle many end q;
             attributes-most = attributes-few s middle many end q;
             middle = middle;
-            after = after;
+            of-length = after;
             headers-there = h .2;
             declared-is = refl;
             attributes-there = subst (AttributesHanded s middle attributes) (eqb-true end (length s) p) a;
@@ -464,7 +485,7 @@ forward-places s f e =
     }
 
 -- nothing stands behind a packet's last field, and the packet is the one that was found
-pub finished-is : (size next : ℕ) (found packet : Packet) → finished size next found ≡ PacketRead.Packet packet → (next ≡ size) × (found ≡ packet)
+finished-is : (size next : ℕ) (found packet : Packet) → finished size next found ≡ PacketRead.Packet packet → (next ≡ size) × (found ≡ packet)
 finished-is size next found packet = go (eqb next size) refl
   where
     go : (t : Bool) → eqb next size ≡ t → pick t (PacketRead.Packet found) (PacketRead.Refused leftOver) ≡ PacketRead.Packet packet
@@ -486,6 +507,8 @@ head-found s h places (HeadersRead.Refused n) b many e = let z : _≡_ {A = ℕ}
 head-found s h places (HeadersRead.Headers after end) b many e =
     let reads = sendHeadersReads s in
     let found = finished-is (length s) end _ (Packet.SendHeaders h) e in
+    let nothing : HeadersHanded Direction.ToServer s (b .0) Declared.Absent places end Declared.Absent =
+    subst (HeadersHanded Direction.ToServer s (b .0) Declared.Absent places end) (sym (headers-declare s (b .0) Declared.Absent places end after (b .2))) (b .2) in
     let count = number-behind (integerAt s) 0 maxHeaders tooMany (reads .message) (b .0) (b .1) in
     let message = string-behind s StringField.Message (reads .status) (fieldPlace (reads .headers) .0) (count .0) in
     let status = number-behind (integerAt s) leastStatus greatestStatus outOfRange afterCode (fieldPlace (reads .message) .0) (message .0) in
@@ -499,8 +522,7 @@ head-found s h places (HeadersRead.Headers after end) b many e =
       count-read = count .1;
       headers-most = range-most maxHeaders (fieldNumber (reads .headers)) (count .2);
       headers-many = many;
-      after = after;
-      headers-there = subst (λ (i : ℕ). HeadersHanded Direction.ToServer s (b .0) Declared.Absent places i after) (found .0) (b .2);
+      headers-there = subst (λ (i : ℕ). HeadersHanded Direction.ToServer s (b .0) Declared.Absent places i Declared.Absent) (found .0) nothing;
     })
 
 -- what a Send Headers that was read hands out was read in it
@@ -521,7 +543,7 @@ send-headers-places s h e =
     record { many = handed .headers-many; headers-most = handed .headers-most }
 
 -- a CPing or a CPong
-bare-handed : (s : List ℕ) (packet : Packet) → finished (length s) afterCodePlace packet ≡ PacketRead.Packet packet → BareHanded s []
+pub bare-handed : (s : List ℕ) (packet : Packet) → finished (length s) afterCodePlace packet ≡ PacketRead.Packet packet → BareHanded s []
 bare-handed s packet e = record { ends = sym (finished-is (length s) afterCodePlace packet packet e .0); no-places = refl }
 
 -- a Get Body Chunk

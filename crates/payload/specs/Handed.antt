@@ -110,9 +110,9 @@ pub record ListsHanded (s : List ℕ) (at headers attributes declared : ℕ) (pl
   pub attributes-many : length of-attributes ≡ attributes + attributes
   pub attributes-most : attributes ≤ maxAttributes
   pub middle : ℕ
-  pub after : Declared
-  pub headers-there : HeadersHanded Direction.ToContainer s at Declared.Absent of-headers middle after
-  pub declared-is : declared ≡ declaredLength after
+  pub of-length : Declared
+  pub headers-there : HeadersHanded Direction.ToContainer s at Declared.Absent of-headers middle of-length
+  pub declared-is : declared ≡ declaredLength of-length
   pub attributes-there : AttributesHanded s middle of-attributes (length s)
 
 -- a Forward: the method is the byte behind the code, in its range; the five strings stand one behind the other; then the port, is_ssl and the
@@ -135,8 +135,8 @@ pub record ForwardHanded (s : List ℕ) (f : Forward) (places : List ℕ) : Type
   pub headers-most : f .headers ≤ maxHeaders
   pub lists : ListsHanded s lists-place (f .headers) (f .attributes) (f .declared .0) places
 
--- Send Headers: the status is the integer behind the code, in its range; the message, the count of headers and so many headers, which end
--- with the packet
+-- Send Headers: the status is the integer behind the code, in its range; the message, the count of headers and so many headers, which declare
+-- nothing and end with the packet
 pub record SendHeadersHanded (s : List ℕ) (h : SendHeaders) (places : List ℕ) : Type 0 where
   pub status-read : integerAt s afterCodePlace ≡ NumberRead.Number (h .status) (h .message .0)
   pub status-range : between leastStatus greatestStatus (h .status) ≡ true
@@ -146,8 +146,7 @@ pub record SendHeadersHanded (s : List ℕ) (h : SendHeaders) (places : List ℕ
   pub count-read : integerAt s count-place ≡ NumberRead.Number (h .headers) headers-place
   pub headers-most : h .headers ≤ maxHeaders
   pub headers-many : length places ≡ h .headers + h .headers
-  pub after : Declared
-  pub headers-there : HeadersHanded Direction.ToServer s headers-place Declared.Absent places (length s) after
+  pub headers-there : HeadersHanded Direction.ToServer s headers-place Declared.Absent places (length s) Declared.Absent
 
 -- the size that a body packet tells: none where it has no payload, else the payload's first integer
 abbrev pub bodySizeRead : List ℕ → NumberRead

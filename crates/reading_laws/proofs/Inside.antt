@@ -105,12 +105,13 @@ string-below s field at end =
 
 -- the strings of a Forward that was read
 forward-in : (s : List ℕ) (f : Forward) (places : List ℕ) → ForwardHanded s f places → FieldsInside (length s) (Packet.Forward f)
-forward-in s f places h =
-    (string-below s StringField.Protocol _ _ (h .protocol-there),
-    string-below s StringField.ReqUri _ _ (h .uri-there),
-    string-below s StringField.RemoteAddr _ _ (h .addr-there),
-    string-below s StringField.RemoteHost _ _ (h .host-there),
-    string-below s StringField.ServerName _ _ (h .name-there))
+forward-in s f places h = (
+  string-below s StringField.Protocol _ _ (h .protocol-there),
+  string-below s StringField.ReqUri _ _ (h .uri-there),
+  string-below s StringField.RemoteAddr _ _ (h .addr-there),
+  string-below s StringField.RemoteHost _ _ (h .host-there),
+  string-below s StringField.ServerName _ _ (h .name-there),
+)
 
 -- a packet that has no headers and no attributes
 plain-inside : (size : ℕ) (packet : Packet) → headersIn packet ≡ 0 → attributesIn packet ≡ 0 → FieldsInside size packet → PacketInside size packet

@@ -6,12 +6,11 @@ use mathlib.Core.Bool.{Bool, true, false}
 use mathlib.Core.List.{List, [], _++_}
 use Prim.Native.Nat.{ℕ, _+_, _≤_}
 use native.Mathlib.Omega.{arith}
-use borrow.Author.Tests.{le-leb, leb-true, ne-eqb}
+use borrow.Author.Tests.{le-leb, ne-eqb}
 use lib.Dec.{leb, eqb}
 use lib.ListN.{length, getD, drop, length-append, length-drop, take-append-drop, List·getD-append}
 use lib.Seq.{take-append-le, drop-append-le}
 use Rattle.wire.specs.Pick.{pick}
-use Rattle.wire.specs.Refusal.{none, cutShort}
 use Rattle.wire.specs.Bytes.{part, integerIn}
 use Rattle.wire.specs.Field.{integerAt, nullLength, stringAt, isOptional}
 use Rattle.packet.specs.declared.Direction.{Direction}
@@ -19,11 +18,11 @@ use Rattle.wire.specs.declared.StringField.{StringField}
 use Rattle.wire.specs.declared.read.NumberRead.{NumberRead}
 use Rattle.wire.specs.declared.read.StringRead.{StringRead}
 use Rattle.wire.specs.Facts.{TextRead, NullRead}
-use Rattle.wire.proofs.Field.{text-read, null-read}
+use Rattle.wire.proofs.Field.{integer-inside, text-read, null-read}
 use Rattle.names.specs.Attribute.{attributeKind}
-use Rattle.names.specs.Header.{beginsCode, codeFault, spelledFault}
-use Rattle.headers.specs.Headers.{codeNameOf, spelledAt, spelledOf, nameAt}
+use Rattle.headers.specs.Headers.{nameAt}
 use Rattle.headers.specs.declared.NameRead.{NameRead}
+use Rattle.payload.proofs.Handed.{NameFine, name-fine}
 use Rattle.headers.proofs.Laws.{part-none}
 use Rattle.packet.specs.declared.HeaderName.{HeaderName}
 use Rattle.views.specs.View.{integerView, nullView, textView, nameView}
@@ -55,58 +54,22 @@ null-shown s at optional next e =
     let n : nullLength ≡ integerView s at = sym (r .length-is) ∙ sym (number-there s at (omega (arith, r .ends, r .fits))) in
     (sym (null-is s at nullLength n), sym (text-null s at nullLength n refl) ∙ part-none s)
 
--- what is shown of a name, by what it was read as
-abbrev NameShown : List ℕ → ℕ → NameRead → Type 0
-NameShown s at (NameRead.Refused n) = Unit
-NameShown s at (NameRead.Code code next) = nameView s at ≡ HeaderName.Code code
-NameShown s at (NameRead.Spelled start len next) = (nameView s at ≡ HeaderName.Spelled) × (textView s at ≡ part s start len)
-
-module _ (d : Direction) (s : List ℕ) (at : ℕ) (there : at + 2 ≤ length s) where
-  -- a name that begins as a code
-  code-name : beginsCode (getD s at 0) ≡ true → (r : NumberRead) → integerAt s at ≡ r → NameShown s at (codeNameOf d r)
-  unfolding codeNameOf
-  code-name q (NumberRead.Refused n) e = tt
-  code-name q (NumberRead.Number code next) e = go (eqb (codeFault d code) none)
-    where
-      go : (t : Bool) → NameShown s at (pick t (NameRead.Code code next) (NameRead.Refused (codeFault d code)))
-      go true = sym (name-is s at code true true (le-leb (at + 1) (length s) (omega arith)) q (sym (integer-shown s at code next e)))
-      go false = tt
-
-  -- a name that begins as a string
-  spelled-name : beginsCode (getD s at 0) ≡ false → (optional : Bool) (r : StringRead) → stringAt s at optional ≡ r → NameShown s at (spelledOf d s r)
-  unfolding spelledAt
-  spelled-name q optional (StringRead.Refused n) e = tt
-  spelled-name q optional (StringRead.Null next) e = tt
-  spelled-name q optional (StringRead.Text start len next) e = go (eqb (spelledFault d (part s start len)) none)
-    where
-      go : (t : Bool) → NameShown s at (pick t (NameRead.Spelled start len next) (NameRead.Refused (spelledFault d (part s start len))))
-      go true = (
-        sym (name-is s at (integerView s at) true false (le-leb (at + 1) (length s) (omega arith)) q refl),
-        text-shown s at optional start len next e .1,
-      )
-      go false = tt
-
--- a name that was read is the one that is shown
-name-shown : (d : Direction) (s : List ℕ) (at : ℕ) → NameShown s at (nameAt d s at)
-unfolding nameAt
-name-shown d s at = go (leb (at + 2) (length s)) (beginsCode (getD s at 0)) refl refl
-  where
-    go : (t u : Bool) → leb (at + 2) (length s) ≡ t → beginsCode (getD s at 0) ≡ u
-        → NameShown s at
-        (pick t (pick u (codeNameOf d (integerAt s at)) (spelledOf d s (stringAt s at (isOptional StringField.HeaderName)))) (NameRead.Refused cutShort))
-    go true true p q = code-name d s at (leb-true (at + 2) (length s) p) q (integerAt s at) refl
-    go true false p q =
-        spelled-name d s at (leb-true (at + 2) (length s) p) q (isOptional StringField.HeaderName) (stringAt s at (isOptional StringField.HeaderName)) refl
-    go false u p q = tt
-
 -- a name that was read as a code is shown as that code
 pub code-shown : (d : Direction) (s : List ℕ) (at code next : ℕ) → nameAt d s at ≡ NameRead.Code code next → nameView s at ≡ HeaderName.Code code
-code-shown d s at code next e = subst (NameShown s at) e (name-shown d s at)
+code-shown d s at code next e =
+    let fine = subst (NameFine d s at) e (name-fine d s at) in
+    let inside = integer-inside s at (NumberRead.Number code next) (fine .1) in
+    sym (name-is s at code true true (le-leb (at + 1) (length s) (omega (arith, inside .0, inside .1))) (fine .0) (sym (integer-shown s at code next (fine .1))))
 
 -- a name that was read as a spelled one is shown as one, with its bytes
 pub spelled-shown : (d : Direction) (s : List ℕ) (at start len next : ℕ) → nameAt d s at ≡ NameRead.Spelled start len next
     → (nameView s at ≡ HeaderName.Spelled) × (textView s at ≡ part s start len)
-spelled-shown d s at start len next e = subst (NameShown s at) e (name-shown d s at)
+spelled-shown d s at start len next e =
+    let fine = subst (NameFine d s at) e (name-fine d s at) in
+    let r : TextRead s at (isOptional StringField.HeaderName) start len next = text-read s at (isOptional StringField.HeaderName) start len next (fine .1) in (
+      sym (name-is s at (integerView s at) true false (le-leb (at + 1) (length s) (omega (arith, r .starts, r .ends, r .fits))) (fine .0) refl),
+      text-shown s at (isOptional StringField.HeaderName) start len next (fine .1) .1,
+    )
 
 -- a part that lies in the first of two lists is a part of both together
 part-more : (s rest : List ℕ) (start len : ℕ) → start + len ≤ length s → part (s ++ rest) start len ≡ part s start len

@@ -20,7 +20,7 @@ use Rattle.payload.specs.Kinds.{packetAt, packetKind, packetMove}
 use Rattle.packet.specs.declared.Packet as payload
 use Rattle.payload.specs.declared.found.PacketRead.{PacketRead}
 use Rattle.packet.specs.declared.Part.{Part}
-use Rattle.payload.proofs.Laws.{body-inside}
+use Rattle.payload.proofs.Handed as handed
 use Rattle.payload.proofs.Parsed.{move-kind}
 use Rattle.reading_laws.proofs.Shown.{bytes-lent}
 use Rattle.messages.proofs.Parses.{isBody, contextFor, Parses, parses-accepted, parses-places}
@@ -46,7 +46,7 @@ body-handed : (s rest : List ℕ) (p : Part) → bodyAt s ≡ PacketRead.Packet 
     → part (s ++ rest) (p .start .0) (p .len) ≡ drop bodyStart s
 body-handed s rest p e =
     let first : part (s ++ rest) 0 (length s) ≡ s = part-middle [] s rest in
-    let inside : p .start .0 + p .len ≡ length s = body-inside s (PacketRead.Packet (payload.Packet.Body p)) e in
+    let inside : p .start .0 + p .len ≡ length s = handed.body-handed s p e .rest in
     bytes-lent (s ++ rest) (length s) (p .start .0) (p .len) (rw first (omega arith))
     ∙ ap (λ (l : List ℕ). part l (p .start .0) (p .len)) first ∙ body-behind s p (body-read s p e) .0
 

@@ -24,8 +24,8 @@ use Rattle.payload.specs.GetBody.{getAt}
 use Rattle.payload.specs.Body.{sizedAt, bodyAt}
 use Rattle.payload.specs.BodyChunk.{chunkOf, chunkAt}
 use Rattle.payload.specs.Lists.{headersAfter, attributesBehind, listsAt}
-use Rattle.payload.specs.Forward.{forwardAt}
-use Rattle.payload.specs.SendHeaders.{sendHeadersAt}
+use Rattle.payload.specs.Forward.{forwardReads, forwardAt}
+use Rattle.payload.specs.SendHeaders.{sendHeadersReads, sendHeadersAt}
 use Rattle.building.specs.Fault.{fitFault}
 use Rattle.building.specs.Call.{refusalOf, outcome, bufferAfter}
 use Rattle.building_record.specs.Record.{isPossible}
@@ -87,5 +87,5 @@ pub sample-run : (requests (run sample start .past) ≡ record { declared = 2; g
     × (sentBytes (run sample start .past) ≡ hi)
     × (receivedBytes (run sample start .past) ≡ hi)
     × (run sample start .ends ≡ freshEnds)
-unfolding all any part over integerIn byteAt integerAt booleanAt textAt afterLength stringAt codeFault isListed requestNames responseNames digits decimalOf largestBody stepOf codeNameOf nameAt declaredAfter headerValueAt headerAt headersAt attributeAt attributesAt codeKind kindAt stringFieldAt stringAfter booleanFieldAt booleanAfter byteAfter anyIntegerAfter integerAfter endAt getAt sizedAt bodyAt chunkOf chunkAt headersAfter attributesBehind listsAt forwardAt sendHeadersAt fitFault refusalOf outcome bufferAfter isPossible bareCall bodyCall endCall closingFault closed closedPacket judgement closeOutcome closeBuffer leadingDiffers lengthAt frameAt parseWhole parse accepting reading
+unfolding all any part over integerIn byteAt integerAt booleanAt textAt afterLength stringAt codeFault isListed requestNames responseNames digits decimalOf largestBody stepOf codeNameOf nameAt declaredAfter headerValueAt headerAt headersAt attributeAt attributesAt codeKind kindAt stringFieldAt stringAfter booleanFieldAt booleanAfter byteAfter anyIntegerAfter integerAfter endAt getAt sizedAt bodyAt chunkOf chunkAt headersAfter attributesBehind listsAt forwardAt forwardReads sendHeadersAt sendHeadersReads fitFault refusalOf outcome bufferAfter isPossible bareCall bodyCall endCall closingFault closed closedPacket judgement closeOutcome closeBuffer leadingDiffers lengthAt frameAt parseWhole parse accepting reading
 sample-run = (refl, refl, refl, refl)
