@@ -165,11 +165,6 @@ module _ {s : List ℕ} {got : FieldRead} {f p v at : ℕ} (rest : List ℕ) whe
       (λ a. ap (stringAsField (length a)) (string-stood a rest field null text h) ∙ string-unless (length a) g (length a + n) null text)
       (r .ahead))
 
--- a boolean, from the number that it is read as
-pub boolean-back : (value : Bool) → eqb (booleanNumber value) 1 ≡ value
-boolean-back true = refl
-boolean-back false = refl
-
 -- before the first of them only the opening was read
 reads-start : (s a rest : List ℕ) → length a ≡ afterCodePlace → s ≡ a ++ rest → Reads s afterCode 0 codePlace 0 afterCodePlace rest
 reads-start s a rest opened e = record { is = refl; ahead = record { front = a; is = e; place = opened } }

@@ -37,7 +37,6 @@ use Rattle.messages.specs.Message.{Header, Attribute, Request, Response,
 use Rattle.messages.specs.Bytes.{attributesBytes, requestFields, responseFields, piecesPayload, payloadOf, messageBytes}
 use Rattle.messages.specs.Shown.{headersShown, attributesShown, shownBy}
 use Rattle.messages.proofs.Fine.{FieldsFine, HeadersFine, AttributesFine}
-use Rattle.messages.proofs.Fixed.{boolean-back}
 use Rattle.messages.proofs.Parses.{Parses, coded-kept}
 use Rattle.messages.proofs.FieldsShown.{headers-many}
 use Rattle.messages.proofs.FieldsKept.{Held, held-none, held-join, held-rest, FieldsKept, fields-front, fields-last, string-kept, byte-held, integer-held, boolean-held, HeadersKept, headers-kept, attributes-kept}

@@ -33,7 +33,7 @@ use Rattle.messages.specs.Message.{Request, Response, forward, sendHeade
 use Rattle.messages.specs.Bytes.{headersBytes, attributesBytes, requestFields, responseFields, payloadOf, messageBytes}
 use Rattle.messages.specs.Shown.{headersShown, attributesShown, shownBy, messageShown}
 use Rattle.messages.proofs.Fine.{FieldsFine, HeadersFine, AttributesFine}
-use Rattle.messages.proofs.Fixed.{Ahead, ahead-next, ahead-holds, boolean-back}
+use Rattle.messages.proofs.Fixed.{Ahead, ahead-next, ahead-holds}
 use Rattle.messages.proofs.Tables.{forward-many, forward-table, send-headers-many, send-headers-table}
 use Rattle.messages.proofs.RoundTrip.{Shows}
 use Rattle.messages.proofs.Texts.{textBytes}
@@ -115,7 +115,7 @@ module _ {s : List ℕ} (short : length s ≤ maxPacket) (request : Request) (ow
       (lists .of-headers) many (lists .middle) Declared.Absent (lists .of-length) (lists .headers-there) in
       let attributes =
       attributes-show short (request .attributes) attributes-fine fit (headers .1) (lists .of-attributes) (length s) (lists .attributes-there) in
-      rw (headers .0, attributes, r2 .0, r3 .0, r4 .0, r5 .0, r6 .0, first .0, port .0, ssl .0, boolean-back (request .ssl))
+      rw (headers .0, attributes, r2 .0, r3 .0, r4 .0, r5 .0, r6 .0, first .0, port .0, ssl .0)
 
 -- a Send Headers without fault, behind five bytes
 module _ {s : List ℕ} (short : length s ≤ maxPacket) (response : Response) (own : FieldsFine (responseFields response))
