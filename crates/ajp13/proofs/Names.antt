@@ -23,7 +23,7 @@ use Rattle.ajp13.proofs.Found.{later-told}
 use Rattle.ajp13.proofs.Effects.{number-within}
 
 -- a name with zeros behind it has seventeen bytes
-row-length : (list : NameList) (code : ℕ) → length (rowOf (nameFor list code)) ≡ nameRoom
+pub row-length : (list : NameList) (code : ℕ) → length (rowOf (nameFor list code)) ≡ nameRoom
 row-length list code = rw (length-append, length-replicate) (omega (arith, name-length list code .0))
 
 -- written over seventeen bytes it is what stands there

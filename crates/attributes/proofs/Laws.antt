@@ -22,13 +22,15 @@ use Rattle.names.specs.Attribute.{attributeKind, attributeFault}
 use Rattle.packet.specs.declared.AttributeKind.{AttributeKind}
 use Rattle.places.specs.Entries.{Entries, ended, front, maxAttributes}
 use Rattle.places.proofs.Filling.{Filling, filling-start, filling-turn, filling-stop, filling-end}
-use Rattle.attributes.specs.Private.{setRoom, bit, withBit}
+use Rattle.wire.specs.Bits.{bit}
+use Rattle.wire.proofs.Bits.{bit-none}
+use Rattle.attributes.specs.Private.{setRoom, withBit}
 use Rattle.attributes.specs.Facts.{AttributeInside, AttributesEnd, AttributesInside}
 use Rattle.attributes.specs.declared.ValueRead.{ValueRead}
 use Rattle.attributes.specs.declared.AttributeRead.{AttributeRead}
 use Rattle.attributes.specs.declared.AttributesRead.{AttributesRead}
 use Rattle.attributes.specs.Attributes.{lastMark, textValueOf, textValueAt, integerValueOf, integerValueAt, pairValueOf, pairValueAt, attributeValueAt, withValue, codedAt, attributeAt, attributeThen, attributesAt}
-use Rattle.attributes.proofs.Bits.{bit-none, bit-with}
+use Rattle.attributes.proofs.Bits.{bit-with}
 
 -- a value, by what is read at the place
 module _ (s : List ℕ) (at : ℕ) where

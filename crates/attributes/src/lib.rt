@@ -5,9 +5,9 @@ ghost use mathlib.Core.List.{[]};
 ghost use Prim.Native.Nat.{_+_, _≤_};
 ghost use lib.ListN.{length};
 ghost use Rattle.wire.specs.Bytes.{over};
+ghost use Rattle.wire.specs.Bits.{bit};
 ghost use Rattle.places.specs.Entries.{maxAttributes};
 ghost use Rattle.places.specs.Private.{maxPlace};
-ghost use Rattle.attributes.specs.Private.{bit};
 ghost use Rattle.attributes.specs.Attributes.{textValueAt, integerValueAt, pairValueAt, attributeValueAt, codedAt, attributeAt, attributesAt};
 use names::attribute;
 use packet::AttributeKind;
@@ -15,7 +15,6 @@ use places::MAX_ATTRIBUTES;
 use places::put_pair;
 use wire::StringField;
 use wire::has_room;
-use wire::is_optional;
 use wire::read;
 use wire::read::NumberRead;
 use wire::read::StringRead;
@@ -49,7 +48,7 @@ pub enum AttributesRead {
 fn text_value(packet: &[u8], at: usize) -> ValueRead
     ensures { λ r. ⌜ r ≡ textValueAt (now (packet .entry)) at ⌝ }
 {
-    match read::string(packet, at, is_optional(StringField::AttributeValue)) {
+    match read::string(packet, at, StringField::AttributeValue) {
         StringRead::Refused(n) => ValueRead::Refused(n),
         StringRead::Null { next } => ValueRead::Value { at, next },
         StringRead::Text { start, len, next } => ValueRead::Value { at, next },
@@ -70,7 +69,7 @@ fn integer_value(packet: &[u8], at: usize) -> ValueRead
 fn pair_value(packet: &[u8], at: usize) -> ValueRead
     ensures { λ r. ⌜ r ≡ pairValueAt (now (packet .entry)) at ⌝ }
 {
-    match read::string(packet, at, is_optional(StringField::AttributeName)) {
+    match read::string(packet, at, StringField::AttributeName) {
         StringRead::Refused(n) => ValueRead::Refused(n),
         StringRead::Null { next } => ValueRead::Refused(refusal::STRING_WRONG),
         StringRead::Text { start, len, next } => text_value(packet, next),

@@ -1,6 +1,7 @@
 // The attribute codes that came before, as the bits of a u16. No served code is above 15.
 ghost use mathlib.Core.Path.{_≡_};
-ghost use Rattle.attributes.specs.Private.{bit, withBit};
+ghost use Rattle.wire.specs.Bits.{bit};
+ghost use Rattle.attributes.specs.Private.{withBit};
 
 // The codes that have a bit.
 const BITS: u8 = 16;

@@ -20,7 +20,6 @@ use wire::NULL_LENGTH;
 use wire::StringField;
 use wire::has_room;
 use wire::holds_barred;
-use wire::is_optional;
 use wire::part_of;
 use wire::read;
 use wire::read::NumberRead;
@@ -194,7 +193,7 @@ fn valued(at: usize, next: usize, length: LengthRead) -> HeaderRead
 fn value_at(packet: &[u8], at: usize, declares: bool, before: Declared) -> HeaderRead
     ensures { λ r. ⌜ r ≡ headerValueAt (now (packet .entry)) at declares before ⌝ }
 {
-    match read::string(packet, at, is_optional(StringField::HeaderValue)) {
+    match read::string(packet, at, StringField::HeaderValue) {
         StringRead::Refused(n) => HeaderRead::Refused(n),
         StringRead::Null { next } => {
             valued(

@@ -14,6 +14,7 @@ use Rattle.wire.specs.Refusal.{none, nameWrong}
 use Rattle.wire.specs.Field.{barred, holdsBarred}
 use Rattle.packet.specs.declared.Direction.{Direction}
 use Rattle.wire.proofs.Tests.{both-first, both-second}
+use Rattle.wire.specs.Bits.{bit}
 use Rattle.names.specs.declared.NameList.{NameList}
 use Rattle.names.specs.declared.CodeFound.{CodeFound}
 use Rattle.names.specs.Token.{tokenByte, isToken}
@@ -21,7 +22,7 @@ use Rattle.names.specs.Attribute.{attributeKind, isServed}
 use Rattle.names.specs.Header.{headerNames, isFound, unlistedFault, spelledFault}
 use Rattle.names.specs.Names.{ascii, methodNames, requestNames, responseNames, attributeNames, namesIn, firstCode, ignoresCase, isListed, nameFor, letter, sameName, codeFrom, codeIn}
 use Rattle.names.specs.Row.{nameRoom, padded, nameBytes}
-use Rattle.names.specs.Private.{inSet, hasAll, alphabetPlace}
+use Rattle.names.specs.Private.{hasAll, alphabetPlace}
 use Rattle.names.proofs.Rule.{values, agree}
 use Rattle.names.proofs.Rows.{all-short, name-room}
 use Rattle.names.proofs.Laws.{bytes-padded, same-length, same-first, name-from}
@@ -195,15 +196,15 @@ module _ (list : NameList) (text : List ℕ) where
       told-apart list text (λ (n : ℕ). leb n nameRoom) length (λ name. same-length (ignoresCase list) name text) (all-short list)
       (lt-leb (length text) nameRoom h)
 
-  pub unlisted-length : (set : ℕ) → hasAll set (map length (namesIn list)) ≡ true → inSet set (length text) ≡ false
+  pub unlisted-length : (set : ℕ) → hasAll set (map length (namesIn list)) ≡ true → bit set (length text) ≡ false
       → codeIn list text ≡ CodeFound.NotListed
   unlisted-length set has not-this =
-      told-apart list text (inSet set) length (λ name. same-length (ignoresCase list) name text) has not-this
+      told-apart list text (bit set) length (λ name. same-length (ignoresCase list) name text) has not-this
 
-  pub unlisted-letter : (set : ℕ) → hasAll set (map alphabetPlace (namesIn list)) ≡ true → inSet set (alphabetPlace text) ≡ false
+  pub unlisted-letter : (set : ℕ) → hasAll set (map alphabetPlace (namesIn list)) ≡ true → bit set (alphabetPlace text) ≡ false
       → codeIn list text ≡ CodeFound.NotListed
   unlisted-letter set has not-this =
-      told-apart list text (inSet set) alphabetPlace
+      told-apart list text (bit set) alphabetPlace
       (λ name d. same-first (ignoresCase list) name text
       (λ q. d (sym (letter-place (ignoresCase list) (getD name 0 0))
       ∙ ap (λ (b : ℕ). b % 32) q

@@ -4,10 +4,10 @@
 use mathlib.Core.Path.{_≡_}
 use mathlib.Core.Bool.{Bool, false}
 use mathlib.Core.List.{List, _++_, map}
-use Prim.Native.Nat.{ℕ, _-_, _/_, _%_, _^_, _<_}
-use lib.Dec.{eqb}
+use Prim.Native.Nat.{ℕ, _-_, _%_, _<_}
 use lib.ListN.{length, getD, replicate}
 use Rattle.wire.specs.Pick.{all}
+use Rattle.wire.specs.Bits.{bit}
 use Rattle.names.specs.declared.NameList.{NameList}
 use Rattle.names.specs.Names.{namesIn, ignoresCase, letter}
 use Rattle.names.specs.Token.{tokenByte}
@@ -28,13 +28,9 @@ firstOf ignoring text = letter ignoring (getD text 0 0)
 abbrev pub firstsIn : NameList → List ℕ
 firstsIn list = map (firstOf (ignoresCase list)) (namesIn list) ++ replicate (mostNames - length (namesIn list)) 0
 
--- numbers below 32 as the bits of a number: bit n says whether n is in the set
-unfoldable pub inSet : ℕ → ℕ → Bool
-inSet set n = eqb (set / 2 ^ n % 2) 1
-
--- a set that has all of these
+-- a set, as the bits of a number, that has all of these
 abbrev pub hasAll : ℕ → List ℕ → Bool
-hasAll set numbers = all (inSet set) numbers
+hasAll set numbers = all (bit set) numbers
 
 -- the place of a text's first letter in the alphabet, the same for a capital and a small one
 abbrev pub alphabetPlace : List ℕ → ℕ

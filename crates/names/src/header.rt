@@ -4,7 +4,8 @@ ghost use mathlib.Core.Bool.{true, false};
 ghost use mathlib.Core.List.{map};
 ghost use Prim.Native.Nat.{_<_};
 ghost use lib.ListN.{length};
-ghost use Rattle.names.specs.Private.{TokenFlags, inSet, hasAll, alphabetPlace};
+ghost use Rattle.wire.specs.Bits.{bit};
+ghost use Rattle.names.specs.Private.{TokenFlags, hasAll, alphabetPlace};
 ghost use Rattle.names.specs.Names.{namesIn, codeIn};
 ghost use Rattle.names.specs.Header.{beginsCode, headerNames, codeFault, isFound, isTransferEncoding, unlistedFault, spelledFault};
 use crate::CodeFound;
@@ -71,7 +72,7 @@ const BITS: u8 = 32;
 // Whether a number is in a set.
 fn in_set(set: u32, n: u8) -> bool
     requires { ⌜ n < 32 ⌝ }
-    ensures { λ r. ⌜ r ≡ inSet set n ⌝ }
+    ensures { λ r. ⌜ r ≡ bit set n ⌝ }
 {
     (set >> n) & 1 == 1
 }

@@ -7,7 +7,6 @@ use packet::Place;
 use wire::AFTER_CODE_PLACE;
 use wire::CODE_PLACE;
 use wire::StringField;
-use wire::is_optional;
 use wire::read;
 use wire::read::BooleanRead;
 use wire::read::NumberRead;
@@ -44,7 +43,7 @@ pub fn string_after(packet: &[u8], field: StringField, before: FieldRead) -> Fie
 fn string_at(packet: &[u8], field: StringField, place: usize) -> FieldRead
     ensures { λ r. ⌜ r ≡ stringFieldAt (now (packet .entry)) field place ⌝ }
 {
-    match read::string(packet, place, is_optional(field)) {
+    match read::string(packet, place, field) {
         StringRead::Refused(n) => FieldRead::Refused(n),
         StringRead::Null { next } => FieldRead::Field {
             at: place,

@@ -8,3 +8,4 @@ pub mod RoundTrip
 pub mod Parts
 pub mod Blocks
 pub mod Refusals
+pub mod Bits

@@ -4,3 +4,4 @@ pub mod Bytes
 pub mod Field
 pub mod Packet
 pub mod Facts
+pub mod Bits

@@ -1,9 +1,11 @@
 // Reads a field at a place of a packet.
 ghost use mathlib.Core.Path.{_≡_};
-ghost use Rattle.wire.specs.Field.{byteAt, integerAt, booleanAt, textAt, afterLength, stringAt};
+ghost use Rattle.wire.specs.Field.{byteAt, integerAt, booleanAt, textAt, afterLength, stringAt, isOptional};
 use crate::NULL_LENGTH;
+use crate::StringField;
 use crate::has_room;
 use crate::holds_barred;
+use crate::is_optional;
 use crate::lacks;
 use crate::part_of;
 use crate::refusal;
@@ -81,13 +83,13 @@ pub fn boolean(packet: &[u8], at: usize) -> BooleanRead
     }
 }
 
-// The string at a place; null and empty are refused unless the field is optional.
-pub fn string(packet: &[u8], at: usize, optional: bool) -> StringRead
-    ensures { λ r. ⌜ r ≡ stringAt (now (packet .entry)) at optional ⌝ }
+// The string of a field at a place; null and empty are refused unless the field is optional.
+pub fn string(packet: &[u8], at: usize, field: StringField) -> StringRead
+    ensures { λ r. ⌜ r ≡ stringAt (now (packet .entry)) at (isOptional field) ⌝ }
 {
     match integer(packet, at) {
         NumberRead::Refused(n) => StringRead::Refused(n),
-        NumberRead::Number { value, next } => after_length(packet, optional, value, next),
+        NumberRead::Number { value, next } => after_length(packet, is_optional(field), value, next),
     }
 }
 

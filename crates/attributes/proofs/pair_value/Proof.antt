@@ -1,15 +1,10 @@
 -- `attributes::pair_value` meets its contract, by what the first string reads as.
 -- Assumes nothing.
 use borrow.Author.Needs.{needs}
-use mathlib.Core.Path.{_≡_, sym, ap, _∙_}
-use Rattle.wire.specs.Field.{stringAt, isOptional}
-use Rattle.wire.specs.declared.StringField.{StringField}
+use mathlib.Core.Path.{sym, _∙_}
 use Rattle.attributes.proofs.Laws.{pair-value}
 use Rattle.attributes.proofs.pair_value.Statement.{statement}
 use Rattle.attributes.proofs.pair_value.Tie as tie
-
-is-optional-requires : tie.Need-is-optional-requires
-is-optional-requires c κs = search needs
 
 string-requires : tie.Need-string-requires
 string-requires c κs = search needs
@@ -26,28 +21,20 @@ enum-known-start c = search needs
 text-value-requires : tie.Need-text-value-requires
 text-value-requires c κs = search needs
 
--- the string that is read
-read : (c : tie.After-string) → let a = c .before .before .before .args in
-    stringAt (a .packet .now) (a .at) (isOptional StringField.AttributeName) ≡ c .string .result
-read c =
-    let a = c .before .before .before .args in
-    sym (c .string .ensures ∙ ap (stringAt (a .packet .now) (a .at)) (c .before .is-optional .ensures))
-
 returns : tie.Need-returns
-returns c = sym (pair-value _ _ _ (read (c .before .before .before) ∙ c .before .n .given .1))
+returns c = sym (pair-value _ _ _ (sym (c .before .before .before .string .ensures) ∙ c .before .n .given .1))
 
 returns-2 : tie.Need-returns-2
-returns-2 c = sym (pair-value _ _ _ (read (c .before .before .before) ∙ c .before .next .given .1))
+returns-2 c = sym (pair-value _ _ _ (sym (c .before .before .before .string .ensures) ∙ c .before .next .given .1))
 
 returns-3 : tie.Need-returns-3
 returns-3 c =
-    c .text-value .ensures ∙ sym (pair-value _ _ _ (read (c .before .before .before .before) ∙ c .before .before .start .given .1))
+    c .text-value .ensures ∙ sym (pair-value _ _ _ (sym (c .before .before .before .before .string .ensures) ∙ c .before .before .start .given .1))
 
 pub pair-value-spec : {M : Type 1} → statement M
 pair-value-spec =
     tie.close
     (tie.spec
-    is-optional-requires
     string-requires
     enum-known-n
     enum-known-next

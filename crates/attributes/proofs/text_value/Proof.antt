@@ -1,15 +1,10 @@
 -- `attributes::text_value` meets its contract, by what the string reads as.
 -- Assumes nothing.
 use borrow.Author.Needs.{needs}
-use mathlib.Core.Path.{_≡_, sym, ap, _∙_}
-use Rattle.wire.specs.Field.{stringAt, isOptional}
-use Rattle.wire.specs.declared.StringField.{StringField}
+use mathlib.Core.Path.{sym, _∙_}
 use Rattle.attributes.proofs.Laws.{text-value}
 use Rattle.attributes.proofs.text_value.Statement.{statement}
 use Rattle.attributes.proofs.text_value.Tie as tie
-
-is-optional-requires : tie.Need-is-optional-requires
-is-optional-requires c κs = search needs
 
 string-requires : tie.Need-string-requires
 string-requires c κs = search needs
@@ -23,27 +18,19 @@ enum-known-next c = search needs
 enum-known-start : tie.Need-enum-known-start
 enum-known-start c = search needs
 
--- the string that is read
-read : (c : tie.After-string) → let a = c .before .before .before .args in
-    stringAt (a .packet .now) (a .at) (isOptional StringField.AttributeValue) ≡ c .string .result
-read c =
-    let a = c .before .before .before .args in
-    sym (c .string .ensures ∙ ap (stringAt (a .packet .now) (a .at)) (c .before .is-optional .ensures))
-
 returns : tie.Need-returns
-returns c = sym (text-value _ _ _ (read (c .before .before .before) ∙ c .before .n .given .1))
+returns c = sym (text-value _ _ _ (sym (c .before .before .before .string .ensures) ∙ c .before .n .given .1))
 
 returns-2 : tie.Need-returns-2
-returns-2 c = sym (text-value _ _ _ (read (c .before .before .before) ∙ c .before .next .given .1))
+returns-2 c = sym (text-value _ _ _ (sym (c .before .before .before .string .ensures) ∙ c .before .next .given .1))
 
 returns-3 : tie.Need-returns-3
-returns-3 c = sym (text-value _ _ _ (read (c .before .before .before) ∙ c .before .start .given .1))
+returns-3 c = sym (text-value _ _ _ (sym (c .before .before .before .string .ensures) ∙ c .before .start .given .1))
 
 pub text-value-spec : {M : Type 1} → statement M
 text-value-spec =
     tie.close
     (tie.spec
-    is-optional-requires
     string-requires
     enum-known-n
     enum-known-next

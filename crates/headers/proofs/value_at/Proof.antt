@@ -1,16 +1,13 @@
 -- `headers::value_at` meets its contract, by what the value's string reads as.
 -- Assumes nothing.
 use borrow.Author.Needs.{needs}
-use mathlib.Core.Path.{_≡_, sym, ap, _∙_}
+use mathlib.Core.Path.{_≡_, refl, sym, ap, _∙_}
 use mathlib.Core.Bool.{true, false}
 use Rattle.wire.specs.declared.read.StringRead.{StringRead}
 use Rattle.headers.specs.Headers.{declaredAfter, headerValued, headerValueOf, headerValueAt}
 use Rattle.headers.proofs.Laws.{value-is, part-none}
 use Rattle.headers.proofs.value_at.Statement.{statement}
 use Rattle.headers.proofs.value_at.Tie as tie
-
-is-optional-requires : tie.Need-is-optional-requires
-is-optional-requires c κs = search needs
 
 string-requires : tie.Need-string-requires
 string-requires c κs = search needs
@@ -43,9 +40,9 @@ valued-requires-2 : tie.Need-valued-requires-2
 valued-requires-2 c κs = search needs
 
 -- the value, by what its string reads as
-read : (c : tie.After-string) (r : StringRead) → c .string .result ≡ r → let a = c .before .before .before .args in
+read : (c : tie.After-string) (r : StringRead) → c .string .result ≡ r → let a = c .before .before .args in
     headerValueOf (a .packet .now) (a .at) (a .declares) (a .before) r ≡ headerValueAt (a .packet .now) (a .at) (a .declares) (a .before)
-read c r e = value-is _ _ _ _ _ r (c .before .is-optional .ensures) (sym (c .string .ensures) ∙ e)
+read c r e = value-is _ _ _ _ _ r refl (sym (c .string .ensures) ∙ e)
 
 returns : tie.Need-returns
 returns c = read (c .before .before .before) (StringRead.Refused _) (c .before .n .given .1)
@@ -53,7 +50,7 @@ returns c = read (c .before .before .before) (StringRead.Refused _) (c .before .
 returns-2 : tie.Need-returns-2
 returns-2 c =
     let call = c .before .before .before .before .before .before in
-    let a = call .before .before .before .args in
+    let a = call .before .before .args in
     c .valued .ensures
     ∙ ap (headerValued (a .at) _)
     (c .before .declared-after .ensures
@@ -63,7 +60,7 @@ returns-2 c =
 returns-3 : tie.Need-returns-3
 returns-3 c =
     let call = c .before .before .before .before .before .before in
-    let a = call .before .before .before .args in
+    let a = call .before .before .args in
     c .valued2 .ensures
     ∙ ap (headerValued (a .at) _)
     (c .before .declared-after2 .ensures ∙ ap (declaredAfter (a .declares) (a .before) false) (c .before .before .part-of2 .ensures))
@@ -73,7 +70,6 @@ pub value-at-spec : {M : Type 1} → statement M
 value-at-spec =
     tie.close
     (tie.spec
-    is-optional-requires
     string-requires
     enum-known-n
     enum-known-next

@@ -27,7 +27,7 @@ number-in-requires c κs =
 
 put-name-requires : tie.Need-put-name-requires
 put-name-requires c κs =
-    let fine = c .before .before .before .before in
+    let fine = c .before .before .before in
     name-fine _ _ _ (fine .before .name-fault .ensures) (fine .if1 .left) .0
 
 same-length-2 : tie.Need-same-length-2

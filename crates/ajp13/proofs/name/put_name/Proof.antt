@@ -7,6 +7,8 @@ use mathlib.Core.Bool.{true, false}
 use Rattle.names.specs.Names.{isListed}
 use Rattle.packet.specs.declared.Name.{Name}
 use Rattle.names.proofs.Codes.{name-length}
+use Rattle.ajp13.proofs.Names.{row-length}
+use lib.ListN.{length}
 use borrow.Author.Needs.{needs}
 use Rattle.ajp13.proofs.name.put_name.Statement.{statement}
 use Rattle.ajp13.proofs.name.put_name.Tie as tie
@@ -26,7 +28,12 @@ slice-aggregate-bytes : tie.Need-slice-aggregate-bytes
 slice-aggregate-bytes c = search needs
 
 bytes-requires : tie.Need-bytes-requires
-bytes-requires c κs = search needs
+bytes-requires c κs =
+    let told = c .before .before .before .before .before .before in
+    let start = told .before .before in
+    let is = ap (λ (n : Name). length (n .bytes)) (told .name-of .ensures) in
+    let long = row-length (start .args .list) (start .args .code) in
+    (omega (arith, start .pre, is, long), omega (arith, is, long))
 
 same-length : tie.Need-same-length
 same-length c = search needs

@@ -3,7 +3,7 @@
 use borrow.Author.Needs.{needs}
 use Rattle.wire.specs.Pick.{all}
 use Rattle.names.specs.Names.{requestNames, responseNames}
-use Rattle.names.specs.Private.{inSet}
+use Rattle.wire.specs.Bits.{bit}
 use Rattle.names.proofs.header.letters_of.Statement.{statement}
 use Rattle.names.proofs.header.letters_of.Tie as tie
 
@@ -14,11 +14,11 @@ enum-told-2 : tie.Need-enum-told-2
 enum-told-2 c = search needs
 
 returns : tie.Need-returns
-unfolding all inSet requestNames
+unfolding all bit requestNames
 returns c = rw (c .enum-told .given .1)
 
 returns-2 : tie.Need-returns-2
-unfolding all inSet responseNames
+unfolding all bit responseNames
 returns-2 c = rw (c .enum-told2 .given .1)
 
 pub letters-of-spec : {M : Type 1} → statement M
