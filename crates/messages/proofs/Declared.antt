@@ -33,7 +33,7 @@ use Rattle.packet.specs.declared.Packet.{Packet}
 use Rattle.payload.specs.Forward.{forwardAt}
 use Rattle.payload.specs.Kinds.{packetAt, packetKind}
 use Rattle.payload.specs.declared.found.PacketRead.{PacketRead}
-use Rattle.payload.specs.Handed.{NameEnds, declaringRead, HeadersHanded}
+use Rattle.payload.specs.Handed.{NameEnds, declaresRead, HeadersHanded}
 use Rattle.payload.proofs.Handed.{NameFine, name-fine, forward-handed}
 use Rattle.reader.specs.Meaning.{accepted, bodyDeclared}
 use Rattle.reader.specs.Reading.{reading, tableAfter}
@@ -161,11 +161,11 @@ declared-makes (Declared.Known n) value true after e = absurd (let z : _≡_ {A 
 
 -- a name that was read is shown as content-length exactly where reading takes its value for the length
 name-declares : (s : List ℕ) (at end : ℕ) → NameEnds end (nameAt Direction.ToContainer s at)
-    → declaringRead Direction.ToContainer (nameAt Direction.ToContainer s at) ≡ namesLength (nameShown s at)
+    → declaresRead Direction.ToContainer (nameAt Direction.ToContainer s at) ≡ namesLength (nameShown s at)
 name-declares s at end = go (nameAt Direction.ToContainer s at) refl (name-fine Direction.ToContainer s at)
   where
     go : (r : NameRead) → nameAt Direction.ToContainer s at ≡ r → NameFine Direction.ToContainer s at r → NameEnds end r
-        → declaringRead Direction.ToContainer r ≡ namesLength (nameShown s at)
+        → declaresRead Direction.ToContainer r ≡ namesLength (nameShown s at)
     go (NameRead.Refused n) e fine ends = absurd ends
     go (NameRead.Code code next) e fine ends =
         let shown : nameShown s at ≡ coded code = rw (code-shown Direction.ToContainer s at code next e) in
@@ -200,7 +200,7 @@ headers-make s at Declared.Absent [] end after h = sym (h .1)
 headers-make s at (Declared.Known n) [] end after h = (sym (h .1), refl)
 headers-make s at before (p ∷ []) end after h = absurd h
 headers-make s at before (p ∷ q ∷ rest) end after (next, place, named, there, declared, now, later) =
-    let is : Bool = declaringRead Direction.ToContainer (nameAt Direction.ToContainer s p) in
+    let is : Bool = declaresRead Direction.ToContainer (nameAt Direction.ToContainer s p) in
     let made : Makes before declared (textShown s q) (namesLength (nameShown s p)) =
     subst (Makes before declared (textShown s q)) (name-declares s p q named)
     (declared-makes before (textShown s q) is declared (declares-shown s q next is before declared there now)) in

@@ -56,7 +56,7 @@ use Rattle.payload.specs.Lists.{headersAfter, listsOf, attributesBehind,
 use Rattle.payload.specs.Forward.{firstMethod, lastMethod, forwardReads, forwardOf, forwardAt}
 use Rattle.payload.specs.SendHeaders.{leastStatus, greatestStatus, sendHeadersReads, sendHeadersOf, sendHeadersAt}
 use Rattle.payload.specs.Kinds.{packetAt, packetKind}
-use Rattle.payload.specs.Handed.{StringEnds, NumberEnds, NameEnds, StringThere, declaringRead, readNull, readBytes, DeclaresThen, HeadersHanded, ValueThere, AttributesHanded, ListsHanded, ForwardHanded, SendHeadersHanded, BodyHanded, ChunkHanded, GetHanded, EndHanded, BareHanded, PacketHanded}
+use Rattle.payload.specs.Handed.{StringEnds, NumberEnds, NameEnds, StringThere, declaresRead, readNull, readBytes, DeclaresThen, HeadersHanded, ValueThere, AttributesHanded, ListsHanded, ForwardHanded, SendHeadersHanded, BodyHanded, ChunkHanded, GetHanded, EndHanded, BareHanded, PacketHanded}
 use Rattle.payload.proofs.Below.{attributes-many, attributes-few}
 use Rattle.payload.proofs.Listing.{HeadersPlaces, headers-places}
 use Rattle.payload.proofs.Parsed.{parsed-kind}
@@ -71,23 +71,23 @@ HeaderThere d s name before (HeaderRead.Header value after next) =
 
 -- a header whose name ends where its value is read
 value-there : (d : Direction) (s : List ℕ) (name : NameRead) (value : ℕ) (before : Declared) → NameEnds value name
-    → HeaderThere d s name before (headerValueAt s value (declaringRead d name) before)
+    → HeaderThere d s name before (headerValueAt s value (declaresRead d name) before)
 unfolding headerValueAt
 value-there d s name value before named = go (stringAt s value (isOptional StringField.HeaderValue)) refl
   where
     by : (next : ℕ) (v : StringRead) → stringAt s value (isOptional StringField.HeaderValue) ≡ v → StringEnds next v
-        → (r : LengthRead) → declaredAfter (declaringRead d name) before (readNull v) (readBytes s v) ≡ r
+        → (r : LengthRead) → declaredAfter (declaresRead d name) before (readNull v) (readBytes s v) ≡ r
         → HeaderThere d s name before (headerValued value next r)
     by next v e h (LengthRead.Refused n) q = tt
     by next v e h (LengthRead.Now after) q =
         (named, subst (StringEnds next) (sym e) h, subst (λ (v : StringRead). DeclaresThen d s before name v after) (sym e) q)
 
     go : (v : StringRead) → stringAt s value (isOptional StringField.HeaderValue) ≡ v
-        → HeaderThere d s name before (headerValueOf s value (declaringRead d name) before v)
+        → HeaderThere d s name before (headerValueOf s value (declaresRead d name) before v)
     go (StringRead.Refused n) e = tt
-    go (StringRead.Null next) e = by next (StringRead.Null next) e refl (declaredAfter (declaringRead d name) before true []) refl
+    go (StringRead.Null next) e = by next (StringRead.Null next) e refl (declaredAfter (declaresRead d name) before true []) refl
     go (StringRead.Text start len next) e =
-        by next (StringRead.Text start len next) e refl (declaredAfter (declaringRead d name) before false (part s start len)) refl
+        by next (StringRead.Text start len next) e refl (declaredAfter (declaresRead d name) before false (part s start len)) refl
 
 -- a header, where it is read at a place
 header-there : (d : Direction) (s : List ℕ) (at : ℕ) (before : Declared) → HeaderThere d s (nameAt d s at) before (headerAt d s at before)

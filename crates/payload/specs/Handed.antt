@@ -55,10 +55,10 @@ abbrev pub StringThere : List ℕ → StringField → ℕ → ℕ → Type 0
 StringThere s field at end = StringEnds end (stringAt s at (isOptional field))
 
 -- whether a name that is read is the one whose value declares the length of the body
-abbrev pub declaringRead : Direction → NameRead → Bool
-declaringRead d (NameRead.Refused n) = false
-declaringRead d (NameRead.Code code next) = declares d code
-declaringRead d (NameRead.Spelled start len next) = false
+abbrev pub declaresRead : Direction → NameRead → Bool
+declaresRead d (NameRead.Refused n) = false
+declaresRead d (NameRead.Code code next) = declares d code
+declaresRead d (NameRead.Spelled start len next) = false
 
 -- whether a string that is read is null
 abbrev pub readNull : StringRead → Bool
@@ -74,7 +74,7 @@ readBytes s (StringRead.Text start len next) = part s start len
 
 -- after a header with this name and this value that much is declared
 abbrev pub DeclaresThen : Direction → List ℕ → Declared → NameRead → StringRead → Declared → Type 0
-DeclaresThen d s before name value after = declaredAfter (declaringRead d name) before (readNull value) (readBytes s value) ≡ LengthRead.Now after
+DeclaresThen d s before name value after = declaredAfter (declaresRead d name) before (readNull value) (readBytes s value) ≡ LengthRead.Now after
 
 -- headers are read from a place to another, with these places for their names and values: the name at the first, the value where the name
 -- ends, the next header where the value ends; and what is declared before them becomes, header by header, what is declared after them

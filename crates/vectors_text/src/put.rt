@@ -6,7 +6,6 @@ use crate::text::after;
 use crate::text::field;
 use connection::Connection;
 use connection::State;
-use wire::write;
 
 pub fn text(out: &mut [u8], at: usize, s: &[u8]) -> usize {
     let n = s.len();
@@ -16,7 +15,9 @@ pub fn text(out: &mut [u8], at: usize, s: &[u8]) -> usize {
     if out.len() - n < at {
         return out.len();
     }
-    write::bytes(out, at, s);
+    for i in 0..n {
+        out[at + i] = s[i];
+    }
     at + n
 }
 
