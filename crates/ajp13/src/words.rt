@@ -199,10 +199,15 @@ pub fn connection_in(words: &[u32]) -> Connection
     requires { ⌜ ConnectionFits (now words) ⌝ }
     ensures { λ r. ⌜ r ≡ connectionIn (now (words .entry)) ⌝ }
 {
-    Connection::rest(state_in(words[STATE]))
-        .with_left(BodyLeft(words[LEFT]))
-        .with_due(flag_in(words[DUE]), number_in(words[ASKED]))
-        .with_headers(flag_in(words[HEADERS_SENT]))
+    let state = words[STATE];
+    let left = words[LEFT];
+    let due = words[DUE];
+    let asked = words[ASKED];
+    let headers = words[HEADERS_SENT];
+    Connection::rest(state_in(state))
+        .with_left(BodyLeft(left))
+        .with_due(flag_in(due), number_in(asked))
+        .with_headers(flag_in(headers))
 }
 
 // The words of a connection.
