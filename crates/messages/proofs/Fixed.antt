@@ -1,5 +1,5 @@
--- The fixed fields of a Forward or a Send Headers that were written: reading refuses them with their first fault. Each is read where the one
--- before it ends, and is judged as the piece judges it.
+-- The fixed fields of a Forward or a Send Headers that were written: reading refuses them with their first fault, and without one it reads each
+-- where the one before it ends, with its value. Each is judged as the piece judges it.
 -- Assumes nothing.
 use native.Mathlib.Omega.{arith}
 use borrow.Author.Tests.{le-leb, ne-eqb}
@@ -22,13 +22,14 @@ use Rattle.connection.specs.Connection.{maxPacket}
 use Rattle.places.specs.Entries.{ended, ending, maxHeaders}
 use Rattle.payload.specs.Sequence.{afterCode, behind, stringAsField, stringFieldAt, stringAfter, booleanAsField, booleanFieldAt, booleanAfter, numberAsField, byteAfter, anyIntegerAfter, integerAfter, bounded}
 use Rattle.payload.specs.Lists.{headersAfter, listsAt}
-use Rattle.payload.specs.Forward.{firstMethod, lastMethod, forwardReads, forwardOf, forwardAt}
-use Rattle.payload.specs.SendHeaders.{leastStatus, greatestStatus, sendHeadersReads, sendHeadersOf, sendHeadersAt}
+use Rattle.payload.specs.Forward.{firstMethod, lastMethod, ForwardReads, forwardReads, forwardOf, forwardAt}
+use Rattle.payload.specs.SendHeaders.{leastStatus, greatestStatus, SendHeadersReads, sendHeadersReads, sendHeadersOf, sendHeadersAt}
 use Rattle.payload.specs.declared.field.FieldRead.{FieldRead}
 use Rattle.payload.specs.declared.found.PacketRead.{PacketRead}
 use Rattle.building.specs.Fault.{unless, orElse, firstFault, stringFault, rangeFault}
 use Rattle.building.specs.Field.{opening, faultsOf}
 use Rattle.building.proofs.Sizes.{boolean-one}
+use Rattle.building.proofs.Faults.{faultless}
 use Rattle.building_record.specs.Record.{builtKind}
 use Rattle.pieces.specs.Fixed.{fixed, sendHeadersFields, forwardFields}
 use Rattle.building_record.specs.declared.BuildingKind.{BuildingKind}
@@ -174,51 +175,142 @@ pub opening-five : (kind : BuildingKind) (n : ℕ) → length (opening (builtKin
 opening-five BuildingKind.Forward n = refl
 opening-five BuildingKind.SendHeaders n = refl
 
--- the fixed fields of a Send Headers, behind an opening, and a count of headers: they are refused with their first fault
-pub send-headers-judged : (a b : List ℕ) (status : ℕ) (null : Bool) (message : List ℕ) (count : ℕ) → length a ≡ afterCodePlace → status < 65536
-    → length message ≤ maxPacket → count ≤ maxHeaders
-    → (firstFault (faultsOf (fixed BuildingKind.SendHeaders (sendHeadersFields status null message))) ≡ 0 → ⊥)
-    → sendHeadersAt (among a (sendHeadersFields status null message) (integerBytes count ++ b))
-    ≡ ended (PacketRead.Refused (firstFault (faultsOf (fixed BuildingKind.SendHeaders (sendHeadersFields status null message)))))
-unfolding sendHeadersAt sendHeadersReads headersAfter
-send-headers-judged a b status null message count opened small short few bad =
-    let g : ℕ = firstFault (faultsOf (fixed BuildingKind.SendHeaders (sendHeadersFields status null message))) in
-    let y : List ℕ = stringBytes null message in
-    let tail : List ℕ = integerBytes count ++ b in
-    let s : List ℕ = among a (sendHeadersFields status null message) tail in
-    let r1 = integer-reads (y ++ tail) leastStatus greatestStatus status (reads-start s a (integerBytes status ++ (y ++ tail)) opened (simp append-assoc)) small in
-    let r2 = string-reads tail StringField.Message null message r1 short in
-    let r3 = count-reads b maxHeaders tooMany count r2 few (omega arith) in
-    let refused : sendHeadersReads s .headers ≡ FieldRead.Refused g = rw (ne-eqb g 0 bad) at (r3 .is) in
-    ap (λ (count : FieldRead). ending (sendHeadersOf (length s) (sendHeadersReads s)) (headersAfter Direction.ToServer s count)) refused
+-- a field with a value and so many bytes, behind another one
+abbrev pub reached : ℕ → ℕ → FieldRead → FieldRead
+reached value size = behind (λ at. FieldRead.Field at value (at + size))
 
--- and so are those of a Forward
-pub forward-judged : (a b : List ℕ) (numbers : Numbers) (nulls : Nulls) (protocol uri addr host name : List ℕ) (count : ℕ) → length a ≡ afterCodePlace
-    → numbers .«server_port» < 65536 → count ≤ maxHeaders → length protocol ≤ maxPacket → length uri ≤ maxPacket → length addr ≤ maxPacket
-    → length host ≤ maxPacket → length name ≤ maxPacket
-    → (firstFault (faultsOf (fixed BuildingKind.Forward (forwardFields numbers nulls protocol uri addr host name))) ≡ 0 → ⊥)
-    → forwardAt (among a (forwardFields numbers nulls protocol uri addr host name) (integerBytes count ++ b))
-    ≡ ended (PacketRead.Refused (firstFault (faultsOf (fixed BuildingKind.Forward (forwardFields numbers nulls protocol uri addr host name)))))
-unfolding forwardAt forwardReads listsAt headersAfter
-forward-judged a b numbers nulls protocol uri addr host name count opened port few protocol-short uri-short addr-short host-short name-short bad =
-    let g : ℕ = firstFault (faultsOf (fixed BuildingKind.Forward (forwardFields numbers nulls protocol uri addr host name))) in
-    let s : List ℕ = among a (forwardFields numbers nulls protocol uri addr host name) (integerBytes count ++ b) in
-    let t8 : List ℕ = integerBytes count ++ b in
-    let t7 : List ℕ = booleanBytes (numbers .«is_ssl») ++ t8 in
-    let t6 : List ℕ = integerBytes (numbers .«server_port») ++ t7 in
-    let t5 : List ℕ = stringBytes (nulls .«server_name») name ++ t6 in
-    let t4 : List ℕ = stringBytes (nulls .«remote_host») host ++ t5 in
-    let t3 : List ℕ = stringBytes (nulls .«remote_addr») addr ++ t4 in
-    let t2 : List ℕ = stringBytes (nulls .«req_uri») uri ++ t3 in
-    let t1 : List ℕ = stringBytes (nulls .protocol) protocol ++ t2 in
-    let r1 = byte-reads t1 firstMethod lastMethod (numbers .method) (reads-start s a (numbers .method ∷ t1) opened (simp append-assoc)) in
-    let r2 = string-reads t2 StringField.Protocol (nulls .protocol) protocol r1 protocol-short in
-    let r3 = string-reads t3 StringField.ReqUri (nulls .«req_uri») uri r2 uri-short in
-    let r4 = string-reads t4 StringField.RemoteAddr (nulls .«remote_addr») addr r3 addr-short in
-    let r5 = string-reads t5 StringField.RemoteHost (nulls .«remote_host») host r4 host-short in
-    let r6 = string-reads t6 StringField.ServerName (nulls .«server_name») name r5 name-short in
-    let r7 = any-integer-reads t7 (numbers .«server_port») r6 port in
-    let r8 = boolean-reads t8 (numbers .«is_ssl») r7 in
-    let r9 = count-reads b maxHeaders tooMany count r8 few (omega arith) in
-    let refused : forwardReads s .headers ≡ FieldRead.Refused g = rw (ne-eqb g 0 bad) at (r9 .is) in
-    ap (λ (count : FieldRead). ending (forwardOf (forwardReads s)) (listsAt s count)) refused
+-- the fixed fields of a Send Headers, behind an opening, and a count of headers
+module _ (a b : List ℕ) (status : ℕ) (null : Bool) (message : List ℕ) (count : ℕ) (opened : length a ≡ afterCodePlace) (small : status < 65536)
+    (short : length message ≤ maxPacket) (few : count ≤ maxHeaders) where
+  -- each is read by the first fault up to it
+  send-headers-by : (
+      let s = among a (sendHeadersFields status null message) (integerBytes count ++ b) in
+      let g1 = rangeFault leastStatus greatestStatus status in
+      let g2 = orElse g1 (stringFault StringField.Message null message) in
+      let n = afterCodePlace + 2 + length (stringBytes null message) in
+      sendHeadersReads s ≡ record {
+        status = fieldUnless g1 afterCodePlace status (afterCodePlace + 2);
+        message = fieldUnless g2 (afterCodePlace + 2) 0 n;
+        headers = fieldUnless (orElse g2 0) n count (n + 2);
+      })
+  unfolding sendHeadersReads
+  send-headers-by =
+      let y : List ℕ = stringBytes null message in
+      let tail : List ℕ = integerBytes count ++ b in
+      let s : List ℕ = among a (sendHeadersFields status null message) tail in
+      let r1 = integer-reads (y ++ tail) leastStatus greatestStatus status (reads-start s a (integerBytes status ++ (y ++ tail)) opened (simp append-assoc)) small in
+      let r2 = string-reads tail StringField.Message null message r1 short in
+      let r3 = count-reads b maxHeaders tooMany count r2 few (omega arith) in
+      rw (r3 .is, r2 .is, r1 .is)
+
+  -- they are refused with their first fault
+  pub send-headers-judged : (firstFault (faultsOf (fixed BuildingKind.SendHeaders (sendHeadersFields status null message))) ≡ 0 → ⊥)
+      → sendHeadersAt (among a (sendHeadersFields status null message) (integerBytes count ++ b))
+      ≡ ended (PacketRead.Refused (firstFault (faultsOf (fixed BuildingKind.SendHeaders (sendHeadersFields status null message)))))
+  unfolding sendHeadersAt headersAfter
+  send-headers-judged bad =
+      let g : ℕ = firstFault (faultsOf (fixed BuildingKind.SendHeaders (sendHeadersFields status null message))) in
+      let s : List ℕ = among a (sendHeadersFields status null message) (integerBytes count ++ b) in
+      let refused : sendHeadersReads s .headers ≡ FieldRead.Refused g =
+      rw (ne-eqb g 0 bad) at (ap (λ (reads : SendHeadersReads). reads .headers) send-headers-by) in
+      ap (λ (count : FieldRead). ending (sendHeadersOf (length s) (sendHeadersReads s)) (headersAfter Direction.ToServer s count)) refused
+
+  -- and where there is none each is read where it is, with its value
+  pub send-headers-read : firstFault (faultsOf (fixed BuildingKind.SendHeaders (sendHeadersFields status null message))) ≡ 0
+      → (
+      let f1 = FieldRead.Field afterCodePlace status (afterCodePlace + 2) in
+      let f2 = reached 0 (length (stringBytes null message)) f1 in
+      sendHeadersReads (among a (sendHeadersFields status null message) (integerBytes count ++ b))
+      ≡ record { status = f1; message = f2; headers = reached count 2 f2 })
+  send-headers-read fine =
+      let none = faultless (faultsOf (fixed BuildingKind.SendHeaders (sendHeadersFields status null message))) fine in
+      rw (none .1 .0, none .1 .1 .0) at send-headers-by
+
+-- the fixed fields of a Forward, behind an opening, and a count of headers
+module _ (a b : List ℕ) (numbers : Numbers) (nulls : Nulls) (protocol uri addr host name : List ℕ) (count : ℕ) (opened : length a ≡ afterCodePlace)
+    (port : numbers .«server_port» < 65536) (few : count ≤ maxHeaders) (protocol-short : length protocol ≤ maxPacket) (uri-short : length uri ≤ maxPacket)
+    (addr-short : length addr ≤ maxPacket) (host-short : length host ≤ maxPacket) (name-short : length name ≤ maxPacket) where
+  -- each is read by the first fault up to it
+  forward-by : (
+      let g1 = rangeFault firstMethod lastMethod (numbers .method) in
+      let g2 = orElse g1 (stringFault StringField.Protocol (nulls .protocol) protocol) in
+      let g3 = orElse g2 (stringFault StringField.ReqUri (nulls .«req_uri») uri) in
+      let g4 = orElse g3 (stringFault StringField.RemoteAddr (nulls .«remote_addr») addr) in
+      let g5 = orElse g4 (stringFault StringField.RemoteHost (nulls .«remote_host») host) in
+      let g6 = orElse g5 (stringFault StringField.ServerName (nulls .«server_name») name) in
+      let g7 = orElse g6 0 in
+      let g8 = orElse g7 0 in
+      let n3 = afterCodePlace + 1 + length (stringBytes (nulls .protocol) protocol) in
+      let n4 = n3 + length (stringBytes (nulls .«req_uri») uri) in
+      let n5 = n4 + length (stringBytes (nulls .«remote_addr») addr) in
+      let n6 = n5 + length (stringBytes (nulls .«remote_host») host) in
+      let n7 = n6 + length (stringBytes (nulls .«server_name») name) in
+      forwardReads (among a (forwardFields numbers nulls protocol uri addr host name) (integerBytes count ++ b)) ≡ record {
+        method = fieldUnless g1 afterCodePlace (numbers .method) (afterCodePlace + 1);
+        protocol = fieldUnless g2 (afterCodePlace + 1) 0 n3;
+        uri = fieldUnless g3 n3 0 n4;
+        addr = fieldUnless g4 n4 0 n5;
+        host = fieldUnless g5 n5 0 n6;
+        name = fieldUnless g6 n6 0 n7;
+        port = fieldUnless g7 n7 (numbers .«server_port») (n7 + 2);
+        ssl = fieldUnless g8 (n7 + 2) (booleanNumber (numbers .«is_ssl»)) (n7 + 2 + 1);
+        headers = fieldUnless (orElse g8 0) (n7 + 2 + 1) count (n7 + 2 + 1 + 2);
+      })
+  unfolding forwardReads
+  forward-by =
+      let s : List ℕ = among a (forwardFields numbers nulls protocol uri addr host name) (integerBytes count ++ b) in
+      let t8 : List ℕ = integerBytes count ++ b in
+      let t7 : List ℕ = booleanBytes (numbers .«is_ssl») ++ t8 in
+      let t6 : List ℕ = integerBytes (numbers .«server_port») ++ t7 in
+      let t5 : List ℕ = stringBytes (nulls .«server_name») name ++ t6 in
+      let t4 : List ℕ = stringBytes (nulls .«remote_host») host ++ t5 in
+      let t3 : List ℕ = stringBytes (nulls .«remote_addr») addr ++ t4 in
+      let t2 : List ℕ = stringBytes (nulls .«req_uri») uri ++ t3 in
+      let t1 : List ℕ = stringBytes (nulls .protocol) protocol ++ t2 in
+      let r1 = byte-reads t1 firstMethod lastMethod (numbers .method) (reads-start s a (numbers .method ∷ t1) opened (simp append-assoc)) in
+      let r2 = string-reads t2 StringField.Protocol (nulls .protocol) protocol r1 protocol-short in
+      let r3 = string-reads t3 StringField.ReqUri (nulls .«req_uri») uri r2 uri-short in
+      let r4 = string-reads t4 StringField.RemoteAddr (nulls .«remote_addr») addr r3 addr-short in
+      let r5 = string-reads t5 StringField.RemoteHost (nulls .«remote_host») host r4 host-short in
+      let r6 = string-reads t6 StringField.ServerName (nulls .«server_name») name r5 name-short in
+      let r7 = any-integer-reads t7 (numbers .«server_port») r6 port in
+      let r8 = boolean-reads t8 (numbers .«is_ssl») r7 in
+      let r9 = count-reads b maxHeaders tooMany count r8 few (omega arith) in
+      rw (r9 .is, r8 .is, r7 .is, r6 .is, r5 .is, r4 .is, r3 .is, r2 .is, r1 .is)
+
+  -- they are refused with their first fault
+  pub forward-judged : (firstFault (faultsOf (fixed BuildingKind.Forward (forwardFields numbers nulls protocol uri addr host name))) ≡ 0 → ⊥)
+      → forwardAt (among a (forwardFields numbers nulls protocol uri addr host name) (integerBytes count ++ b))
+      ≡ ended (PacketRead.Refused (firstFault (faultsOf (fixed BuildingKind.Forward (forwardFields numbers nulls protocol uri addr host name)))))
+  unfolding forwardAt listsAt headersAfter
+  forward-judged bad =
+      let g : ℕ = firstFault (faultsOf (fixed BuildingKind.Forward (forwardFields numbers nulls protocol uri addr host name))) in
+      let s : List ℕ = among a (forwardFields numbers nulls protocol uri addr host name) (integerBytes count ++ b) in
+      let refused : forwardReads s .headers ≡ FieldRead.Refused g = rw (ne-eqb g 0 bad) at (ap (λ (reads : ForwardReads). reads .headers) forward-by) in
+      ap (λ (count : FieldRead). ending (forwardOf (forwardReads s)) (listsAt s count)) refused
+
+  -- and where there is none each is read where it is, with its value
+  pub forward-read : firstFault (faultsOf (fixed BuildingKind.Forward (forwardFields numbers nulls protocol uri addr host name))) ≡ 0
+      → (
+      let f1 = FieldRead.Field afterCodePlace (numbers .method) (afterCodePlace + 1) in
+      let f2 = reached 0 (length (stringBytes (nulls .protocol) protocol)) f1 in
+      let f3 = reached 0 (length (stringBytes (nulls .«req_uri») uri)) f2 in
+      let f4 = reached 0 (length (stringBytes (nulls .«remote_addr») addr)) f3 in
+      let f5 = reached 0 (length (stringBytes (nulls .«remote_host») host)) f4 in
+      let f6 = reached 0 (length (stringBytes (nulls .«server_name») name)) f5 in
+      let f7 = reached (numbers .«server_port») 2 f6 in
+      let f8 = reached (booleanNumber (numbers .«is_ssl»)) 1 f7 in
+      forwardReads (among a (forwardFields numbers nulls protocol uri addr host name) (integerBytes count ++ b)) ≡ record {
+        method = f1;
+        protocol = f2;
+        uri = f3;
+        addr = f4;
+        host = f5;
+        name = f6;
+        port = f7;
+        ssl = f8;
+        headers = reached count 2 f8;
+      })
+  forward-read fine =
+      let none = faultless (faultsOf (fixed BuildingKind.Forward (forwardFields numbers nulls protocol uri addr host name))) fine in
+      rw (none .1 .0, none .1 .1 .0, none .1 .1 .1 .0, none .1 .1 .1 .1 .0, none .1 .1 .1 .1 .1 .0, none .1 .1 .1 .1 .1 .1 .0) at forward-by
