@@ -4,7 +4,6 @@ use crate::answer;
 use crate::answer::Answer;
 use crate::text::after;
 use crate::text::field;
-use wire::write;
 
 pub fn text(out: &mut [u8], at: usize, s: &[u8]) -> usize {
     let n = s.len();
@@ -14,7 +13,9 @@ pub fn text(out: &mut [u8], at: usize, s: &[u8]) -> usize {
     if out.len() - n < at {
         return out.len();
     }
-    write::bytes(out, at, s);
+    for i in 0..n {
+        out[at + i] = s[i];
+    }
     at + n
 }
 
