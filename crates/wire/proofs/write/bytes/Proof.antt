@@ -2,11 +2,10 @@
 -- written, and the others are the buffer's own.
 -- Assumes nothing.
 use native.Mathlib.Omega.{arith}
-use mathlib.Core.Path.{_≡_, refl, subst, sym, _∙_}
-use mathlib.Core.List.{List}
-use Prim.Native.Nat.{ℕ, _+_, _-_, _≤_}
+use mathlib.Core.Path.{_≡_, refl, _∙_}
+use Prim.Native.Nat.{_-_, _≤_}
 use borrow.Author.Needs.{needs}
-use lib.ListN.{length, take, getD, set, length-set}
+use lib.ListN.{length, take, length-set}
 use lib.Seq.{take-length}
 use Rattle.wire.specs.Packet.{maxPacket}
 use Rattle.wire.proofs.Bytes.{front-more, front-element}
