@@ -27,8 +27,9 @@ pub fn is_token(text: &[u8], flags: &[bool; BYTES]) -> bool
     good
 }
 
-// A flag for each byte value, set where it is a token byte; beside it, the character.
+// A flag for each byte value, set where it is a token byte; beside it, the character. Above each sixteen, the characters that these values are.
 const TOKEN: [bool; BYTES] = [
+    // 00 to 0F
     false,
     false,
     false,
@@ -45,6 +46,7 @@ const TOKEN: [bool; BYTES] = [
     false,
     false,
     false,
+    // 10 to 1F
     false,
     false,
     false,
@@ -61,6 +63,7 @@ const TOKEN: [bool; BYTES] = [
     false,
     false,
     false,
+    // 20 to 2F: ! " # $ % & ' ( ) * + , - . /
     false,
     true, // !
     false,
@@ -77,6 +80,7 @@ const TOKEN: [bool; BYTES] = [
     true, // -
     true, // .
     false,
+    // 30 to 3F: 0 1 2 3 4 5 6 7 8 9 : ; < = > ?
     true, // 0
     true, // 1
     true, // 2
@@ -93,6 +97,7 @@ const TOKEN: [bool; BYTES] = [
     false,
     false,
     false,
+    // 40 to 4F: @ A B C D E F G H I J K L M N O
     false,
     true, // A
     true, // B
@@ -109,6 +114,7 @@ const TOKEN: [bool; BYTES] = [
     true, // M
     true, // N
     true, // O
+    // 50 to 5F: P Q R S T U V W X Y Z [ \ ] ^ _
     true, // P
     true, // Q
     true, // R
@@ -125,6 +131,7 @@ const TOKEN: [bool; BYTES] = [
     false,
     true, // ^
     true, // _
+    // 60 to 6F: ` a b c d e f g h i j k l m n o
     true, // `
     true, // a
     true, // b
@@ -141,6 +148,7 @@ const TOKEN: [bool; BYTES] = [
     true, // m
     true, // n
     true, // o
+    // 70 to 7F: p q r s t u v w x y z { | } ~
     true, // p
     true, // q
     true, // r
@@ -157,6 +165,7 @@ const TOKEN: [bool; BYTES] = [
     false,
     true, // ~
     false,
+    // 80 to 8F
     false,
     false,
     false,
@@ -173,6 +182,7 @@ const TOKEN: [bool; BYTES] = [
     false,
     false,
     false,
+    // 90 to 9F
     false,
     false,
     false,
@@ -189,6 +199,7 @@ const TOKEN: [bool; BYTES] = [
     false,
     false,
     false,
+    // A0 to AF
     false,
     false,
     false,
@@ -205,6 +216,7 @@ const TOKEN: [bool; BYTES] = [
     false,
     false,
     false,
+    // B0 to BF
     false,
     false,
     false,
@@ -221,6 +233,7 @@ const TOKEN: [bool; BYTES] = [
     false,
     false,
     false,
+    // C0 to CF
     false,
     false,
     false,
@@ -237,6 +250,7 @@ const TOKEN: [bool; BYTES] = [
     false,
     false,
     false,
+    // D0 to DF
     false,
     false,
     false,
@@ -253,6 +267,7 @@ const TOKEN: [bool; BYTES] = [
     false,
     false,
     false,
+    // E0 to EF
     false,
     false,
     false,
@@ -269,6 +284,7 @@ const TOKEN: [bool; BYTES] = [
     false,
     false,
     false,
+    // F0 to FF
     false,
     false,
     false,
