@@ -191,13 +191,20 @@ impl Connection {
         self
     }
 
-    // With whether a body packet is due and how many bytes were asked for, in the same way.
-    pub fn with_due(mut self, due: bool, asked: u16) -> Connection
+    // With whether a body packet is due and how many bytes were asked for, in the same way. The record is made anew: two fields of a copy set
+    // one by one keep the compiler from putting a step into its callers.
+    pub fn with_due(self, due: bool, asked: u16) -> Connection
         ensures { λ r. ⌜ r ≡ withDue due asked self ⌝ }
     {
-        self.due = due;
-        self.asked = asked;
-        self
+        let state = self.state;
+        let left = self.left;
+        Connection {
+            state,
+            due,
+            headers: self.headers,
+            asked,
+            left,
+        }
     }
 
     // With whether the response's headers were sent.
@@ -320,11 +327,11 @@ impl Connection {
             }
             Move::Body(k) => self.step_body(k),
             Move::GetBody(r) => {
-                let after = self.with_due(true, r).busy();
+                let after = self.busy().with_due(true, r);
                 self.step_any_size(Kind::GetBody, after)
             }
             Move::SendHeaders => {
-                let after = self.with_headers(true).busy();
+                let after = self.busy().with_headers(true);
                 self.step_any_size(Kind::SendHeaders, after)
             }
             Move::BodyChunk(k) => self.step_body_chunk(k),
@@ -343,7 +350,7 @@ impl Connection {
         if !is_size_allowed(self.largest_body(), k) {
             return Step::Refused(refusal::BODY_SIZE_WRONG);
         }
-        Step::Next(self.with_left(left.less(k)).with_due(false, 0).busy())
+        Step::Next(self.busy().with_left(left.less(k)).with_due(false, 0))
     }
 
     // A Send Body Chunk of k bytes, in the same way; it may have any size.

@@ -1,8 +1,9 @@
 -- Each arm is its row of the cycle: `inState` and `after` at the move that it knows.
 -- Assumes nothing.
 use mathlib.Core.Path.{refl, sym, ap, _∙_}
+use mathlib.Core.Bool.{true}
 use Rattle.connection.specs.declared.Move.{Move}
-use Rattle.connection.specs.Connection.{busy}
+use Rattle.connection.specs.Connection.{withDue, withHeaders, busy}
 use Rattle.connection.specs.Cycle.{stepOf}
 use Rattle.connection.proofs.Laws.{any-size}
 use borrow.Author.Needs.{needs}
@@ -48,11 +49,11 @@ step-body-requires c κs = search needs
 enum-known-m-3 : tie.Need-enum-known-m-3
 enum-known-m-3 c = search needs
 
-with-due-requires : tie.Need-with-due-requires
-with-due-requires c κs = search needs
-
 busy-requires-2 : tie.Need-busy-requires-2
 busy-requires-2 c κs = search needs
+
+with-due-requires : tie.Need-with-due-requires
+with-due-requires c κs = search needs
 
 step-any-size-requires-4 : tie.Need-step-any-size-requires-4
 step-any-size-requires-4 c κs = search needs
@@ -60,11 +61,11 @@ step-any-size-requires-4 c κs = search needs
 enum-told-3 : tie.Need-enum-told-3
 enum-told-3 c = search needs
 
-with-headers-requires : tie.Need-with-headers-requires
-with-headers-requires c κs = search needs
-
 busy-requires-3 : tie.Need-busy-requires-3
 busy-requires-3 c κs = search needs
+
+with-headers-requires : tie.Need-with-headers-requires
+with-headers-requires c κs = search needs
 
 step-any-size-requires-5 : tie.Need-step-any-size-requires-5
 step-any-size-requires-5 c κs = search needs
@@ -110,13 +111,13 @@ returns-4 c =
 returns-5 : tie.Need-returns-5
 returns-5 c =
     c .step-any-size4 .ensures
-    ∙ any-size _ (Move.GetBody _) _ refl (c .before .busy2 .ensures ∙ ap busy (c .before .before .with-due .ensures))
+    ∙ any-size _ (Move.GetBody _) _ refl (c .before .with-due .ensures ∙ ap (withDue true _) (c .before .before .busy2 .ensures))
     ∙ sym (ap (stepOf _) (c .before .before .before .before .m3 .given .1))
 
 returns-6 : tie.Need-returns-6
 returns-6 c =
     c .step-any-size5 .ensures
-    ∙ any-size _ Move.SendHeaders _ refl (c .before .busy3 .ensures ∙ ap busy (c .before .before .with-headers .ensures))
+    ∙ any-size _ Move.SendHeaders _ refl (c .before .with-headers .ensures ∙ ap (withHeaders true) (c .before .before .busy3 .ensures))
     ∙ sym (ap (stepOf _) (c .before .before .before .enum-told3 .given .1))
 
 returns-7 : tie.Need-returns-7
@@ -147,12 +148,12 @@ step-spec =
     enum-known-m-2
     step-body-requires
     enum-known-m-3
-    with-due-requires
     busy-requires-2
+    with-due-requires
     step-any-size-requires-4
     enum-told-3
-    with-headers-requires
     busy-requires-3
+    with-headers-requires
     step-any-size-requires-5
     enum-known-m-4
     step-body-chunk-requires

@@ -9,7 +9,7 @@ use Rattle.wire.specs.Pick.{pick}
 use Rattle.wire.specs.Refusal.{bodySizeWrong}
 use Rattle.connection.specs.declared.Move.{Move}
 use Rattle.connection.specs.declared.Step.{Step}
-use Rattle.connection.specs.Connection.{withLeft, withDue, busy}
+use Rattle.connection.specs.Connection.{withLeft, withDue}
 use Rattle.connection.specs.Cycle.{sizeAllowed, after, stepOf}
 use Rattle.connection.proofs.Laws.{step-by}
 use Rattle.connection.proofs.Connection.step_body.Statement.{statement}
@@ -42,6 +42,9 @@ due-step c t e =
 returns-2 : tie.Need-returns-2
 returns-2 c = sym (due-step (c .before) false (not-true _ (c .if2 .taken)))
 
+busy-requires : tie.Need-busy-requires
+busy-requires c κs = search needs
+
 less-requires : tie.Need-less-requires
 less-requires c κs = search needs
 
@@ -51,16 +54,13 @@ with-left-requires c κs = search needs
 with-due-requires : tie.Need-with-due-requires
 with-due-requires c κs = search needs
 
-busy-requires : tie.Need-busy-requires
-busy-requires c κs = search needs
-
 returns-3 : tie.Need-returns-3
 returns-3 c =
-    let b = c .before .before in
-    let a = b .before .before .before .before .before .before .before .before .args in
-    let less = b .with-left .ensures ∙ ap (λ (n : ℕ). withLeft n (a .self)) (b .before .less .ensures) in
-    ap Step.Next (c .busy .ensures ∙ ap busy (c .before .with-due .ensures ∙ ap (withDue false 0) less))
-    ∙ sym (due-step (b .before .before .before) true (not-false _ (b .before .before .if2 .left)))
+    let left = c .before in
+    let rest = left .before .before in
+    let less = left .with-left .ensures ∙ ap (λ (n : ℕ). withLeft n (rest .busy .result)) (left .before .less .ensures) in
+    ap Step.Next (c .with-due .ensures ∙ ap (withDue false 0) (less ∙ ap (withLeft _) (rest .busy .ensures)))
+    ∙ sym (due-step (rest .before .before) true (not-false _ (rest .before .if2 .left)))
 
 pub step-body-spec : {M : Type 1} → statement M
 step-body-spec =
@@ -71,8 +71,8 @@ step-body-spec =
     largest-body-requires
     is-size-allowed-requires
     returns-2
+    busy-requires
     less-requires
     with-left-requires
     with-due-requires
-    busy-requires
     returns-3)
