@@ -2,15 +2,15 @@
 -- Assumes nothing.
 use mathlib.Core.Path.{_≡_, refl, sym, ap, _∙_}
 use mathlib.Core.Bool.{Bool, true, false, false≢true}
-use mathlib.Core.List.{List, []}
+use mathlib.Core.List.{List, [], _∷_}
 use Prim.Native.Nat.{ℕ}
 use native.Mathlib.Omega.{arith}
 use borrow.Author.Tests.{ne-eqb, eqb-false}
 use lib.Dec.{eqb}
 use lib.ListN.{length}
 use Rattle.wire.specs.Pick.{pick}
-use Rattle.wire.specs.Bytes.{part}
-use Rattle.wire.specs.Field.{byteAt}
+use Rattle.wire.specs.Bytes.{part, integerIn}
+use Rattle.wire.specs.Field.{byteAt, integerAt}
 use Rattle.packet.specs.declared.Direction.{Direction}
 use Rattle.wire.specs.declared.read.NumberRead.{NumberRead}
 use Rattle.places.specs.Entries.{ended}
@@ -29,7 +29,7 @@ use Rattle.payload.specs.declared.found.PacketRead.{PacketRead}
 use Rattle.payload.proofs.Laws.{kind-is}
 use Rattle.payload.proofs.Parsed.{parsed-kind}
 use Rattle.reader.specs.declared.frame.FrameRead.{FrameRead}
-use Rattle.reader.specs.Frame.{frameAt}
+use Rattle.reader.specs.Frame.{leadingDiffers, lengthAt, frameAt}
 use Rattle.short_ways.specs.declared.PartRead.{PartRead}
 use Rattle.reader.specs.Meaning.{Meaning}
 use Rattle.reader.specs.Reading.{contextOf, stepped, accepting, reading, tableAfter}
@@ -205,3 +205,18 @@ short-reads d c s m e table = let by = answer-by d c s m e in by .1 ∙ any-tabl
 pub short-keeps : (d : Direction) (c : Connection) (s : List ℕ) (m : Meaning) → answered m ≡ shortReading d c s
     → (table : List ℕ) → table ≡ tableAfter d c s table
 short-keeps d c s m e table = any-table d c s table (answer-by d c s m e .0) .1
+
+-- a packet of no size on a short way is another one, whether the connection allows its kind or not
+never-short : (t : Bool) (n : ℕ) (m : Meaning) → n ≡ 0 → pick (eqb (pick t n 0) 0) other (answered m) ≡ other
+never-short true n m e = rw e
+never-short false n m e = refl
+
+-- from every connection the byte 00 at the container's end is another packet
+pub zero-other : (c : Connection) → shortReading Direction.ToContainer c (0x00 ∷ []) ≡ other
+unfolding shortReading bodySize frameAt leadingDiffers
+zero-other c = never-short (inState c Kind.Body) _ _ refl
+
+-- and so is Shutdown at the server's
+pub code-other : (c : Connection) → shortReading Direction.ToServer c (0x41 ∷ 0x42 ∷ 0x00 ∷ 0x01 ∷ 0x07 ∷ []) ≡ other
+unfolding shortReading chunkSize frameAt leadingDiffers lengthAt integerAt integerIn byteAt part
+code-other c = never-short (inState c Kind.BodyChunk) _ _ refl
