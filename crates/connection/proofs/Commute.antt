@@ -17,7 +17,7 @@ use Rattle.connection.specs.declared.Connection.{Connection}
 use Rattle.connection.specs.declared.Kind.{Kind}
 use Rattle.connection.specs.declared.Move.{Move}
 use Rattle.connection.specs.declared.Step.{Step}
-use Rattle.connection.specs.Connection.{maxBody, isIdle, isPinged, isBusy, rest, withHeaders, busy, tidy, bodyDue}
+use Rattle.connection.specs.Connection.{isIdle, isPinged, isBusy, rest, withHeaders, busy, tidy, bodyDue}
 use Rattle.connection.specs.Cycle.{moveKind, directionOf, inState, largestBody, sizeAllowed, inSize, allowed, forwarded, after, stepOf, numberIn, connectionAfterStep}
 use Rattle.connection.specs.Facts.{Commuting, BodyWithin, Ignored}
 use Rattle.connection.proofs.Laws.{largest-by, step-by}

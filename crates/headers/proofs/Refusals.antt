@@ -16,7 +16,6 @@ use Rattle.wire.specs.declared.read.StringRead.{StringRead}
 use Rattle.wire.proofs.Refusals.{fault-refusal, NumberRefusal, integer-refusal, StringRefusal, string-refusal}
 use Rattle.packet.specs.declared.Direction.{Direction}
 use Rattle.names.specs.Header.{beginsCode, codeFault, spelledFault}
-use Rattle.headers.specs.Length.{lengthAfter}
 use Rattle.headers.specs.declared.length.Declared.{Declared}
 use Rattle.headers.specs.declared.length.LengthRead.{LengthRead}
 use Rattle.names.proofs.Refusals.{code-fault, spelled-fault}

@@ -53,7 +53,7 @@ use Rattle.messages.specs.Bytes.{payloadOf, messageBytes}
 use Rattle.messages.specs.Writing.{wrote, wroteBy, oneCall, writing}
 use Rattle.messages.specs.Shown.{messageShown}
 use Rattle.messages.proofs.Frames.{frame-written, head-kept}
-use Rattle.messages.proofs.Parses.{contextFor, isBody, Parses, parses-most, coded-parses, coded-kept}
+use Rattle.messages.proofs.Parses.{isBody, Parses, parses-most, coded-parses, coded-kept}
 use Rattle.messages.proofs.Tables.{tableOf}
 use Rattle.messages.proofs.FieldsKept.{Held, held-none, held-byte, held-part, held-join, held-rest, integer-held, boolean-held}
 use Rattle.messages.proofs.RoundTrip.{Forth, Back, wrote-done, Shows, Stands, stands-back}

@@ -7,18 +7,15 @@ use mathlib.Core.Path.{_≡_, refl, sym, ap, subst, _∙_}
 use mathlib.Core.Bool.{true}
 use mathlib.Core.List.{List, [], _∷_, _++_}
 use Prim.Native.Nat.{ℕ, _+_, _-_, _≤_}
-use lib.Dec.{eqb}
 use lib.ListN.{length, drop}
 use Rattle.wire.specs.Pick.{between}
 use Rattle.wire.specs.Bytes.{integerBytes}
-use Rattle.wire.specs.Field.{booleanBytes, booleanNumber}
 use Rattle.wire.specs.Packet.{packet, afterCodePlace}
 use Rattle.packet.specs.declared.Direction.{Direction}
 use Rattle.wire.specs.declared.StringField.{StringField}
 use Rattle.wire.specs.Facts.{Bytes}
 use Rattle.headers.specs.declared.length.Declared.{Declared}
 use Rattle.connection.specs.Cycle.{directionOf}
-use Rattle.connection.specs.declared.Kind.{Kind}
 use Rattle.places.specs.Entries.{maxHeaders}
 use Rattle.payload.specs.Code.{codeOf}
 use Rattle.payload.specs.Forward.{firstMethod, lastMethod}

@@ -128,36 +128,37 @@ abbrev pub Goes : Direction → KindRead → Type 0
 Goes d (KindRead.Refused n) = Unit
 Goes d (KindRead.Kind k) = directionOf k ≡ d
 
--- the kind that has a code goes the way in which the code was read
-code-goes : (d : Direction) (code : ℕ) → Goes d (codeKind d code)
+-- what holds of every kind that goes a way, and of 5 and of 4, holds of what a code is found to be
+pub code-cases : (P : KindRead → Type 0) (d : Direction) (code : ℕ) → ((k : Kind) → directionOf k ≡ d → P (KindRead.Kind k))
+    → P (KindRead.Refused codeNotServed) → P (KindRead.Refused codeWrong) → P (codeKind d code)
 unfolding codeKind
-code-goes Direction.ToContainer code =
+code-cases P Direction.ToContainer code kinds not-served wrong =
     go (eqb code (codeOf Kind.Forward)) (eqb code (codeOf Kind.CPing)) (either (eqb code shutdownCode) (eqb code pingCode))
   where
     go : (a b c : Bool)
-        → Goes Direction.ToContainer
+        → P
         (pick a (KindRead.Kind Kind.Forward)
         (pick b (KindRead.Kind Kind.CPing) (pick c (KindRead.Refused codeNotServed) (KindRead.Refused codeWrong))))
-    go true b c = refl
-    go false true c = refl
-    go false false true = tt
-    go false false false = tt
-code-goes Direction.ToServer code =
+    go true b c = kinds Kind.Forward refl
+    go false true c = kinds Kind.CPing refl
+    go false false true = not-served
+    go false false false = wrong
+code-cases P Direction.ToServer code kinds not-served wrong =
     go (eqb code (codeOf Kind.BodyChunk)) (eqb code (codeOf Kind.SendHeaders)) (eqb code (codeOf Kind.End)) (eqb code (codeOf Kind.GetBody))
     (eqb code (codeOf Kind.CPong))
   where
     go : (a b c d e : Bool)
-        → Goes Direction.ToServer
+        → P
         (pick a (KindRead.Kind Kind.BodyChunk)
         (pick b (KindRead.Kind Kind.SendHeaders)
         (pick c (KindRead.Kind Kind.End)
         (pick d (KindRead.Kind Kind.GetBody) (pick e (KindRead.Kind Kind.CPong) (KindRead.Refused codeWrong))))))
-    go true b c d e = refl
-    go false true c d e = refl
-    go false false true d e = refl
-    go false false false true e = refl
-    go false false false false true = refl
-    go false false false false false = tt
+    go true b c d e = kinds Kind.BodyChunk refl
+    go false true c d e = kinds Kind.SendHeaders refl
+    go false false true d e = kinds Kind.End refl
+    go false false false true e = kinds Kind.GetBody refl
+    go false false false false true = kinds Kind.CPong refl
+    go false false false false false = wrong
 
 -- a kind's code, read the way that the kind goes, is the code of that kind; a body packet has no code
 pub code-found : (k : Kind) → (k ≡ Kind.Body → ⊥) → codeKind (directionOf k) (codeOf k) ≡ KindRead.Kind k
@@ -171,10 +172,10 @@ code-found Kind.SendHeaders h = refl
 code-found Kind.BodyChunk h = refl
 code-found Kind.End h = refl
 
--- and so does the kind by the code as read
+-- the kind by the code as read goes the way in which the code was read
 code-read-goes : (d : Direction) (r : NumberRead) → Goes d (kindOfCode d r)
 code-read-goes d (NumberRead.Refused n) = tt
-code-read-goes d (NumberRead.Number code next) = code-goes d code
+code-read-goes d (NumberRead.Number code next) = code-cases (Goes d) d code (λ k way. way) tt tt
 
 -- the kind of a packet that is not read as a body packet goes the way that the packet goes
 pub kind-direction : (context : Context) (s : List ℕ) (k : Kind) → kindAt context s ≡ KindRead.Kind k → context .body ≡ false

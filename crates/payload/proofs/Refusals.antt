@@ -6,8 +6,8 @@ use mathlib.Core.List.{List, []}
 use Prim.Native.Nat.{ℕ, _+_}
 use lib.Dec.{leb, ltb, eqb}
 use lib.ListN.{length, getD}
-use Rattle.wire.specs.Pick.{pick, either, between}
-use Rattle.wire.specs.Refusal.{cutShort, codeWrong, codeNotServed, stringWrong, outOfRange, tooMany, leftOver, bodySizeWrong, isRefusal}
+use Rattle.wire.specs.Pick.{pick, between}
+use Rattle.wire.specs.Refusal.{cutShort, stringWrong, outOfRange, tooMany, leftOver, bodySizeWrong, isRefusal}
 use Rattle.wire.specs.Field.{byteAt, integerAt, booleanAt, stringAt, isOptional}
 use Rattle.wire.specs.declared.StringField.{StringField}
 use Rattle.wire.specs.declared.read.NumberRead.{NumberRead}
@@ -30,7 +30,7 @@ use Rattle.payload.specs.declared.field.FieldRead.{FieldRead}
 use Rattle.payload.specs.declared.lists.ListsRead.{ListsRead}
 use Rattle.payload.specs.declared.Context.{Context}
 use Rattle.payload.specs.declared.found.PacketRead.{PacketRead}
-use Rattle.payload.specs.Code.{codeOf, shutdownCode, pingCode, codeKind, kindOfCode, kindAt}
+use Rattle.payload.specs.Code.{kindOfCode, kindAt}
 use Rattle.payload.specs.Sequence.{afterCode, behind, stringAsField, stringFieldAt, stringAfter, booleanAsField, booleanFieldAt, booleanAfter, numberAsField, anyIntegerAfter, bounded, byteAfter, integerAfter}
 use Rattle.payload.specs.Packet.{partFrom, finished}
 use Rattle.payload.specs.End.{endOf, endAt}
@@ -42,45 +42,16 @@ use Rattle.payload.specs.Forward.{firstMethod, lastMethod, forwardReads,
 use Rattle.payload.specs.SendHeaders.{leastStatus, greatestStatus, sendHeadersReads, sendHeadersOf, sendHeadersAt}
 use Rattle.payload.specs.Kinds.{packetAt}
 use Rattle.wire.specs.Packet.{payloadPlace, codePlace, afterCodePlace}
+use Rattle.payload.proofs.Laws.{code-cases}
 
 -- a packet's kind, where it is refused
 abbrev KindRefusal : KindRead → Type 0
 KindRefusal (KindRead.Refused n) = isRefusal n ≡ true
 KindRefusal (KindRead.Kind kind) = Unit
 
-code-refusal : (d : Direction) (code : ℕ) → KindRefusal (codeKind d code)
-unfolding codeKind
-code-refusal Direction.ToContainer code =
-    go (eqb code (codeOf Kind.Forward)) (eqb code (codeOf Kind.CPing)) (either (eqb code shutdownCode) (eqb code pingCode))
-  where
-    go : (a b c : Bool)
-        → KindRefusal
-        (pick a (KindRead.Kind Kind.Forward)
-        (pick b (KindRead.Kind Kind.CPing) (pick c (KindRead.Refused codeNotServed) (KindRead.Refused codeWrong))))
-    go true b c = tt
-    go false true c = tt
-    go false false true = refl
-    go false false false = refl
-code-refusal Direction.ToServer code =
-    go (eqb code (codeOf Kind.BodyChunk)) (eqb code (codeOf Kind.SendHeaders)) (eqb code (codeOf Kind.End)) (eqb code (codeOf Kind.GetBody))
-    (eqb code (codeOf Kind.CPong))
-  where
-    go : (a b c d e : Bool)
-        → KindRefusal
-        (pick a (KindRead.Kind Kind.BodyChunk)
-        (pick b (KindRead.Kind Kind.SendHeaders)
-        (pick c (KindRead.Kind Kind.End)
-        (pick d (KindRead.Kind Kind.GetBody) (pick e (KindRead.Kind Kind.CPong) (KindRead.Refused codeWrong))))))
-    go true b c d e = tt
-    go false true c d e = tt
-    go false false true d e = tt
-    go false false false true e = tt
-    go false false false false true = tt
-    go false false false false false = refl
-
 code-read-refusal : (d : Direction) (r : NumberRead) → NumberRefusal r → KindRefusal (kindOfCode d r)
 code-read-refusal d (NumberRead.Refused n) h = h
-code-read-refusal d (NumberRead.Number code next) h = code-refusal d code
+code-read-refusal d (NumberRead.Number code next) h = code-cases KindRefusal d code (λ k way. tt) refl refl
 
 kind-at-refusal : (context : Context) (s : List ℕ) → KindRefusal (kindAt context s)
 unfolding kindAt

@@ -21,6 +21,6 @@ pub record ForwardPlaces (forward : Forward) (places : List ℕ) : Type 0 where
   pub attributes-most : forward .attributes ≤ maxAttributes
 
 -- the places of Send Headers: two for each header, no more than may come
-pub record SendHeadersPlaces (head : SendHeaders) (places : List ℕ) : Type 0 where
-  pub many : length places ≡ head .headers + head .headers
-  pub headers-most : head .headers ≤ maxHeaders
+pub record SendHeadersPlaces (h : SendHeaders) (places : List ℕ) : Type 0 where
+  pub many : length places ≡ h .headers + h .headers
+  pub headers-most : h .headers ≤ maxHeaders

@@ -38,7 +38,7 @@ packetKind Packet.CPong = Kind.CPong
 packetKind (Packet.Forward forward) = Kind.Forward
 packetKind (Packet.Body part) = Kind.Body
 packetKind (Packet.GetBody asked) = Kind.GetBody
-packetKind (Packet.SendHeaders head) = Kind.SendHeaders
+packetKind (Packet.SendHeaders h) = Kind.SendHeaders
 packetKind (Packet.BodyChunk part) = Kind.BodyChunk
 packetKind (Packet.End reuse) = Kind.End
 
@@ -53,6 +53,6 @@ packetMove Packet.CPong = Move.CPong
 packetMove (Packet.Forward forward) = Move.Forward (forwardMove forward)
 packetMove (Packet.Body part) = Move.Body (part .len)
 packetMove (Packet.GetBody asked) = Move.GetBody asked
-packetMove (Packet.SendHeaders head) = Move.SendHeaders
+packetMove (Packet.SendHeaders h) = Move.SendHeaders
 packetMove (Packet.BodyChunk part) = Move.BodyChunk (part .len)
 packetMove (Packet.End reuse) = Move.End reuse

@@ -1,7 +1,6 @@
 -- Fixed fields one after the other: each is read where the one before it ends; after a refusal none is read.
 -- Document 01, 'Refusal numbers': fields left to right, first fault wins.
 -- Assumes nothing.
-use mathlib.Core.Bool.{Bool, true, false}
 use mathlib.Core.List.{List}
 use Prim.Native.Nat.{ℕ}
 use Rattle.wire.specs.Pick.{pick, between}

@@ -4,7 +4,7 @@
 use mathlib.Core.Path.{_≡_, refl, sym, subst}
 use mathlib.Core.Bool.{Bool, true}
 use mathlib.Core.List.{List, [], _∷_, _++_}
-use Prim.Native.Nat.{ℕ, _+_, _≤_, _<_}
+use Prim.Native.Nat.{ℕ, _+_, _<_}
 use native.Mathlib.Omega.{arith}
 use borrow.Author.Tests.{lt-ltb, leb-true}
 use lib.Dec.{leb, ltb}
@@ -33,7 +33,7 @@ use Rattle.packet.specs.declared.SendHeaders.{SendHeaders}
 use Rattle.packet.specs.declared.Packet.{Packet}
 use Rattle.payload.specs.declared.Context.{Context}
 use Rattle.payload.specs.declared.found.PacketRead.{PacketRead}
-use Rattle.payload.specs.Handed.{StringEnds, StringThere, ForwardHanded, SendHeadersHanded}
+use Rattle.payload.specs.Handed.{StringEnds, StringThere, ForwardHanded}
 use Rattle.payload.proofs.Handed.{forward-handed, forward-places, head-handed, send-headers-places, body-handed, chunk-handed}
 use Rattle.payload.proofs.Parsed.{parsed-kind}
 use Rattle.reader.specs.Meaning.{headersIn, attributesIn}

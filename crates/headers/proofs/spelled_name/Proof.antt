@@ -1,7 +1,7 @@
 -- `headers::spelled_name` meets its contract, by what the name's length reads as.
 -- Assumes nothing.
 use borrow.Author.Needs.{needs}
-use mathlib.Core.Path.{_≡_, sym, _∙_}
+use mathlib.Core.Path.{sym, _∙_}
 use Rattle.wire.specs.declared.read.NumberRead.{NumberRead}
 use Rattle.headers.proofs.Laws.{spelled-by}
 use Rattle.headers.proofs.spelled_name.Statement.{statement}

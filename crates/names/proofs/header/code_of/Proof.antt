@@ -2,7 +2,7 @@
 -- Assumes nothing.
 use borrow.Author.Tests.{not-true}
 use borrow.Author.Needs.{needs}
-use mathlib.Core.Path.{_≡_, sym, ap, _∙_}
+use mathlib.Core.Path.{sym, ap, _∙_}
 use Rattle.names.specs.declared.NameList.{NameList}
 use Rattle.names.specs.Names.{codeIn}
 use Rattle.names.proofs.header.code_of.Statement.{statement}
