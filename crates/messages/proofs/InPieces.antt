@@ -62,7 +62,7 @@ of-kind P Packet.CPong h = h
 of-kind P (Packet.Forward f) h = h f
 of-kind P (Packet.Body p) h = h p
 of-kind P (Packet.GetBody asked) h = h asked
-of-kind P (Packet.SendHeaders head) h = h head
+of-kind P (Packet.SendHeaders response) h = h response
 of-kind P (Packet.BodyChunk p) h = h p
 of-kind P (Packet.End reuse) h = h reuse
 

@@ -1,5 +1,5 @@
 -- From read to written: the bytes of a Forward or a Send Headers that was read are those of the message that it shows, and none of its pieces
--- has a fault. What it hands out (`forward-handed`, `head-handed`) stands one behind the other, from its code to its last byte, and each field
+-- has a fault. What it hands out (`forward-handed`, `send-headers-handed`) stands one behind the other, from its code to its last byte, and each field
 -- is kept (`FieldsKept`).
 -- Assumes nothing.
 use native.Mathlib.Omega.{arith}
@@ -23,7 +23,7 @@ use Rattle.payload.specs.SendHeaders.{leastStatus, greatestStatus, sendHeadersA
 use Rattle.packet.specs.declared.Forward.{Forward}
 use Rattle.packet.specs.declared.SendHeaders.{SendHeaders}
 use Rattle.packet.specs.declared.Packet.{Packet}
-use Rattle.payload.proofs.Handed.{forward-handed, head-handed}
+use Rattle.payload.proofs.Handed.{forward-handed, send-headers-handed}
 use Rattle.building.specs.Fault.{rangeFault}
 use Rattle.building.specs.Field.{Field}
 use Rattle.building.proofs.Faults.{range-most}
@@ -131,19 +131,19 @@ forward-kept s f bytes r =
 -- a Send Headers that was read
 pub send-headers-kept : (s : List ℕ) (h : SendHeaders) → Bytes s → Parses Direction.ToServer s (Packet.SendHeaders h)
     → ResponseKept s (sendHeadersShown s h (sendHeadersAt s .places))
-send-headers-kept s head bytes r =
-    let h = head-handed s head (r .fields-are) in
-    let status = integer-held s afterCodePlace (head .status) (head .message .0) bytes (h .status-read) in
-    let in-range : rangeFault leastStatus greatestStatus (head .status) ≡ 0 = range-fine leastStatus greatestStatus (head .status) (h .status-range) in
+send-headers-kept s response bytes r =
+    let h = send-headers-handed s response (r .fields-are) in
+    let status = integer-held s afterCodePlace (response .status) (response .message .0) bytes (h .status-read) in
+    let in-range : rangeFault leastStatus greatestStatus (response .status) ≡ 0 = range-fine leastStatus greatestStatus (response .status) (h .status-range) in
     let headers =
     headers-kept Direction.ToServer s (h .headers-place) Declared.Absent (sendHeadersAt s .places) (length s) Declared.Absent bytes (omega arith)
     (h .headers-there) in
     let fixed =
     fields-front (record { held = status .0; fine = in-range })
-    (fields-last (string-kept s (head .message .0) StringField.Message (h .count-place) bytes (h .message-there))) in (
+    (fields-last (string-kept s (response .message .0) StringField.Message (h .count-place) bytes (h .message-there))) in (
       _,
       refl,
       pieces-kept BuildingKind.SendHeaders s [] _ (coded-kept r refl bytes) refl refl fixed
-          (integer-held s (h .count-place) (head .headers) (h .headers-place) bytes (h .count-read) .0) (h .headers-most) (h .headers-many) headers
+          (integer-held s (h .count-place) (response .headers) (h .headers-place) bytes (h .count-read) .0) (h .headers-most) (h .headers-many) headers
           (held-none s (length s) (omega arith)) tt (status .1, headers .fit),
     )

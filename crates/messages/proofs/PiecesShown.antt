@@ -25,7 +25,7 @@ use Rattle.packet.specs.declared.Forward.{Forward}
 use Rattle.packet.specs.declared.SendHeaders.{SendHeaders}
 use Rattle.packet.specs.declared.Packet.{Packet}
 use Rattle.payload.specs.declared.found.PacketRead.{PacketRead}
-use Rattle.payload.proofs.Handed.{forward-handed, head-handed}
+use Rattle.payload.proofs.Handed.{forward-handed, send-headers-handed}
 use Rattle.building.specs.Field.{opening, faultsOf, fieldsBytes}
 use Rattle.building.proofs.Sizes.{boolean-one}
 use Rattle.building.proofs.Faults.{faultless, range-most}
@@ -131,7 +131,7 @@ module _ {s : List ℕ} (short : length s ≤ maxPacket) (response : Response) (
       let t2 : List ℕ = integerBytes (length (response .headers)) ++ t3 in
       let t1 : List ℕ = textBytes (response .message) ++ t2 in
       let none = faultless (faultsOf (responseFields response)) own in
-      let handed = head-handed s h e in
+      let handed = send-headers-handed s h e in
       let fields : Ahead s afterCodePlace (integerBytes (response .status) ++ t1) = simp append-assoc at stands in
       let small : response .status < 65536 = omega (arith, range-most leastStatus greatestStatus (response .status) (none .0)) in
       let first = integer-shows t1 (response .status) small fields (handed .status-read) in

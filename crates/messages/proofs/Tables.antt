@@ -20,7 +20,7 @@ use Rattle.packet.specs.declared.Packet.{Packet}
 use Rattle.payload.specs.declared.Context.{Context}
 use Rattle.payload.specs.declared.found.PacketRead.{PacketRead}
 use Rattle.payload.proofs.Parsed.{parsed-kind}
-use Rattle.payload.proofs.Handed.{forward-handed, head-handed}
+use Rattle.payload.proofs.Handed.{forward-handed, send-headers-handed}
 use Rattle.reader.specs.Meaning.{accepted, headersIn, attributesIn}
 use Rattle.reader.specs.Reading.{contextOf, reading, tableAfter}
 use Rattle.reading_laws.proofs.Acceptance.{accepted-is, accepted-fills}
@@ -78,7 +78,7 @@ forward-table s table f e =
 -- a Send Headers has two places for each header
 pub send-headers-many : (s : List ℕ) (h : SendHeaders) → sendHeadersAt s .end ≡ PacketRead.Packet (Packet.SendHeaders h)
     → length (sendHeadersAt s .places) ≡ 2 * h .headers
-send-headers-many s h e = omega (arith, head-handed s h e .headers-many)
+send-headers-many s h e = omega (arith, send-headers-handed s h e .headers-many)
 
 -- they are those in the table
 pub send-headers-table : (s table : List ℕ) (h : SendHeaders) → sendHeadersAt s .end ≡ PacketRead.Packet (Packet.SendHeaders h)

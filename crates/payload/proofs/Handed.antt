@@ -494,17 +494,17 @@ finished-is size next found packet = go (eqb next size) refl
     go false q e = let z : _≡_ {A = ℕ} 0 1 = cc in absurd (omega arith)
 
 -- two Send Headers that are the same packet are the same
-head-same : (g h : SendHeaders) → Packet.SendHeaders g ≡ Packet.SendHeaders h → g ≡ h
-head-same g h e = cc
+send-headers-equal : (g h : SendHeaders) → Packet.SendHeaders g ≡ Packet.SendHeaders h → g ≡ h
+send-headers-equal g h e = cc
 
 -- a Send Headers that is found by how its headers end
-head-found : (s : List ℕ) (h : SendHeaders) (places : List ℕ) (r : HeadersRead)
+send-headers-found : (s : List ℕ) (h : SendHeaders) (places : List ℕ) (r : HeadersRead)
     → HeadersBehind Direction.ToServer s (sendHeadersReads s .headers) places r
     → HeadersPlaces (fieldNumber (sendHeadersReads s .headers)) (length places) r
     → sendHeadersOf (length s) (sendHeadersReads s) r ≡ PacketRead.Packet (Packet.SendHeaders h) → SendHeadersHanded s h places
 unfolding sendHeadersReads integerAfter
-head-found s h places (HeadersRead.Refused n) b many e = let z : _≡_ {A = ℕ} 0 1 = cc in absurd (omega arith)
-head-found s h places (HeadersRead.Headers after end) b many e =
+send-headers-found s h places (HeadersRead.Refused n) b many e = let z : _≡_ {A = ℕ} 0 1 = cc in absurd (omega arith)
+send-headers-found s h places (HeadersRead.Headers after end) b many e =
     let reads = sendHeadersReads s in
     let found = finished-is (length s) end _ (Packet.SendHeaders h) e in
     let nothing : HeadersHanded Direction.ToServer s (b .0) Declared.Absent places end Declared.Absent =
@@ -512,7 +512,7 @@ head-found s h places (HeadersRead.Headers after end) b many e =
     let count = number-behind (integerAt s) 0 maxHeaders tooMany (reads .message) (b .0) (b .1) in
     let message = string-behind s StringField.Message (reads .status) (fieldPlace (reads .headers) .0) (count .0) in
     let status = number-behind (integerAt s) leastStatus greatestStatus outOfRange afterCode (fieldPlace (reads .message) .0) (message .0) in
-    subst (λ (g : SendHeaders). SendHeadersHanded s g places) (head-same _ h (found .1))
+    subst (λ (g : SendHeaders). SendHeadersHanded s g places) (send-headers-equal _ h (found .1))
     (record {
       status-read = ap (integerAt s) (status .0) ∙ status .1;
       status-range = status .2;
@@ -526,20 +526,20 @@ head-found s h places (HeadersRead.Headers after end) b many e =
     })
 
 -- what a Send Headers that was read hands out was read in it
-pub head-handed : (s : List ℕ) (h : SendHeaders) → sendHeadersAt s .end ≡ PacketRead.Packet (Packet.SendHeaders h)
+pub send-headers-handed : (s : List ℕ) (h : SendHeaders) → sendHeadersAt s .end ≡ PacketRead.Packet (Packet.SendHeaders h)
     → SendHeadersHanded s h (sendHeadersAt s .places)
 unfolding sendHeadersAt
-head-handed s h e =
+send-headers-handed s h e =
     let count = sendHeadersReads s .headers in
     let headers = headersAfter Direction.ToServer s count in
-    head-found s h (headers .places) (headers .end) (headers-behind Direction.ToServer s count)
+    send-headers-found s h (headers .places) (headers .end) (headers-behind Direction.ToServer s count)
     (headers-places Direction.ToServer s count (headers .end) refl) e
 
 -- so it has two places for each header
 pub send-headers-places : (s : List ℕ) (h : SendHeaders) → sendHeadersAt s .end ≡ PacketRead.Packet (Packet.SendHeaders h)
     → SendHeadersPlaces h (sendHeadersAt s .places)
 send-headers-places s h e =
-    let handed = head-handed s h e in
+    let handed = send-headers-handed s h e in
     record { many = handed .headers-many; headers-most = handed .headers-most }
 
 -- a CPing or a CPong
@@ -651,7 +651,7 @@ handed-by context s Packet.CPong e = bare-handed s Packet.CPong e
 handed-by context s (Packet.Forward f) e = forward-handed s f e
 handed-by context s (Packet.Body p) e = body-handed s p e
 handed-by context s (Packet.GetBody asked) e = get-handed s asked e
-handed-by context s (Packet.SendHeaders h) e = head-handed s h e
+handed-by context s (Packet.SendHeaders h) e = send-headers-handed s h e
 handed-by context s (Packet.BodyChunk p) e = chunk-handed s p e
 handed-by context s (Packet.End reuse) e = end-handed s reuse e
 

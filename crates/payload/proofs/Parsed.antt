@@ -109,9 +109,9 @@ forward-kind reads (ListsRead.Refused n) = tt
 forward-kind reads (ListsRead.Lists declared attributes) = refl
 
 -- what is read as a Send Headers is one
-head-kind : (size : ℕ) (reads : SendHeadersReads) (r : HeadersRead) → KindIs Kind.SendHeaders (sendHeadersOf size reads r)
-head-kind size reads (HeadersRead.Refused n) = tt
-head-kind size reads (HeadersRead.Headers declared next) = finished-kind size next _
+send-headers-kind : (size : ℕ) (reads : SendHeadersReads) (r : HeadersRead) → KindIs Kind.SendHeaders (sendHeadersOf size reads r)
+send-headers-kind size reads (HeadersRead.Refused n) = tt
+send-headers-kind size reads (HeadersRead.Headers declared next) = finished-kind size next _
 
 -- what is read as a kind is of that kind
 packet-kind : (context : Context) (kind : Kind) (s : List ℕ) → KindIs kind (packetAt context kind s .end)
@@ -121,7 +121,7 @@ packet-kind context Kind.CPong s = finished-kind (length s) afterCodePlace Packe
 packet-kind context Kind.Forward s = forward-kind (forwardReads s) (listsAt s (forwardReads s .headers) .end)
 packet-kind context Kind.Body s = body-kind s
 packet-kind context Kind.GetBody s = get-kind s
-packet-kind context Kind.SendHeaders s = head-kind (length s) (sendHeadersReads s) (headersAfter Direction.ToServer s (sendHeadersReads s .headers) .end)
+packet-kind context Kind.SendHeaders s = send-headers-kind (length s) (sendHeadersReads s) (headersAfter Direction.ToServer s (sendHeadersReads s .headers) .end)
 packet-kind context Kind.BodyChunk s = chunk-kind s
 packet-kind context Kind.End s = end-kind s
 
@@ -137,6 +137,6 @@ move-kind Packet.CPong = refl
 move-kind (Packet.Forward forward) = refl
 move-kind (Packet.Body part) = refl
 move-kind (Packet.GetBody asked) = refl
-move-kind (Packet.SendHeaders head) = refl
+move-kind (Packet.SendHeaders response) = refl
 move-kind (Packet.BodyChunk part) = refl
 move-kind (Packet.End reuse) = refl

@@ -31,8 +31,8 @@ module _ (context : Context) (s : List ℕ) where
       (omega (arith, f .many), omega (arith, f .many, f .headers-most, f .attributes-most))
   own-fit (Packet.Body part) e = (refl, omega arith)
   own-fit (Packet.GetBody asked) e = (refl, omega arith)
-  own-fit (Packet.SendHeaders head) e =
-      let f = send-headers-places s head e in
+  own-fit (Packet.SendHeaders response) e =
+      let f = send-headers-places s response e in
       (omega (arith, f .many), omega (arith, f .many, f .headers-most))
   own-fit (Packet.BodyChunk part) e = (refl, omega arith)
   own-fit (Packet.End reuse) e = (refl, omega arith)

@@ -132,7 +132,7 @@ own Packet.CPong = refl
 own (Packet.Forward forward) = refl
 own (Packet.Body part) = refl
 own (Packet.GetBody asked) = refl
-own (Packet.SendHeaders head) = refl
+own (Packet.SendHeaders response) = refl
 own (Packet.BodyChunk part) = refl
 own (Packet.End reuse) = refl
 
