@@ -121,7 +121,7 @@ send-leaves kind call connection buffer answer fault found c o after e is none f
 pub close-leaves : (connection building buffer answer : List ℕ) (found : ℕ) (c : Connection) (r : Building) (kind : Kind)
     (o : Outcome Written) (after : List ℕ) (e : Effect) → found ≡ closeFault connection building answer → found ≡ 0 → c ≡ connectionIn connection
     → r ≡ buildingIn building → kind ≡ builtKind (r .kind) → o ≡ closeOutcome c r buffer → after ≡ closeBuffer c r buffer
-    → e ≡ afterSending kind o connection after answer → e ≡ closeEffect building connection buffer answer
+    → e ≡ afterSending kind o connection after answer → e ≡ closeEffect connection building buffer answer
 unfolding closeEffect
 close-leaves connection building buffer answer found c r kind o after e is none from record-is kind-is comes writes tells =
     sending-leaves (builtKind (buildingIn building .kind)) connection buffer answer (closeFault connection building answer) found o _ after _ e is none

@@ -31,7 +31,7 @@ pub row-put : (list : NameList) (code : ℕ) (lent : List ℕ) → length lent �
 row-put list code lent h = over-all lent (rowOf (nameFor list code)) (h ∙ sym (row-length list code))
 
 -- without a fault seventeen bytes are lent, and the code is a 16-bit number
-pub name-fine : (name : List ℕ) (list code : ℕ) {found : ℕ} → found ≡ nameFault name list code → found ≡ 0 → (length name ≡ nameRoom) × (code ≤ lastNumber)
+pub name-fine : (name : List ℕ) (list code : ℕ) {found : ℕ} → found ≡ nameFault list code name → found ≡ 0 → (length name ≡ nameRoom) × (code ≤ lastNumber)
 unfolding nameFault
 name-fine name list code p h =
     let lent : ℕ = unless (eqb (length name) nameRoom) status.answerLength in
@@ -41,15 +41,15 @@ name-fine name list code p h =
     )
 
 -- with a fault the array is as it was
-pub fault-leaves : (name : List ℕ) (list code : ℕ) {found : ℕ} → found ≡ nameFault name list code → (found ≡ 0 → ⊥) → name ≡ nameAfter name list code
+pub fault-leaves : (name : List ℕ) (list code : ℕ) {found : ℕ} → found ≡ nameFault list code name → (found ≡ 0 → ⊥) → name ≡ nameAfter list code name
 unfolding nameAfter
 fault-leaves name list code p h = rw (← p, ne-eqb _ 0 h) refl
 
 -- without one the name is told, and written where it is listed
-pub name-told : (name : List ℕ) (list code : ℕ) {found number r : ℕ} {chosen : NameList} {after : List ℕ} → found ≡ nameFault name list code → found ≡ 0
+pub name-told : (name : List ℕ) (list code : ℕ) {found number r : ℕ} {chosen : NameList} {after : List ℕ} → found ≡ nameFault list code name → found ≡ 0
     → chosen ≡ listIn list → number ≡ code → r ≡ length (nameFor chosen number)
     → after ≡ pick (isListed chosen number) (over name 0 (rowOf (nameFor chosen number))) name
-    → (r ≡ orElse (nameFault name list code) (length (nameFor (listIn list) code))) × (after ≡ nameAfter name list code)
+    → (r ≡ orElse (nameFault list code name) (length (nameFor (listIn list) code))) × (after ≡ nameAfter list code name)
 unfolding nameAfter
 name-told name list code {found} {number} {r} {chosen} {after} p h l n q w =
     let lent : length name ≡ nameRoom = name-fine name list code p h .0 in (

@@ -69,8 +69,8 @@ send-keeps fault kind call connection buffer answer =
     (sent-keeps kind (outcome call (length buffer)) connection buffer (bufferAfter call buffer) answer (refused-buffer call buffer))
 
 -- a packet in pieces, unless it is closed
-pub close-keeps : (building connection buffer answer : List ℕ) → (closeEffect building connection buffer answer .status ≡ status.done → ⊥)
-    → Kept connection buffer answer (closeEffect building connection buffer answer)
+pub close-keeps : (building connection buffer answer : List ℕ) → (closeEffect connection building buffer answer .status ≡ status.done → ⊥)
+    → Kept connection buffer answer (closeEffect connection building buffer answer)
 unfolding closeEffect
 close-keeps building connection buffer answer =
     checked-keeps (closeFault connection building answer) connection buffer answer _

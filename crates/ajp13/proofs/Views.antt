@@ -65,7 +65,7 @@ words-show packet at = go (leb (at + lengthSize) (length packet)) (nullView pack
     go false false = rw part-zero (part-zero packet (length packet))
 
 -- without a fault three words are lent, and the place is a 16-bit number
-pub text-fine : (text : List ℕ) (place : ℕ) {found : ℕ} → found ≡ textFault text place → found ≡ 0 → (length text ≡ textSize) × (place ≤ lastNumber)
+pub text-fine : (text : List ℕ) (place : ℕ) {found : ℕ} → found ≡ textFault place text → found ≡ 0 → (length text ≡ textSize) × (place ≤ lastNumber)
 unfolding textFault
 text-fine text place p h = (
   eqb-true (length text) textSize (unless-none (eqb (length text) textSize) status.answerLength (omega arith) (or-first (unless (eqb (length text) textSize) status.answerLength) (numberFault place) (sym p ∙ h))),

@@ -29,14 +29,14 @@ abbrev pub listFault : ℕ → ℕ
 listFault list = unless (leb list lastList) status.argument
 
 -- the fault of a call that tells a name: by the array lent for it, by the list's number and by the code
-unfoldable pub nameFault : List ℕ → ℕ → ℕ → ℕ
-nameFault name list code =
+unfoldable pub nameFault : ℕ → ℕ → List ℕ → ℕ
+nameFault list code name =
     orElse (unless (eqb (length name) nameRoom) status.answerLength) (orElse (listFault list) (numberFault code))
 
 -- the array after it: the name with zeros behind it where it is listed
-unfoldable pub nameAfter : List ℕ → ℕ → ℕ → List ℕ
-nameAfter name list code =
-    pick (both (eqb (nameFault name list code) status.done) (isListed (listIn list) code)) (rowOf (nameFor (listIn list) code)) name
+unfoldable pub nameAfter : ℕ → ℕ → List ℕ → List ℕ
+nameAfter list code name =
+    pick (both (eqb (nameFault list code name) status.done) (isListed (listIn list) code)) (rowOf (nameFor (listIn list) code)) name
 
 -- the number of a code that was looked for: 0 where the name is not listed
 abbrev pub codeNumber : CodeFound → ℕ

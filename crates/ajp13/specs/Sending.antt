@@ -37,20 +37,20 @@ cpongEffect connection buffer answer =
     sendEffect (callFault connection answer) Kind.CPong (cpongCall (connectionIn connection)) connection buffer answer
 
 unfoldable pub bodyEffect : List ℕ → List ℕ → List ℕ → List ℕ → Effect
-bodyEffect bytes connection buffer answer =
+bodyEffect connection buffer bytes answer =
     sendEffect (callFault connection answer) Kind.Body (bodyCall (connectionIn connection) bytes) connection buffer answer
 
 unfoldable pub chunkEffect : List ℕ → List ℕ → List ℕ → List ℕ → Effect
-chunkEffect bytes connection buffer answer =
+chunkEffect connection buffer bytes answer =
     sendEffect (callFault connection answer) Kind.BodyChunk (chunkCall (connectionIn connection) bytes) connection buffer answer
 
-unfoldable pub getEffect : ℕ → List ℕ → List ℕ → List ℕ → Effect
-getEffect asked connection buffer answer =
+unfoldable pub getEffect : List ℕ → List ℕ → ℕ → List ℕ → Effect
+getEffect connection buffer asked answer =
     sendEffect (orElse (callFault connection answer) (numberFault asked)) Kind.GetBody (getCall (connectionIn connection) asked)
     connection buffer answer
 
-unfoldable pub endEffect : ℕ → List ℕ → List ℕ → List ℕ → Effect
-endEffect reuse connection buffer answer =
+unfoldable pub endEffect : List ℕ → List ℕ → ℕ → List ℕ → Effect
+endEffect connection buffer reuse answer =
     sendEffect (orElse (callFault connection answer) (flagFault reuse)) Kind.End (endCall (connectionIn connection) (flagIn reuse))
     connection buffer answer
 
@@ -61,7 +61,7 @@ closeFault connection building answer =
 
 -- closing the packet that a building record says
 unfoldable pub closeEffect : List ℕ → List ℕ → List ℕ → List ℕ → Effect
-closeEffect building connection buffer answer =
+closeEffect connection building buffer answer =
     checked (closeFault connection building answer) connection buffer answer
     (afterSending (builtKind (buildingIn building .kind)) (closeOutcome (connectionIn connection) (buildingIn building) buffer) connection
     (closeBuffer (connectionIn connection) (buildingIn building) buffer)

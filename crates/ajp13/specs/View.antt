@@ -40,12 +40,12 @@ unfoldable pub textWords : List ℕ → ℕ → List ℕ
 textWords packet at = textStart packet at ∷ length (textView packet at) ∷ booleanNumber (nullView packet at) ∷ []
 
 -- the fault of a call that tells a string: by the array lent for it, and by the place
-unfoldable pub textFault : List ℕ → ℕ → ℕ
-textFault text place = orElse (unless (eqb (length text) textSize) status.answerLength) (numberFault place)
+unfoldable pub textFault : ℕ → List ℕ → ℕ
+textFault place text = orElse (unless (eqb (length text) textSize) status.answerLength) (numberFault place)
 
 -- the array after it
-unfoldable pub textAfter : List ℕ → ℕ → List ℕ → List ℕ
-textAfter text place told = pick (eqb (textFault text place) status.done) told text
+unfoldable pub textAfter : ℕ → List ℕ → List ℕ → List ℕ
+textAfter place text told = pick (eqb (textFault place text) status.done) told text
 
 -- the number of a header's name: its code, or 0 where it is spelled
 abbrev pub nameNumber : HeaderName → ℕ

@@ -29,7 +29,7 @@ pub extern "C" fn ajp13_close(
     buffer: &mut [u8],
     answer: &mut [u32],
 ) -> u32
-    ensures { λ r. ⌜ leaves r (now (connection .exit)) (now (buffer .exit)) (now (answer .exit)) ≡ closeEffect (now (building .entry)) (now (connection .entry)) (now (buffer .entry)) (now (answer .entry)) ⌝ }
+    ensures { λ r. ⌜ leaves r (now (connection .exit)) (now (buffer .exit)) (now (answer .exit)) ≡ closeEffect (now (connection .entry)) (now (building .entry)) (now (buffer .entry)) (now (answer .entry)) ⌝ }
 {
     let found = close_fault(connection, building, answer);
     if found != status::DONE {

@@ -50,8 +50,8 @@ fn list_fault(list: u32) -> u32
 }
 
 // The fault of a call that tells a name.
-fn name_fault(name: &[u8], list: u32, code: u32) -> u32
-    ensures { λ r. ⌜ r ≡ nameFault (now (name .entry)) list code ⌝ }
+fn name_fault(list: u32, code: u32, name: &[u8]) -> u32
+    ensures { λ r. ⌜ r ≡ nameFault list code (now (name .entry)) ⌝ }
 {
     let lent = unless(name.len() == NAME_ROOM, status::ANSWER_LENGTH);
     or_else(lent, or_else(list_fault(list), number_fault(code)))
@@ -76,10 +76,10 @@ fn put_name(name: &mut [u8], list: NameList, code: u16) -> u32
 // The name for a code, and how long it is; 0 where no such code is listed, and nothing is written then.
 #[no_mangle]
 pub extern "C" fn ajp13_name(list: u32, code: u32, name: &mut [u8]) -> u32
-    ensures { λ r. ⌜ r ≡ orElse (nameFault (now (name .entry)) list code) (length (nameFor (listIn list) code)) ⌝ }
-    ensures { λ _. ⌜ now (name .exit) ≡ nameAfter (now (name .entry)) list code ⌝ }
+    ensures { λ r. ⌜ r ≡ orElse (nameFault list code (now (name .entry))) (length (nameFor (listIn list) code)) ⌝ }
+    ensures { λ _. ⌜ now (name .exit) ≡ nameAfter list code (now (name .entry)) ⌝ }
 {
-    let found = name_fault(name, list, code);
+    let found = name_fault(list, code, name);
     if found != status::DONE {
         return found;
     }

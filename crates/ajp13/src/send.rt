@@ -76,7 +76,7 @@ pub extern "C" fn ajp13_body(
     bytes: &[u8],
     answer: &mut [u32],
 ) -> u32
-    ensures { λ r. ⌜ leaves r (now (connection .exit)) (now (buffer .exit)) (now (answer .exit)) ≡ bodyEffect (now (bytes .entry)) (now (connection .entry)) (now (buffer .entry)) (now (answer .entry)) ⌝ }
+    ensures { λ r. ⌜ leaves r (now (connection .exit)) (now (buffer .exit)) (now (answer .exit)) ≡ bodyEffect (now (connection .entry)) (now (buffer .entry)) (now (bytes .entry)) (now (answer .entry)) ⌝ }
 {
     let found = call_fault(connection, answer);
     if found != status::DONE {
@@ -94,7 +94,7 @@ pub extern "C" fn ajp13_body_chunk(
     bytes: &[u8],
     answer: &mut [u32],
 ) -> u32
-    ensures { λ r. ⌜ leaves r (now (connection .exit)) (now (buffer .exit)) (now (answer .exit)) ≡ chunkEffect (now (bytes .entry)) (now (connection .entry)) (now (buffer .entry)) (now (answer .entry)) ⌝ }
+    ensures { λ r. ⌜ leaves r (now (connection .exit)) (now (buffer .exit)) (now (answer .exit)) ≡ chunkEffect (now (connection .entry)) (now (buffer .entry)) (now (bytes .entry)) (now (answer .entry)) ⌝ }
 {
     let found = call_fault(connection, answer);
     if found != status::DONE {
@@ -112,7 +112,7 @@ pub extern "C" fn ajp13_get_body(
     asked: u32,
     answer: &mut [u32],
 ) -> u32
-    ensures { λ r. ⌜ leaves r (now (connection .exit)) (now (buffer .exit)) (now (answer .exit)) ≡ getEffect asked (now (connection .entry)) (now (buffer .entry)) (now (answer .entry)) ⌝ }
+    ensures { λ r. ⌜ leaves r (now (connection .exit)) (now (buffer .exit)) (now (answer .exit)) ≡ getEffect (now (connection .entry)) (now (buffer .entry)) asked (now (answer .entry)) ⌝ }
 {
     let found = or_else(call_fault(connection, answer), number_fault(asked));
     if found != status::DONE {
@@ -130,7 +130,7 @@ pub extern "C" fn ajp13_end(
     reuse: u32,
     answer: &mut [u32],
 ) -> u32
-    ensures { λ r. ⌜ leaves r (now (connection .exit)) (now (buffer .exit)) (now (answer .exit)) ≡ endEffect reuse (now (connection .entry)) (now (buffer .entry)) (now (answer .entry)) ⌝ }
+    ensures { λ r. ⌜ leaves r (now (connection .exit)) (now (buffer .exit)) (now (answer .exit)) ≡ endEffect (now (connection .entry)) (now (buffer .entry)) reuse (now (answer .entry)) ⌝ }
 {
     let found = or_else(call_fault(connection, answer), flag_fault(reuse));
     if found != status::DONE {

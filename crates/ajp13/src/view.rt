@@ -77,8 +77,8 @@ fn text_words(packet: &[u8], at: usize, shown: &[u8]) -> [u32; TEXT_SIZE]
 }
 
 // The fault of a call that tells a string.
-fn text_fault(text: &[u32], place: u32) -> u32
-    ensures { λ r. ⌜ r ≡ textFault (now (text .entry)) place ⌝ }
+fn text_fault(place: u32, text: &[u32]) -> u32
+    ensures { λ r. ⌜ r ≡ textFault place (now (text .entry)) ⌝ }
 {
     or_else(
         unless(text.len() == TEXT_SIZE, status::ANSWER_LENGTH),
@@ -89,10 +89,10 @@ fn text_fault(text: &[u32], place: u32) -> u32
 // The string at a place.
 #[no_mangle]
 pub extern "C" fn ajp13_text_at(packet: &[u8], place: u32, text: &mut [u32]) -> u32
-    ensures { λ r. ⌜ r ≡ textFault (now (text .entry)) place ⌝ }
-    ensures { λ _. ⌜ now (text .exit) ≡ textAfter (now (text .entry)) place (textWords (now (packet .entry)) place) ⌝ }
+    ensures { λ r. ⌜ r ≡ textFault place (now (text .entry)) ⌝ }
+    ensures { λ _. ⌜ now (text .exit) ≡ textAfter place (now (text .entry)) (textWords (now (packet .entry)) place) ⌝ }
 {
-    let found = text_fault(text, place);
+    let found = text_fault(place, text);
     if found != status::DONE {
         return found;
     }
@@ -105,10 +105,10 @@ pub extern "C" fn ajp13_text_at(packet: &[u8], place: u32, text: &mut [u32]) -> 
 // The name that an attribute with code 0A brings with it, by the code's place.
 #[no_mangle]
 pub extern "C" fn ajp13_attribute_name_at(packet: &[u8], place: u32, text: &mut [u32]) -> u32
-    ensures { λ r. ⌜ r ≡ textFault (now (text .entry)) place ⌝ }
-    ensures { λ _. ⌜ now (text .exit) ≡ textAfter (now (text .entry)) place (textWords (now (packet .entry)) (place + 1)) ⌝ }
+    ensures { λ r. ⌜ r ≡ textFault place (now (text .entry)) ⌝ }
+    ensures { λ _. ⌜ now (text .exit) ≡ textAfter place (now (text .entry)) (textWords (now (packet .entry)) (place + 1)) ⌝ }
 {
-    let found = text_fault(text, place);
+    let found = text_fault(place, text);
     if found != status::DONE {
         return found;
     }
