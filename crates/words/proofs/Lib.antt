@@ -1,0 +1,5 @@
+pub mod Lists
+pub mod Found
+pub mod Records
+pub mod FixedWords
+pub mod Capped
