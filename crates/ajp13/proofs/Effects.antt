@@ -19,13 +19,19 @@ use Rattle.reader.specs.Meaning.{Meaning}
 use Rattle.reader.specs.Reading.{reading, tableAfter}
 use Rattle.building.specs.Sent.{Written}
 use Rattle.closing.specs.Closing.{closeOutcome, closeBuffer}
-use Rattle.ajp13.specs.Status as status
-use Rattle.ajp13.specs.Words.{lastNumber, numberFault, connectionSize, connectionRoom, connectionFault, connectionIn, buildingFault, buildingIn}
-use Rattle.ajp13.specs.Answer.{answerSize, answerFault}
-use Rattle.ajp13.specs.Effect.{Effect, leaves, checked, callFault}
-use Rattle.ajp13.specs.Reading.{afterReading, readEffect}
-use Rattle.ajp13.specs.Sending.{afterSending, sendEffect, closeFault, closeEffect}
-use Rattle.ajp13.specs.Private.{ConnectionFits, BuildingFits, Takes, soundReading}
+use Rattle.words.specs.Status as status
+use Rattle.words.specs.Number.{lastNumber, numberFault}
+use Rattle.words.specs.ConnectionWords.{connectionSize, connectionRoom, connectionFault, connectionIn}
+use Rattle.words.specs.BuildingWords.{buildingFault, buildingIn}
+use Rattle.answers.specs.Answer.{answerSize, answerFault}
+use Rattle.answers.specs.Effect.{Effect, leaves, checked, callFault}
+use Rattle.answers.specs.Told.{afterReading}
+use Rattle.ajp13.specs.Reading.{readEffect}
+use Rattle.answers.specs.Told.{afterSending}
+use Rattle.ajp13.specs.Sending.{sendEffect, closeFault, closeEffect}
+use Rattle.ajp13.specs.Private.{ConnectionFits, BuildingFits}
+use Rattle.answers.specs.Private.{Takes}
+use Rattle.ajp13.specs.Reading.{soundReading}
 use Rattle.ajp13.proofs.Records.{connection-fits, building-fits}
 
 -- an array that is to take a connection has room for it

@@ -15,11 +15,11 @@ use Rattle.names.specs.declared.NameList.{NameList}
 use Rattle.names.proofs.Codes.{name-length}
 use Rattle.building.specs.Fault.{unless, orElse}
 use Rattle.building.proofs.Sizes.{unless-none, or-first, or-second}
-use Rattle.ajp13.specs.Status as status
-use Rattle.ajp13.specs.Words.{lastNumber, numberFault}
+use Rattle.words.specs.Status as status
+use Rattle.words.specs.Number.{lastNumber, numberFault}
 use Rattle.ajp13.specs.Name.{listIn, listFault, nameFault, nameAfter}
-use Rattle.ajp13.proofs.Lists.{over-all}
-use Rattle.ajp13.proofs.Found.{later-told}
+use Rattle.words.proofs.Lists.{over-all}
+use Rattle.words.proofs.Found.{later-told}
 use Rattle.ajp13.proofs.Effects.{number-within}
 
 -- a name with zeros behind it has seventeen bytes

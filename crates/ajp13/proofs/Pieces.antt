@@ -16,10 +16,11 @@ use Rattle.building.proofs.Sizes.{unless-none}
 use Rattle.building_record.specs.Record.{isPossible}
 use Rattle.building_record.specs.declared.Building.{Building}
 use Rattle.building_record.proofs.Laws.{possible-yes}
-use Rattle.ajp13.specs.Status as status
-use Rattle.ajp13.specs.Words.{buildingSize, buildingRoom, buildingFault, buildingIn, buildingWords}
-use Rattle.ajp13.specs.Piece.{Piece, PieceEffect, pieceLeaves, afterAdding, pieceEffect}
-use Rattle.ajp13.proofs.Records.{building-back, building-right}
+use Rattle.words.specs.Status as status
+use Rattle.words.specs.BuildingWords.{buildingSize, buildingRoom, buildingFault, buildingIn, buildingWords}
+use Rattle.ajp13.specs.Piece.{Piece, pieceEffect}
+use Rattle.answers.specs.Told.{PieceEffect, pieceLeaves, afterAdding}
+use Rattle.words.proofs.Records.{building-back, building-right}
 
 module _ (piece : Piece) (building buffer : List ℕ) {found : ℕ} (is : found ≡ firstFault (piece .faults)) where
   -- a fault is told, and all is as it was

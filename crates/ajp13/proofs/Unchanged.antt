@@ -21,11 +21,14 @@ use Rattle.reading_laws.proofs.Acceptance.{refused-keeps, needs-keeps}
 use Rattle.building.specs.Sent.{Written}
 use Rattle.closing.specs.Closing.{closeOutcome, closeBuffer}
 use Rattle.closing.proofs.Laws.{close-refused}
-use Rattle.ajp13.specs.Status as status
-use Rattle.ajp13.specs.Words.{connectionIn, buildingIn}
-use Rattle.ajp13.specs.Effect.{Effect, leaves, checked, callFault}
-use Rattle.ajp13.specs.Reading.{afterReading, readEffect}
-use Rattle.ajp13.specs.Sending.{afterSending, sendEffect, closeFault, closeEffect}
+use Rattle.words.specs.Status as status
+use Rattle.words.specs.ConnectionWords.{connectionIn}
+use Rattle.words.specs.BuildingWords.{buildingIn}
+use Rattle.answers.specs.Effect.{Effect, leaves, checked, callFault}
+use Rattle.answers.specs.Told.{afterReading}
+use Rattle.ajp13.specs.Reading.{readEffect}
+use Rattle.answers.specs.Told.{afterSending}
+use Rattle.ajp13.specs.Sending.{sendEffect, closeFault, closeEffect}
 
 -- arrays that are as they were, whatever the status
 abbrev pub Kept : List ℕ → List ℕ → List ℕ → Effect → Type 0

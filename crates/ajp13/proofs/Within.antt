@@ -26,7 +26,7 @@ use Rattle.building.specs.Sent.{Written}
 use Rattle.writer.specs.Sending.{packetOf, sending}
 use Rattle.closing.specs.Closing.{closedLength, closeOutcome}
 use Rattle.closing.proofs.Laws.{close-done}
-use Rattle.ajp13.specs.Private.{ReadWithin, SentWithin}
+use Rattle.answers.specs.Private.{ReadWithin, SentWithin}
 
 -- what reading tells: how many bytes are needed, or were taken
 pub read-within : (direction : Direction) (c : Connection) (s : List ℕ) (room : ℕ) → ReadWithin (reading direction c s room)

@@ -11,8 +11,8 @@ use Rattle.names.specs.Row.{nameRoom, rowOf}
 use Rattle.names.specs.declared.CodeFound.{CodeFound}
 use Rattle.names.specs.declared.NameList.{NameList}
 use Rattle.building.specs.Fault.{unless, orElse}
-use Rattle.ajp13.specs.Status as status
-use Rattle.ajp13.specs.Words.{numberFault}
+use Rattle.words.specs.Status as status
+use Rattle.words.specs.Number.{numberFault}
 
 -- the last of the lists' numbers
 abbrev pub lastList : ℕ

@@ -14,9 +14,10 @@ use Rattle.pieces.specs.Fixed.{forwardCall, sendHeadersCall}
 use Rattle.pieces.specs.Header.{codedCall, spelledCall, namedCall}
 use Rattle.pieces.specs.Attribute.{textCall, integerCall, pairCall}
 use Rattle.building_record.specs.declared.Building.{Building}
-use Rattle.ajp13.specs.Status as status
-use Rattle.ajp13.specs.Words.{flagIn, flagFault, numberFault, buildingRoom, buildingFault, buildingIn, buildingWords}
-use Rattle.ajp13.specs.Fixed.{fixedFault, numbersIn, nullsIn}
+use Rattle.words.specs.Status as status
+use Rattle.words.specs.Number.{flagIn, flagFault, numberFault}
+use Rattle.words.specs.BuildingWords.{buildingRoom, buildingFault, buildingIn, buildingWords}
+use Rattle.words.specs.FixedWords.{fixedFault, numbersIn, nullsIn}
 
 -- a piece: the faults that are looked for first, in their order, and then the call that adds it
 pub record Piece : Type 0 where

@@ -10,10 +10,12 @@ use Rattle.building.specs.Call as call
 use Rattle.reader.specs.Meaning as read
 use Rattle.reader.specs.Reading.{reading, tableAfter}
 use Rattle.building.specs.Sent.{Written}
-use Rattle.ajp13.specs.Words.{word, lastNumber, connectionSize, askedPlace, connectionIn, buildingSize, nextPlace, countPlace, soFarPlace}
-use Rattle.ajp13.specs.Answer.{answerSize}
-use Rattle.ajp13.specs.Effect.{Effect}
-use Rattle.ajp13.specs.Reading.{afterReading}
+use Rattle.words.specs.Number.{word, lastNumber}
+use Rattle.words.specs.ConnectionWords.{connectionSize, askedPlace, connectionIn}
+use Rattle.words.specs.BuildingWords.{buildingSize, nextPlace, countPlace, soFarPlace}
+use Rattle.answers.specs.Answer.{answerSize}
+use Rattle.answers.specs.Effect.{Effect}
+use Rattle.answers.specs.Told.{afterReading}
 
 -- the words of a connection: all of them are there, and the number among them is one
 pub record ConnectionFits (words : List ℕ) : Type 0 where

@@ -7,10 +7,10 @@ use lib.ListN.{length}
 use Rattle.packet.specs.declared.Direction.{Direction}
 use Rattle.reader.specs.Meaning.{Meaning, needs, refused, accepted}
 use Rattle.reader.specs.Reading.{reading, tableAfter}
-use Rattle.ajp13.specs.Status as status
-use Rattle.ajp13.specs.Words.{connectionIn, connectionWords}
-use Rattle.ajp13.specs.Answer.{needsWords, packetWords}
-use Rattle.ajp13.specs.Effect.{Effect, leaves, checked, callFault}
+use Rattle.words.specs.Status as status
+use Rattle.words.specs.ConnectionWords.{connectionIn, connectionWords}
+use Rattle.answers.specs.Answer.{needsWords, packetWords}
+use Rattle.answers.specs.Effect.{Effect, leaves, checked, callFault}
 
 -- by the reader's answer, with the table as the reader leaves it
 abbrev pub afterReading : Meaning → List ℕ → List ℕ → List ℕ → Effect

@@ -11,10 +11,12 @@ use Rattle.building_record.specs.Record.{builtKind}
 use Rattle.building.specs.Sent.{Written}
 use Rattle.writer.specs.Sending.{cpingCall, cpongCall, bodyCall, chunkCall, getCall, endCall}
 use Rattle.closing.specs.Closing.{closeOutcome, closeBuffer}
-use Rattle.ajp13.specs.Status as status
-use Rattle.ajp13.specs.Words.{flagIn, flagFault, numberFault, connectionFault, connectionIn, connectionWords, buildingFault, buildingIn}
-use Rattle.ajp13.specs.Answer.{answerFault, writtenWords}
-use Rattle.ajp13.specs.Effect.{Effect, leaves, checked, callFault}
+use Rattle.words.specs.Status as status
+use Rattle.words.specs.Number.{flagIn, flagFault, numberFault}
+use Rattle.words.specs.ConnectionWords.{connectionFault, connectionIn, connectionWords}
+use Rattle.words.specs.BuildingWords.{buildingFault, buildingIn}
+use Rattle.answers.specs.Answer.{answerFault, writtenWords}
+use Rattle.answers.specs.Effect.{Effect, leaves, checked, callFault}
 
 -- by what sending a packet of a kind comes to, with the buffer as it is then
 abbrev pub afterSending : Kind → Outcome Written → List ℕ → List ℕ → List ℕ → Effect

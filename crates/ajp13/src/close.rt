@@ -1,6 +1,6 @@
 // Closing a packet that was built in pieces.
 ghost use mathlib.Core.Path.{_≡_};
-ghost use Rattle.ajp13.specs.Effect.{leaves};
+ghost use Rattle.answers.specs.Effect.{leaves};
 ghost use Rattle.ajp13.specs.Sending.{closeFault, closeEffect};
 use crate::answer::answer_fault;
 use crate::send::tell;

@@ -1,6 +1,6 @@
 // A connection made new.
 ghost use mathlib.Core.Path.{_≡_};
-ghost use Rattle.ajp13.specs.Words.{connectionRoom, freshAfter};
+ghost use Rattle.words.specs.ConnectionWords.{connectionRoom, freshAfter};
 use crate::status;
 use crate::words::connection_room;
 use crate::words::put_connection;

@@ -1,8 +1,6 @@
 // A connection as words.
 ghost use mathlib.Core.Path.{_≡_};
 ghost use lib.ListN.{length};
-ghost use Rattle.building.specs.Fault.{unless};
-ghost use Rattle.words.specs.Status.{connectionWord};
 ghost use Rattle.words.specs.ConnectionWords.{stateWord, stateIn, connectionSize, areUnused, areBusy, connectionRoom, connectionFault, connectionIn, connectionWords};
 use crate::number::LAST_NUMBER;
 use crate::number::SET;

@@ -3,9 +3,11 @@
 use mathlib.Core.Path.{sym, ap, subst, _∙_}
 use Rattle.building_record.specs.Record.{builtKind}
 use Rattle.ajp13.specs.Sending.{closeEffect}
-use Rattle.ajp13.specs.Private.{BuildingFits, SentWithin}
+use Rattle.ajp13.specs.Private.{BuildingFits}
+use Rattle.answers.specs.Private.{SentWithin}
 use Rattle.ajp13.proofs.Within.{close-within}
-use Rattle.ajp13.proofs.Effects.{Right, close-right, fault-told, close-leaves}
+use Rattle.ajp13.proofs.Effects.{Right, close-right, close-leaves}
+use Rattle.answers.proofs.Effects.{fault-told}
 use borrow.Author.Needs.{needs}
 use Rattle.ajp13.proofs.close.ajp13_close.Statement.{statement}
 use Rattle.ajp13.proofs.close.ajp13_close.Tie as tie

@@ -2,7 +2,7 @@
 -- Assumes nothing.
 use borrow.Author.Tests.{eq-eqb, ne-eqb}
 use mathlib.Core.Path.{sym, ap, _∙_}
-use Rattle.ajp13.specs.Words.{connectionWords, freshAfter}
+use Rattle.words.specs.ConnectionWords.{connectionWords, freshAfter}
 use Rattle.ajp13.proofs.Effects.{room-all}
 use borrow.Author.Needs.{needs}
 use Rattle.ajp13.proofs.fresh.ajp13_fresh.Statement.{statement}

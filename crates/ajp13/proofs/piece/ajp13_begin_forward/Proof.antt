@@ -1,4 +1,4 @@
--- `building::ajp13_begin_forward` meets its contract: a fault is told and nothing is written, else all is as the library's call leaves it.
+-- `piece::ajp13_begin_forward` meets its contract: a fault is told and nothing is written, else all is as the library's call leaves it.
 -- Assumes nothing.
 use mathlib.Core.Path.{_≡_, refl, sym, _∙_}
 use Rattle.building.specs.Fault.{firstFault}

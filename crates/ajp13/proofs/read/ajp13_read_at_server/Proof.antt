@@ -6,11 +6,12 @@ use Rattle.packet.specs.declared.Direction.{Direction}
 use Rattle.packet.specs.declared.Packet.{Packet}
 use Rattle.short_ways.specs.Short.{partMeaning}
 use Rattle.short_ways.proofs.ShortWays.{short-reads, short-keeps}
-use Rattle.ajp13.specs.Answer.{packetWords}
+use Rattle.answers.specs.Answer.{packetWords}
 use Rattle.ajp13.specs.Reading.{readEffect}
-use Rattle.ajp13.specs.Private.{ReadWithin}
+use Rattle.answers.specs.Private.{ReadWithin}
 use Rattle.ajp13.proofs.Within.{read-within}
-use Rattle.ajp13.proofs.Effects.{Right, call-right, fault-told, sound-reading, read-leaves}
+use Rattle.ajp13.proofs.Effects.{Right, call-right, sound-reading, read-leaves}
+use Rattle.answers.proofs.Effects.{fault-told}
 use borrow.Author.Needs.{needs}
 use Rattle.ajp13.proofs.read.ajp13_read_at_server.Statement.{statement}
 use Rattle.ajp13.proofs.read.ajp13_read_at_server.Tie as tie

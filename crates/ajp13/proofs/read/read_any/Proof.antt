@@ -2,7 +2,7 @@
 -- Assumes nothing.
 use mathlib.Core.Path.{sym, subst}
 use lib.ListN.{length}
-use Rattle.ajp13.specs.Private.{ReadWithin}
+use Rattle.answers.specs.Private.{ReadWithin}
 use Rattle.ajp13.proofs.Within.{read-within}
 use Rattle.ajp13.proofs.Effects.{sound-reading}
 use borrow.Author.Needs.{needs}

@@ -7,9 +7,10 @@ use lib.ListN.{length}
 use Rattle.connection.specs.declared.Connection.{Connection}
 use Rattle.writer.specs.Sending.{chunkPayload, chunkCall}
 use Rattle.ajp13.specs.Sending.{chunkEffect}
-use Rattle.ajp13.specs.Private.{SentWithin}
+use Rattle.answers.specs.Private.{SentWithin}
 use Rattle.ajp13.proofs.Within.{sent-within}
-use Rattle.ajp13.proofs.Effects.{Right, call-right, fault-told, send-leaves}
+use Rattle.ajp13.proofs.Effects.{Right, call-right, send-leaves}
+use Rattle.answers.proofs.Effects.{fault-told}
 use borrow.Author.Needs.{needs}
 use Rattle.ajp13.proofs.send.ajp13_body_chunk.Statement.{statement}
 use Rattle.ajp13.proofs.send.ajp13_body_chunk.Tie as tie

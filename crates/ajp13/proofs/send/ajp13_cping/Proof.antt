@@ -5,9 +5,10 @@ use Rattle.connection.specs.declared.Kind.{Kind}
 use Rattle.connection.specs.declared.Move.{Move}
 use Rattle.writer.specs.Sending.{barePayload, bareCall, cpingCall}
 use Rattle.ajp13.specs.Sending.{cpingEffect}
-use Rattle.ajp13.specs.Private.{SentWithin}
+use Rattle.answers.specs.Private.{SentWithin}
 use Rattle.ajp13.proofs.Within.{sent-within}
-use Rattle.ajp13.proofs.Effects.{Right, call-right, fault-told, send-leaves}
+use Rattle.ajp13.proofs.Effects.{Right, call-right, send-leaves}
+use Rattle.answers.proofs.Effects.{fault-told}
 use borrow.Author.Needs.{needs}
 use Rattle.ajp13.proofs.send.ajp13_cping.Statement.{statement}
 use Rattle.ajp13.proofs.send.ajp13_cping.Tie as tie

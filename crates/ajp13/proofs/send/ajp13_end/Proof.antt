@@ -10,12 +10,13 @@ use Rattle.building.specs.Fault.{orElse}
 use Rattle.building.specs.Call.{outcome, bufferAfter}
 use Rattle.building.proofs.Sizes.{or-first}
 use Rattle.writer.specs.Sending.{endPayload, endCall}
-use Rattle.ajp13.specs.Words.{flagIn, flagFault}
-use Rattle.ajp13.specs.Effect.{callFault}
+use Rattle.words.specs.Number.{flagIn, flagFault}
+use Rattle.answers.specs.Effect.{callFault}
 use Rattle.ajp13.specs.Sending.{endEffect}
-use Rattle.ajp13.specs.Private.{SentWithin}
+use Rattle.answers.specs.Private.{SentWithin}
 use Rattle.ajp13.proofs.Within.{sent-within}
-use Rattle.ajp13.proofs.Effects.{Right, call-right, fault-told, send-leaves}
+use Rattle.ajp13.proofs.Effects.{Right, call-right, send-leaves}
+use Rattle.answers.proofs.Effects.{fault-told}
 use borrow.Author.Needs.{needs}
 use Rattle.ajp13.proofs.send.ajp13_end.Statement.{statement}
 use Rattle.ajp13.proofs.send.ajp13_end.Tie as tie

@@ -10,12 +10,13 @@ use Rattle.building.specs.Fault.{orElse}
 use Rattle.building.specs.Call.{outcome, bufferAfter}
 use Rattle.building.proofs.Sizes.{or-first, or-second}
 use Rattle.writer.specs.Sending.{getPayload, getCall}
-use Rattle.ajp13.specs.Words.{numberFault}
-use Rattle.ajp13.specs.Effect.{callFault}
+use Rattle.words.specs.Number.{numberFault}
+use Rattle.answers.specs.Effect.{callFault}
 use Rattle.ajp13.specs.Sending.{getEffect}
-use Rattle.ajp13.specs.Private.{SentWithin}
+use Rattle.answers.specs.Private.{SentWithin}
 use Rattle.ajp13.proofs.Within.{sent-within}
-use Rattle.ajp13.proofs.Effects.{Right, call-right, fault-told, send-leaves, number-within}
+use Rattle.ajp13.proofs.Effects.{Right, call-right, send-leaves, number-within}
+use Rattle.answers.proofs.Effects.{fault-told}
 use borrow.Author.Needs.{needs}
 use Rattle.ajp13.proofs.send.ajp13_get_body.Statement.{statement}
 use Rattle.ajp13.proofs.send.ajp13_get_body.Tie as tie

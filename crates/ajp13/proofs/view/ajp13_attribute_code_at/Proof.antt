@@ -1,7 +1,7 @@
 -- `view::ajp13_attribute_code_at` meets its contract: a fault in the place is told, else what the view shows there.
 -- Assumes nothing.
 use mathlib.Core.Path.{sym, ap, _∙_}
-use Rattle.ajp13.proofs.Found.{fault-told, later-told}
+use Rattle.words.proofs.Found.{fault-told, later-told}
 use Rattle.ajp13.proofs.Effects.{number-within}
 use Prim.Native.Nat.{ℕ}
 use lib.ListN.{getD}

@@ -1,12 +1,12 @@
 -- `view::ajp13_attribute_kind_at` meets its contract: a fault in the place is told, else what the view shows there.
 -- Assumes nothing.
 use mathlib.Core.Path.{sym, ap, _∙_}
-use Rattle.ajp13.proofs.Found.{fault-told, later-told}
+use Rattle.words.proofs.Found.{fault-told, later-told}
 use Rattle.ajp13.proofs.Effects.{number-within}
 use Prim.Native.Nat.{ℕ}
 use lib.ListN.{getD}
 use Rattle.names.specs.Attribute.{attributeKind}
-use Rattle.ajp13.specs.View.{kindNumber}
+use Rattle.view_words.specs.View.{kindNumber}
 use borrow.Author.Needs.{needs}
 use Rattle.ajp13.proofs.view.ajp13_attribute_kind_at.Statement.{statement}
 use Rattle.ajp13.proofs.view.ajp13_attribute_kind_at.Tie as tie

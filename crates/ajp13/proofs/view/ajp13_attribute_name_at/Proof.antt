@@ -5,9 +5,9 @@ use native.Mathlib.Omega.{arith}
 use Prim.Native.Nat.{ℕ, _+_}
 use lib.ListN.{length}
 use Rattle.views.specs.View.{textView}
-use Rattle.ajp13.specs.View.{textWords, textAfter}
-use Rattle.ajp13.proofs.Found.{fault-keeps, later-written}
-use Rattle.ajp13.proofs.Views.{text-fine}
+use Rattle.view_words.specs.View.{textWords, textAfter}
+use Rattle.words.proofs.Found.{fault-keeps, later-written}
+use Rattle.view_words.proofs.Views.{text-fine}
 use borrow.Author.Needs.{needs}
 use Rattle.ajp13.proofs.view.ajp13_attribute_name_at.Statement.{statement}
 use Rattle.ajp13.proofs.view.ajp13_attribute_name_at.Tie as tie

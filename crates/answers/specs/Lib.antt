@@ -1,0 +1,4 @@
+pub mod Answer
+pub mod Effect
+pub mod Told
+pub mod Private
