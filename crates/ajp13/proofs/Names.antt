@@ -20,7 +20,7 @@ use Rattle.words.specs.Number.{lastNumber, numberFault}
 use Rattle.ajp13.specs.Name.{listIn, listFault, nameFault, nameAfter}
 use Rattle.words.proofs.Lists.{over-all}
 use Rattle.words.proofs.Found.{later-told}
-use Rattle.ajp13.proofs.Effects.{number-within}
+use Rattle.words.proofs.Records.{number-within}
 
 -- a name with zeros behind it has seventeen bytes
 pub row-length : (list : NameList) (code : ℕ) → length (rowOf (nameFor list code)) ≡ nameRoom

@@ -22,7 +22,7 @@ use Rattle.building_record.specs.Record as building
 use Rattle.building_record.specs.declared.BuildingKind.{BuildingKind}
 use Rattle.building_record.specs.declared.Building.{Building}
 use Rattle.words.specs.Status as status
-use Rattle.words.specs.Number.{word, lastFlag, isFlag, flagIn, lastNumber, isNumber, capped}
+use Rattle.words.specs.Number.{word, lastFlag, isFlag, flagIn, lastNumber, isNumber, capped, numberFault}
 use Rattle.words.specs.Kinds.{kindWord}
 use Rattle.words.specs.ConnectionWords.{stateWord, lastState, stateIn, connectionSize, statePlace, leftPlace, duePlace, askedPlace, headersPlace, areUnused, areBusy, areConnection, connectionRoom, connectionFault, connectionIn, connectionWords, countingWords}
 use Rattle.words.specs.BuildingWords.{isForwardWord, isSendHeadersWord, buildingKindIn, buildingSize, kindPlace, nextPlace, countPlace, soFarPlace, attributesPlace, areBuilding, buildingRoom, buildingFault, buildingIn, buildingWords}
@@ -47,6 +47,11 @@ capped-within n = go (leb n lastNumber) refl
     go : (t : Bool) → leb n lastNumber ≡ t → pick t n lastNumber ≤ lastNumber
     go true e = leb-true n lastNumber e
     go false e = omega arith
+
+-- an argument without fault fits
+pub number-within : (n : ℕ) → numberFault n ≡ 0 → n ≤ lastNumber
+unfolding numberFault
+number-within n h = leb-true n lastNumber (unless-none (leb n lastNumber) status.argument (omega arith) h)
 
 -- the fault of words by their number: of a connection's
 module _ (words : List ℕ) where

@@ -4,7 +4,7 @@ use mathlib.Core.Path.{_≡_, refl, sym, _∙_}
 use Rattle.building.specs.Fault.{firstFault}
 use Rattle.building.proofs.Faults.{Faultless, faultless}
 use Rattle.ajp13.specs.Piece.{Piece, sendHeadersPiece}
-use Rattle.ajp13.proofs.Effects.{number-within}
+use Rattle.words.proofs.Records.{number-within}
 use Rattle.ajp13.proofs.Pieces.{piece-fault, piece-called, room-fits}
 use borrow.Author.Needs.{needs}
 use Rattle.ajp13.proofs.piece.ajp13_begin_send_headers.Statement.{statement}

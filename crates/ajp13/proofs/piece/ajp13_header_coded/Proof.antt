@@ -5,7 +5,7 @@ use Rattle.building.specs.Fault.{firstFault}
 use Rattle.building.proofs.Faults.{Faultless, faultless}
 use Rattle.ajp13.specs.Piece.{Piece, codedPiece}
 use Rattle.ajp13.proofs.Records.{building-fits}
-use Rattle.ajp13.proofs.Effects.{number-within}
+use Rattle.words.proofs.Records.{number-within}
 use Rattle.ajp13.proofs.Pieces.{piece-fault, piece-called}
 use borrow.Author.Needs.{needs}
 use Rattle.ajp13.proofs.piece.ajp13_header_coded.Statement.{statement}

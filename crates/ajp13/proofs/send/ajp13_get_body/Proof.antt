@@ -15,7 +15,8 @@ use Rattle.answers.specs.Effect.{callFault}
 use Rattle.ajp13.specs.Sending.{getEffect}
 use Rattle.answers.specs.Private.{SentWithin}
 use Rattle.ajp13.proofs.Within.{sent-within}
-use Rattle.ajp13.proofs.Effects.{Right, call-right, send-leaves, number-within}
+use Rattle.ajp13.proofs.Effects.{Right, call-right, send-leaves}
+use Rattle.words.proofs.Records.{number-within}
 use Rattle.answers.proofs.Effects.{fault-told}
 use borrow.Author.Needs.{needs}
 use Rattle.ajp13.proofs.send.ajp13_get_body.Statement.{statement}

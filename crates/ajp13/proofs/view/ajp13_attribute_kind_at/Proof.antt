@@ -2,7 +2,7 @@
 -- Assumes nothing.
 use mathlib.Core.Path.{sym, ap, _∙_}
 use Rattle.words.proofs.Found.{fault-told, later-told}
-use Rattle.ajp13.proofs.Effects.{number-within}
+use Rattle.words.proofs.Records.{number-within}
 use Prim.Native.Nat.{ℕ}
 use lib.ListN.{getD}
 use Rattle.names.specs.Attribute.{attributeKind}

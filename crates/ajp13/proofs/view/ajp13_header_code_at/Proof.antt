@@ -4,7 +4,7 @@ use mathlib.Core.Path.{sym, ap, _∙_}
 use Rattle.views.specs.View.{nameView}
 use Rattle.view_words.specs.View.{nameNumber}
 use Rattle.words.proofs.Found.{fault-told, later-told}
-use Rattle.ajp13.proofs.Effects.{number-within}
+use Rattle.words.proofs.Records.{number-within}
 use borrow.Author.Needs.{needs}
 use Rattle.ajp13.proofs.view.ajp13_header_code_at.Statement.{statement}
 use Rattle.ajp13.proofs.view.ajp13_header_code_at.Tie as tie
