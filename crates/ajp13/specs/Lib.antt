@@ -1,11 +1,4 @@
-pub mod Status
-pub mod Words
-pub mod Answer
-pub mod Effect
 pub mod Reading
 pub mod Sending
-pub mod Private
-pub mod View
-pub mod Name
-pub mod Fixed
 pub mod Piece
+pub mod Name

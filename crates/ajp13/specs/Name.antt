@@ -12,7 +12,7 @@ use Rattle.names.specs.declared.CodeFound.{CodeFound}
 use Rattle.names.specs.declared.NameList.{NameList}
 use Rattle.building.specs.Fault.{unless, orElse}
 use Rattle.words.specs.Status as status
-use Rattle.words.specs.Number.{numberFault}
+use Rattle.words.specs.Number.{capped}
 
 -- the last of the lists' numbers
 abbrev pub lastList : ℕ
@@ -28,15 +28,14 @@ listIn word =
 abbrev pub listFault : ℕ → ℕ
 listFault list = unless (leb list lastList) status.argument
 
--- the fault of a call that tells a name: by the array lent for it, by the list's number and by the code
-unfoldable pub nameFault : ℕ → ℕ → List ℕ → ℕ
-nameFault list code name =
-    orElse (unless (eqb (length name) nameRoom) status.answerLength) (orElse (listFault list) (numberFault code))
+-- the fault of a call that tells a name: by the array lent for it and by the list's number
+unfoldable pub nameFault : ℕ → List ℕ → ℕ
+nameFault list name = orElse (unless (eqb (length name) nameRoom) status.answerLength) (listFault list)
 
 -- the array after it: the name with zeros behind it where it is listed
 unfoldable pub nameAfter : ℕ → ℕ → List ℕ → List ℕ
 nameAfter list code name =
-    pick (both (eqb (nameFault list code name) status.done) (isListed (listIn list) code)) (rowOf (nameFor (listIn list) code)) name
+    pick (both (eqb (nameFault list name) status.done) (isListed (listIn list) (capped code))) (rowOf (nameFor (listIn list) (capped code))) name
 
 -- the number of a code that was looked for: 0 where the name is not listed
 abbrev pub codeNumber : CodeFound → ℕ

@@ -9,38 +9,21 @@ use lib.ListN.{length}
 use Rattle.wire.specs.Pick.{pick}
 use Rattle.wire.specs.Refusal.{none}
 use Rattle.building.specs.Fault.{firstFault}
-use Rattle.building.specs.Call.{Call, Outcome, refused, done, outcome, bufferAfter}
+use Rattle.building.specs.Call.{Call, outcome, bufferAfter}
 use Rattle.pieces.specs.Fixed.{forwardCall, sendHeadersCall}
 use Rattle.pieces.specs.Header.{codedCall, spelledCall, namedCall}
 use Rattle.pieces.specs.Attribute.{textCall, integerCall, pairCall}
 use Rattle.building_record.specs.declared.Building.{Building}
-use Rattle.words.specs.Status as status
-use Rattle.words.specs.Number.{flagIn, flagFault, numberFault}
-use Rattle.words.specs.BuildingWords.{buildingRoom, buildingFault, buildingIn, buildingWords}
-use Rattle.words.specs.FixedWords.{fixedFault, numbersIn, nullsIn}
+use Rattle.words.specs.Number.{flagIn, capped, flagFault, numberFault}
+use Rattle.words.specs.BuildingWords.{buildingRoom, buildingFault, buildingIn}
+use Rattle.words.specs.FixedWords.{fixedFault, sslFault, numbersIn, nullsIn}
+use Rattle.answers.specs.Told.{PieceEffect, pieceLeaves, afterAdding}
+use Rattle.ajp13.specs.Sending.{withFault}
 
 -- a piece: the faults that are looked for first, in their order, and then the call that adds it
 pub record Piece : Type 0 where
   pub faults : List ℕ
   pub call : Call Building
-
--- what a piece leaves: its status, the words of the building record and the buffer
-pub record PieceEffect : Type 0 where
-  pub status : ℕ
-  pub building : List ℕ
-  pub buffer : List ℕ
-
-abbrev pub pieceLeaves : ℕ → List ℕ → List ℕ → PieceEffect
-pieceLeaves status building buffer = record {
-  status = status;
-  building = building;
-  buffer = buffer;
-}
-
--- by what its call comes to, with the buffer as it is then: a refusal's number and the words as they were, or done and those of the next record
-abbrev pub afterAdding : Outcome Building → List ℕ → List ℕ → PieceEffect
-afterAdding (refused n) building buffer = pieceLeaves n building buffer
-afterAdding (done r) building buffer = pieceLeaves status.done (buildingWords r) buffer
 
 -- by the fault that is found first: with none it leaves what the call comes to, else that fault and all as it was
 unfoldable pub pieceEffect : Piece → List ℕ → List ℕ → PieceEffect
@@ -49,24 +32,25 @@ pieceEffect piece building buffer =
     (afterAdding (outcome (piece .call) (length buffer)) building (bufferAfter (piece .call) buffer))
     (pieceLeaves (firstFault (piece .faults)) building buffer)
 
--- the first piece of each packet: of the building record's words only their number is looked at
+-- the first piece of each packet: of the building record's words only their number is looked at. is_ssl is the last field that may be out of
+-- range, so that its fault comes behind the others
 unfoldable pub forwardPiece : List ℕ → List ℕ → List ℕ → List ℕ → List ℕ → List ℕ → List ℕ → Piece
 forwardPiece building fixed protocol uri addr host name = record {
   faults = buildingRoom building ∷ fixedFault fixed ∷ [];
-  call = forwardCall (numbersIn fixed) (nullsIn fixed) protocol uri addr host name;
+  call = withFault (forwardCall (numbersIn fixed) (nullsIn fixed) protocol uri addr host name) (sslFault fixed);
 }
 
 unfoldable pub sendHeadersPiece : List ℕ → ℕ → List ℕ → ℕ → Piece
 sendHeadersPiece building httpStatus message null = record {
-  faults = buildingRoom building ∷ numberFault httpStatus ∷ flagFault null ∷ [];
-  call = sendHeadersCall httpStatus (flagIn null) message;
+  faults = buildingRoom building ∷ flagFault null ∷ [];
+  call = sendHeadersCall (capped httpStatus) (flagIn null) message;
 }
 
 -- headers
 unfoldable pub codedPiece : List ℕ → List ℕ → ℕ → List ℕ → ℕ → Piece
 codedPiece building buffer code value null = record {
-  faults = buildingFault building ∷ numberFault code ∷ flagFault null ∷ [];
-  call = codedCall (buildingIn building) buffer code (flagIn null) value;
+  faults = buildingFault building ∷ flagFault null ∷ [];
+  call = codedCall (buildingIn building) buffer (capped code) (flagIn null) value;
 }
 
 unfoldable pub spelledPiece : List ℕ → List ℕ → List ℕ → ℕ → List ℕ → ℕ → Piece
@@ -84,18 +68,18 @@ namedPiece building buffer name value null = record {
 -- attributes
 unfoldable pub textPiece : List ℕ → List ℕ → ℕ → List ℕ → ℕ → Piece
 textPiece building buffer code value null = record {
-  faults = buildingFault building ∷ numberFault code ∷ flagFault null ∷ [];
-  call = textCall (buildingIn building) buffer code (flagIn null) value;
+  faults = buildingFault building ∷ flagFault null ∷ [];
+  call = textCall (buildingIn building) buffer (capped code) (flagIn null) value;
 }
 
 unfoldable pub integerPiece : List ℕ → List ℕ → ℕ → ℕ → Piece
 integerPiece building buffer code value = record {
-  faults = buildingFault building ∷ numberFault code ∷ numberFault value ∷ [];
-  call = integerCall (buildingIn building) buffer code value;
+  faults = buildingFault building ∷ numberFault value ∷ [];
+  call = integerCall (buildingIn building) buffer (capped code) value;
 }
 
 unfoldable pub pairPiece : List ℕ → List ℕ → ℕ → List ℕ → ℕ → List ℕ → ℕ → Piece
 pairPiece building buffer code name noname value novalue = record {
-  faults = buildingFault building ∷ numberFault code ∷ flagFault noname ∷ flagFault novalue ∷ [];
-  call = pairCall (buildingIn building) buffer code (flagIn noname) name (flagIn novalue) value;
+  faults = buildingFault building ∷ flagFault noname ∷ flagFault novalue ∷ [];
+  call = pairCall (buildingIn building) buffer (capped code) (flagIn noname) name (flagIn novalue) value;
 }

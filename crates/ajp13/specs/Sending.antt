@@ -1,28 +1,33 @@
 -- What a call that sends a packet leaves: the packets that one call builds, and closing one that was built in pieces.
 -- The C boundary: a refusal writes nothing; the definitions of `writer` and `closing` say all else.
 -- Assumes nothing.
-use mathlib.Core.List.{List, [], _∷_}
+use mathlib.Core.List.{List, [], _∷_, _++_}
 use Prim.Native.Nat.{ℕ}
 use lib.ListN.{length}
+use Rattle.wire.specs.Refusal.{outOfRange}
+use Rattle.connection.specs.declared.Connection.{Connection}
 use Rattle.connection.specs.declared.Kind.{Kind}
-use Rattle.building.specs.Fault.{orElse, firstFault}
-use Rattle.building.specs.Call.{Call, Outcome, refused, done, outcome, bufferAfter}
-use Rattle.building_record.specs.Record.{builtKind}
+use Rattle.building.specs.Fault.{unless, orElse, firstFault}
+use Rattle.building.specs.Call.{Call, outcome, bufferAfter}
 use Rattle.building.specs.Sent.{Written}
+use Rattle.building_record.specs.Record.{builtKind}
 use Rattle.writer.specs.Sending.{cpingCall, cpongCall, bodyCall, chunkCall, getCall, endCall}
 use Rattle.closing.specs.Closing.{closeOutcome, closeBuffer}
-use Rattle.words.specs.Status as status
-use Rattle.words.specs.Number.{flagIn, flagFault, numberFault}
-use Rattle.words.specs.ConnectionWords.{connectionFault, connectionIn, connectionWords}
+use Rattle.words.specs.Number.{isFlag, flagIn, numberFault}
+use Rattle.words.specs.ConnectionWords.{connectionFault, connectionIn}
 use Rattle.words.specs.BuildingWords.{buildingFault, buildingIn}
-use Rattle.answers.specs.Answer.{answerFault, writtenWords}
-use Rattle.answers.specs.Effect.{Effect, leaves, checked, callFault}
+use Rattle.answers.specs.Answer.{answerFault}
+use Rattle.answers.specs.Effect.{Effect, checked, callFault}
+use Rattle.answers.specs.Told.{afterSending}
 
--- by what sending a packet of a kind comes to, with the buffer as it is then
-abbrev pub afterSending : Kind → Outcome Written → List ℕ → List ℕ → List ℕ → Effect
-afterSending kind (refused n) connection buffer answer = leaves n connection buffer answer
-afterSending kind (done w) connection buffer answer =
-    leaves status.done (connectionWords (w .connection)) buffer (writtenWords kind (w .size))
+-- a call with one fault more, that of a word which is out of the range of its field: it is looked for behind the call's own and before 2 and 15
+abbrev pub withFault : {A : Type 0} → Call A → ℕ → Call A
+withFault call fault = record {
+  faults = call .faults ++ (fault ∷ []);
+  at = call .at;
+  bytes = call .bytes;
+  answer = call .answer;
+}
 
 -- a packet that one call builds
 abbrev pub sendEffect : ℕ → Kind → Call Written → List ℕ → List ℕ → List ℕ → Effect
@@ -51,10 +56,16 @@ getEffect connection buffer asked answer =
     sendEffect (orElse (callFault connection answer) (numberFault asked)) Kind.GetBody (getCall (connectionIn connection) asked)
     connection buffer answer
 
+-- an End: 13, then 7 for a word that is no boolean
+abbrev pub reuseFault : ℕ → ℕ
+reuseFault reuse = unless (isFlag reuse) outOfRange
+
+abbrev pub endOf : Connection → ℕ → Call Written
+endOf c reuse = withFault (endCall c (flagIn reuse)) (reuseFault reuse)
+
 unfoldable pub endEffect : List ℕ → List ℕ → ℕ → List ℕ → Effect
 endEffect connection buffer reuse answer =
-    sendEffect (orElse (callFault connection answer) (flagFault reuse)) Kind.End (endCall (connectionIn connection) (flagIn reuse))
-    connection buffer answer
+    sendEffect (callFault connection answer) Kind.End (endOf (connectionIn connection) reuse) connection buffer answer
 
 -- the faults that closing looks for first
 unfoldable pub closeFault : List ℕ → List ℕ → List ℕ → ℕ

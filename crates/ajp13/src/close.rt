@@ -2,14 +2,14 @@
 ghost use mathlib.Core.Path.{_≡_};
 ghost use Rattle.answers.specs.Effect.{leaves};
 ghost use Rattle.ajp13.specs.Sending.{closeFault, closeEffect};
-use crate::answer::answer_fault;
-use crate::send::tell;
-use crate::status;
-use crate::status::or_else;
-use crate::words::building_fault;
-use crate::words::building_in;
-use crate::words::connection_fault;
-use crate::words::connection_in;
+use answers::answer::answer_fault;
+use answers::sent::tell_sent;
+use words::building_words::building_fault;
+use words::building_words::building_in;
+use words::connection_words::connection_fault;
+use words::connection_words::connection_in;
+use words::status;
+use words::status::or_else;
 
 // What is looked for first.
 fn close_fault(connection: &[u32], building: &[u32], answer: &[u32]) -> u32
@@ -23,7 +23,7 @@ fn close_fault(connection: &[u32], building: &[u32], answer: &[u32]) -> u32
 
 // Closes the packet that a building record says.
 #[no_mangle]
-pub extern "C" fn ajp13_close(
+pub extern "C" fn ajp13_words_close(
     connection: &mut [u32],
     building: &[u32],
     buffer: &mut [u8],
@@ -38,5 +38,5 @@ pub extern "C" fn ajp13_close(
     let record = building_in(building);
     let kind = record.kind();
     let sent = closing::close(connection_in(connection), record, buffer);
-    tell(kind.kind(), sent, connection, answer)
+    tell_sent(kind.kind(), sent, connection, answer)
 }

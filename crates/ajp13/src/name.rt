@@ -6,17 +6,17 @@ ghost use Rattle.wire.specs.Bytes.{over};
 ghost use Rattle.names.specs.Names.{isListed, nameFor, codeIn};
 ghost use Rattle.names.specs.Row.{nameRoom, rowOf};
 ghost use Rattle.building.specs.Fault.{orElse};
+ghost use Rattle.words.specs.Number.{capped};
 ghost use Rattle.ajp13.specs.Name.{listIn, listFault, nameFault, nameAfter, codeNumber};
-use crate::status;
-use crate::status::or_else;
-use crate::status::unless;
-use crate::words::number_fault;
-use crate::words::number_in;
 use names::CodeFound;
 use names::NameList;
 use names::table;
 use packet::NAME_ROOM;
 use wire::write;
+use words::number::number_in;
+use words::status;
+use words::status::or_else;
+use words::status::unless;
 
 // The lists of names, each by its number.
 const METHODS: u32 = 0;
@@ -50,11 +50,13 @@ fn list_fault(list: u32) -> u32
 }
 
 // The fault of a call that tells a name.
-fn name_fault(list: u32, code: u32, name: &[u8]) -> u32
-    ensures { λ r. ⌜ r ≡ nameFault list code (now (name .entry)) ⌝ }
+fn name_fault(list: u32, name: &[u8]) -> u32
+    ensures { λ r. ⌜ r ≡ nameFault list (now (name .entry)) ⌝ }
 {
-    let lent = unless(name.len() == NAME_ROOM, status::ANSWER_LENGTH);
-    or_else(lent, or_else(list_fault(list), number_fault(code)))
+    or_else(
+        unless(name.len() == NAME_ROOM, status::ANSWER_LENGTH),
+        list_fault(list),
+    )
 }
 
 // Writes the name for a code, zeros behind it, and tells how long it is; where no such code is listed it writes nothing and tells 0.
@@ -76,10 +78,10 @@ fn put_name(name: &mut [u8], list: NameList, code: u16) -> u32
 // The name for a code, and how long it is; 0 where no such code is listed, and nothing is written then.
 #[no_mangle]
 pub extern "C" fn ajp13_name(list: u32, code: u32, name: &mut [u8]) -> u32
-    ensures { λ r. ⌜ r ≡ orElse (nameFault list code (now (name .entry))) (length (nameFor (listIn list) code)) ⌝ }
+    ensures { λ r. ⌜ r ≡ orElse (nameFault list (now (name .entry))) (length (nameFor (listIn list) (capped code))) ⌝ }
     ensures { λ _. ⌜ now (name .exit) ≡ nameAfter list code (now (name .entry)) ⌝ }
 {
-    let found = name_fault(list, code, name);
+    let found = name_fault(list, name);
     if found != status::DONE {
         return found;
     }

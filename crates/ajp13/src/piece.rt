@@ -1,57 +1,31 @@
 // The pieces of a Forward and of a Send Headers, each over the words of a building record. Where a piece is added, they are the words of
 // the next record; an error and a refusal leave them and the buffer as they were.
 ghost use mathlib.Core.Path.{_≡_};
-ghost use mathlib.Core.List.{List, [], _∷_};
-ghost use Prim.Native.Nat.{ℕ};
-ghost use lib.ListN.{length};
-ghost use Rattle.building.specs.Fault.{firstFault};
-ghost use Rattle.pieces.specs.Meaning.{addedOutcome};
-ghost use Rattle.words.specs.BuildingWords.{buildingSize, buildingFault};
-ghost use Rattle.answers.specs.Told.{pieceLeaves, afterAdding};
+ghost use Rattle.answers.specs.Told.{pieceLeaves};
 ghost use Rattle.ajp13.specs.Piece.{pieceEffect, forwardPiece, sendHeadersPiece, codedPiece, spelledPiece, namedPiece, textPiece, integerPiece, pairPiece};
-use crate::fixed::fixed_fault;
-use crate::fixed::nulls_in;
-use crate::fixed::numbers_in;
-use crate::status;
-use crate::status::or_else;
-use crate::words::building_fault;
-use crate::words::building_in;
-use crate::words::building_room;
-use crate::words::flag_fault;
-use crate::words::flag_in;
-use crate::words::number_fault;
-use crate::words::number_in;
-use crate::words::put_building;
-use pieces::Added;
+use answers::added::piece_fault;
+use answers::added::put_added;
 use pieces::attribute;
 use pieces::forward;
 use pieces::header;
 use pieces::send_headers;
-
-// The first fault of a building record's words and of two arguments.
-fn piece_fault(words: &[u32], first: u32, second: u32) -> u32
-    ensures { λ r. ⌜ r ≡ firstFault (buildingFault (now (words .entry)) ∷ first ∷ second ∷ []) ⌝ }
-{
-    or_else(or_else(building_fault(words), first), second)
-}
-
-// Tells what a piece came to: a refusal's number, or done with the words of the next record written.
-fn put_added(building: &mut [u32], added: Added) -> u32
-    requires { ⌜ length (now building) ≡ buildingSize ⌝ }
-    ensures { λ r. ⌜ ((buffer : List ℕ) → pieceLeaves r (now (building .exit)) buffer ≡ afterAdding (addedOutcome added) (now (building .entry)) buffer) ⌝ }
-{
-    match added {
-        Added::Refused(n) => n as u32,
-        Added::Next(next) => {
-            put_building(building, next);
-            status::DONE
-        }
-    }
-}
+use words::building_words::building_fault;
+use words::building_words::building_in;
+use words::building_words::building_room;
+use words::fixed_words::fixed_fault;
+use words::fixed_words::nulls_in;
+use words::fixed_words::numbers_in;
+use words::fixed_words::ssl_fault;
+use words::number::flag_fault;
+use words::number::flag_in;
+use words::number::number_fault;
+use words::number::number_in;
+use words::status;
+use words::status::or_else;
 
 // Begins a Forward: its fixed fields.
 #[no_mangle]
-pub extern "C" fn ajp13_begin_forward(
+pub extern "C" fn ajp13_words_begin_forward(
     building: &mut [u32],
     buffer: &mut [u8],
     fixed: &[u32],
@@ -67,10 +41,17 @@ pub extern "C" fn ajp13_begin_forward(
     if found != status::DONE {
         return found;
     }
+    let numbers = numbers_in(fixed);
+    let nulls = nulls_in(fixed);
+    let wrong = ssl_fault(fixed);
+    if wrong != status::DONE {
+        let first = forward::fields_fault(numbers, nulls, protocol, uri, addr, host, name);
+        return or_else(first as u32, wrong);
+    }
     let added = forward::begin(
         buffer,
-        numbers_in(fixed),
-        nulls_in(fixed),
+        numbers,
+        nulls,
         protocol,
         uri,
         addr,
@@ -82,7 +63,7 @@ pub extern "C" fn ajp13_begin_forward(
 
 // Begins a Send Headers: its fixed fields.
 #[no_mangle]
-pub extern "C" fn ajp13_begin_send_headers(
+pub extern "C" fn ajp13_words_begin_send_headers(
     building: &mut [u32],
     buffer: &mut [u8],
     status: u32,
@@ -91,10 +72,7 @@ pub extern "C" fn ajp13_begin_send_headers(
 ) -> u32
     ensures { λ r. ⌜ pieceLeaves r (now (building .exit)) (now (buffer .exit)) ≡ pieceEffect (sendHeadersPiece (now (building .entry)) status (now (message .entry)) null) (now (building .entry)) (now (buffer .entry)) ⌝ }
 {
-    let found = or_else(
-        or_else(building_room(building), number_fault(status)),
-        flag_fault(null),
-    );
+    let found = or_else(building_room(building), flag_fault(null));
     if found != status::DONE {
         return found;
     }
@@ -104,7 +82,7 @@ pub extern "C" fn ajp13_begin_send_headers(
 
 // Adds a header with a code for its name.
 #[no_mangle]
-pub extern "C" fn ajp13_header_coded(
+pub extern "C" fn ajp13_words_header_coded(
     building: &mut [u32],
     buffer: &mut [u8],
     code: u32,
@@ -113,7 +91,7 @@ pub extern "C" fn ajp13_header_coded(
 ) -> u32
     ensures { λ r. ⌜ pieceLeaves r (now (building .exit)) (now (buffer .exit)) ≡ pieceEffect (codedPiece (now (building .entry)) (now (buffer .entry)) code (now (value .entry)) null) (now (building .entry)) (now (buffer .entry)) ⌝ }
 {
-    let found = piece_fault(building, number_fault(code), flag_fault(null));
+    let found = or_else(building_fault(building), flag_fault(null));
     if found != status::DONE {
         return found;
     }
@@ -129,7 +107,7 @@ pub extern "C" fn ajp13_header_coded(
 
 // Adds a header with a spelled name.
 #[no_mangle]
-pub extern "C" fn ajp13_header_spelled(
+pub extern "C" fn ajp13_words_header_spelled(
     building: &mut [u32],
     buffer: &mut [u8],
     name: &[u8],
@@ -156,7 +134,7 @@ pub extern "C" fn ajp13_header_spelled(
 
 // Adds a header whose name is given as a text: by its code where the name is listed, else spelled out.
 #[no_mangle]
-pub extern "C" fn ajp13_header_named(
+pub extern "C" fn ajp13_words_header_named(
     building: &mut [u32],
     buffer: &mut [u8],
     name: &[u8],
@@ -175,7 +153,7 @@ pub extern "C" fn ajp13_header_named(
 
 // Adds an attribute with a string.
 #[no_mangle]
-pub extern "C" fn ajp13_attribute_text(
+pub extern "C" fn ajp13_words_attribute_text(
     building: &mut [u32],
     buffer: &mut [u8],
     code: u32,
@@ -184,7 +162,7 @@ pub extern "C" fn ajp13_attribute_text(
 ) -> u32
     ensures { λ r. ⌜ pieceLeaves r (now (building .exit)) (now (buffer .exit)) ≡ pieceEffect (textPiece (now (building .entry)) (now (buffer .entry)) code (now (value .entry)) null) (now (building .entry)) (now (buffer .entry)) ⌝ }
 {
-    let found = piece_fault(building, number_fault(code), flag_fault(null));
+    let found = or_else(building_fault(building), flag_fault(null));
     if found != status::DONE {
         return found;
     }
@@ -200,7 +178,7 @@ pub extern "C" fn ajp13_attribute_text(
 
 // Adds an attribute with an integer.
 #[no_mangle]
-pub extern "C" fn ajp13_attribute_integer(
+pub extern "C" fn ajp13_words_attribute_integer(
     building: &mut [u32],
     buffer: &mut [u8],
     code: u32,
@@ -208,7 +186,7 @@ pub extern "C" fn ajp13_attribute_integer(
 ) -> u32
     ensures { λ r. ⌜ pieceLeaves r (now (building .exit)) (now (buffer .exit)) ≡ pieceEffect (integerPiece (now (building .entry)) (now (buffer .entry)) code value) (now (building .entry)) (now (buffer .entry)) ⌝ }
 {
-    let found = piece_fault(building, number_fault(code), number_fault(value));
+    let found = or_else(building_fault(building), number_fault(value));
     if found != status::DONE {
         return found;
     }
@@ -223,7 +201,7 @@ pub extern "C" fn ajp13_attribute_integer(
 
 // Adds an attribute with a name and a value.
 #[no_mangle]
-pub extern "C" fn ajp13_attribute_pair(
+pub extern "C" fn ajp13_words_attribute_pair(
     building: &mut [u32],
     buffer: &mut [u8],
     code: u32,
@@ -234,10 +212,7 @@ pub extern "C" fn ajp13_attribute_pair(
 ) -> u32
     ensures { λ r. ⌜ pieceLeaves r (now (building .exit)) (now (buffer .exit)) ≡ pieceEffect (pairPiece (now (building .entry)) (now (buffer .entry)) code (now (name .entry)) noname (now (value .entry)) novalue) (now (building .entry)) (now (buffer .entry)) ⌝ }
 {
-    let found = or_else(
-        piece_fault(building, number_fault(code), flag_fault(noname)),
-        flag_fault(novalue),
-    );
+    let found = piece_fault(building, flag_fault(noname), flag_fault(novalue));
     if found != status::DONE {
         return found;
     }

@@ -83,8 +83,8 @@ pub fn needs(
     size::plus(at, BEHIND_STRINGS)
 }
 
-// The first fault of the fixed fields.
-fn fields_fault(
+// The first fault of the fixed fields, 0 for none.
+pub fn fields_fault(
     numbers: Numbers,
     nulls: Nulls,
     protocol: &[u8],
