@@ -60,7 +60,7 @@ after-fault before (fault ∷ later) h all = after-fault (orElse before fault) l
 pub first-fault : (faults : List ℕ) → AllFaults faults → isFault (firstFault faults) ≡ true
 first-fault faults all = after-fault none faults refl all
 
--- what is outcomeBy by a fault
+-- what a call comes to, by a fault
 pub answered-refusal : {A : Type 0} (fault : ℕ) (answer : A) (n : ℕ) → isFault fault ≡ true → outcomeBy fault answer ≡ refused n
     → isRefusal n ≡ true
 answered-refusal {A} fault answer n h e = go (eqb fault none) refl e

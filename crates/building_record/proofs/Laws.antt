@@ -16,14 +16,14 @@ use Rattle.building_record.specs.declared.Building.{Building}
 use Rattle.building_record.specs.Record.{builtKind, isPossible, countSize, Possible}
 use Rattle.wire.specs.Packet.{codePlace, payloadPlace}
 
--- a record that can be, by its tests; a proof that does not reach a test says `refl`
+-- a possible record, by its tests; a proof that does not reach a test says `refl`
 pub possible-by : (r : Building) (buffer : List ℕ) (a b c d e f : Bool) → leb (r .next .0) maxPacket ≡ a → leb (r .next .0) (length buffer) ≡ b
     → leb payloadPlace (r .count .0) ≡ c → leb (r .count .0 + countSize) (r .next .0) ≡ d → leb (r .headers) maxHeaders ≡ e
     → eqb (getD buffer codePlace 0) (codeOf (builtKind (r .kind))) ≡ f → both a (both b (both c (both d (both e f)))) ≡ isPossible r buffer
 unfolding isPossible
 possible-by r buffer a b c d e f p q s t u v = rw (← p, ← q, ← s, ← t, ← u, ← v)
 
--- a record that can be, clause by clause
+-- a possible record, clause by clause
 pub possible-yes : (r : Building) (buffer : List ℕ) → isPossible r buffer ≡ true → Possible r buffer
 unfolding isPossible
 possible-yes r buffer e =
@@ -47,7 +47,7 @@ possible-yes r buffer e =
       code = eqb-true (getD buffer codePlace 0) (codeOf (builtKind (r .kind))) (both-second f g e4);
     }
 
--- and one that can be by its clauses
+-- and the other way: a record is possible by its clauses
 pub yes-possible : (r : Building) (buffer : List ℕ) → Possible r buffer → isPossible r buffer ≡ true
 yes-possible r buffer p =
     sym (possible-by r buffer true true true true true true

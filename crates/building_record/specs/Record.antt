@@ -1,4 +1,4 @@
--- The building record of a Forward or a Send Headers, and which records cannot be.
+-- The building record of a Forward or a Send Headers, and which records are impossible.
 -- Document 01, 'Building', and row 16 of 'Refusal numbers'.
 -- Assumes nothing.
 use mathlib.Core.Path.{_≡_}
@@ -30,7 +30,7 @@ abbrev pub isForward : BuildingKind → Bool
 isForward BuildingKind.Forward = true
 isForward BuildingKind.SendHeaders = false
 
--- a record's buildingFields as they stand: the packet, its next place, its count's place, how many headers, whether an attribute came
+-- a record's fields as they stand: the packet, its next place, its count's place, how many headers, whether an attribute came
 abbrev pub buildingFields : BuildingKind → ℕ → ℕ → ℕ → Bool → Building
 buildingFields kind next count headers attributes =
     record { kind = kind; next = record { 0 = next }; count = record { 0 = count }; headers = headers; attributes = attributes }
@@ -39,7 +39,7 @@ buildingFields kind next count headers attributes =
 abbrev pub countSize : ℕ
 countSize = 2
 
--- a record that can be, over the buffer in which its packet stands: the next place is within 8192 and within the buffer; the count does
+-- a possible record, over the buffer in which its packet stands: the next place is within 8192 and within the buffer; the count does
 -- not begin before the payload, and ends no later than at the next place; at most 100 headers came; the packet's code is where it belongs
 unfoldable pub isPossible : Building → List ℕ → Bool
 isPossible r buffer =
@@ -80,7 +80,7 @@ attributeNow r buffer = unless (both (isPossible r buffer) (isForward (r .kind))
 unfoldable pub countFault : Building → ℕ
 countFault r = unless (ltb (r .headers) maxHeaders) tooMany
 
--- the first record of a packet, whose fixed buildingFields end at a place: the count is their last two bytes
+-- the first record of a packet, whose fixed fields end at a place: the count is their last two bytes
 abbrev pub opened : BuildingKind → ℕ → Building
 opened kind end = buildingFields kind end (end - countSize) 0 false
 

@@ -1,4 +1,4 @@
-// What is known of a Forward or a Send Headers that is being built in pieces: the building record, and whether one can be.
+// What is known of a Forward or a Send Headers that is being built in pieces: the building record, and whether one is possible.
 // No call has a condition: any record gets an answer over any buffer.
 ghost use mathlib.Core.Path.{_≡_};
 ghost use Rattle.building_record.specs.Record.{builtKind, isForward, directionIn, buildingFields, isPossible, headerNow, attributeNow, countFault};
@@ -111,7 +111,7 @@ impl Building {
         self.attributes
     }
 
-    // Whether the record can be, over this buffer; else every piece and closing refuse it with 16.
+    // Whether the record is possible over this buffer; else every piece and closing refuse it with 16.
     pub fn is_possible(self, buffer: &[u8]) -> bool
         ensures { λ r. ⌜ r ≡ isPossible self (now (buffer .entry)) ⌝ }
     {
@@ -144,7 +144,7 @@ impl Building {
         kind.kind().direction()
     }
 
-    // The fault of a header that comes now: the record cannot be, or attributes began.
+    // The fault of a header that comes now: the record is impossible, or attributes began.
     pub fn header_now(self, buffer: &[u8]) -> u8
         ensures { λ r. ⌜ r ≡ headerNow self (now (buffer .entry)) ⌝ }
     {
@@ -154,7 +154,7 @@ impl Building {
         )
     }
 
-    // The fault of an attribute that comes now: the record cannot be, or is not a Forward's.
+    // The fault of an attribute that comes now: the record is impossible, or is not a Forward's.
     pub fn attribute_now(self, buffer: &[u8]) -> u8
         ensures { λ r. ⌜ r ≡ attributeNow self (now (buffer .entry)) ⌝ }
     {

@@ -31,7 +31,7 @@ lastBytes BuildingKind.SendHeaders = []
 abbrev pub closedLength : Building → ℕ
 closedLength r = r .next .0 + length (lastBytes (r .kind))
 
--- what is looked for first: 16 for a record that cannot be, 13 for a packet that the state does not allow, then 2 and 15 for its length
+-- what is looked for first: 16 for an impossible record, 13 for a packet that the state does not allow, then 2 and 15 for its length
 unfoldable pub closingFault : Connection → Building → List ℕ → ℕ
 closingFault c r buffer =
     firstFault

@@ -22,7 +22,7 @@ use Rattle.closing.specs.Closing.{closedLength, closed, closedPacket, ju
 
 -- where nothing is found before the packet is judged
 pub record Ready (c : Connection) (r : Building) (buffer : List ℕ) : Type 0 where
-  -- the record can be
+  -- the record is possible
   pub possible : isPossible r buffer ≡ true
   -- the state allows the packet
   pub allowed : inState c (builtKind (r .kind)) ≡ true

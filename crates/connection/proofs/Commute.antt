@@ -1,5 +1,5 @@
--- The facts about the cycle that the theorem on two ends rests on, by the rows of its table. A server's move and a container's move
--- that a connection allows both may be made in either order and come to the same connection; what does not count of a record is
+-- The facts about the cycle that the theorem on two ends rests on, by the rows of its table. A server's move and a container's move,
+-- both of which a connection allows, may be made in either order and come to the same connection; what does not count of a record is
 -- not looked at; and a step goes on exactly where the move is allowed.
 -- Assumes nothing.
 use mathlib.Core.Path.{_≡_, refl, sym, ap, _∙_}

@@ -8,7 +8,7 @@ use Rattle.connection.specs.declared.Move.{Move}
 use Rattle.connection.specs.Connection.{maxBody, tidy}
 use Rattle.connection.specs.Cycle.{largestBody, allowed, after, stepOf}
 
--- two moves that a connection allows both may be made in either order, and come to the same
+-- two moves, both of which a connection allows, may be made in either order, and come to the same
 pub record Commuting (c : Connection) (m n : Move) : Type 0 where
   pub first-then : allowed (after c m) n ≡ true
   pub second-then : allowed (after c n) m ≡ true

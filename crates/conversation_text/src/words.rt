@@ -3,7 +3,7 @@ use crate::print;
 use packet::Direction;
 use vectors_text::text;
 
-// What the refusals say, each at its number; a number that is none has nothing between its slashes.
+// What the refusals say, each at its number; a number that is no refusal's has nothing between its slashes.
 const REFUSALS: [u8; 274] =
     *b"no fault/wrong leading bytes/packet too long/cut short/unknown code/code not served/wrong string/out of range/wrong header name/\
     wrong attribute code/wrong content-length/too many/bytes left over/not allowed in this state/wrong body size/too little room/\

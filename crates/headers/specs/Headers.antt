@@ -23,7 +23,7 @@ use Rattle.headers.specs.declared.NameRead.{NameRead}
 use Rattle.headers.specs.declared.HeaderRead.{HeaderRead}
 use Rattle.headers.specs.declared.HeadersRead.{HeadersRead}
 
--- a name, nameUnless it has a fault
+-- a name, unless it has a fault
 abbrev pub nameUnless : ℕ → NameRead → NameRead
 nameUnless fault name = pick (eqb fault none) name (NameRead.Refused fault)
 
@@ -78,7 +78,7 @@ headerOf direction s before (NameRead.Refused n) = HeaderRead.Refused n
 headerOf direction s before (NameRead.Code code next) = headerValueAt s next (declares direction code) before
 headerOf direction s before (NameRead.Spelled start len next) = headerValueAt s next false before
 
--- the header at a place, where those before it lengthAfter this
+-- the header at a place, where those before it declare this
 unfoldable pub headerAt : Direction → List ℕ → ℕ → Declared → HeaderRead
 headerAt direction s at before = headerOf direction s before (nameAt direction s at)
 
@@ -87,7 +87,7 @@ abbrev pub headerThen : ℕ → HeaderRead → (Declared → ℕ → Entries Hea
 headerThen at (HeaderRead.Refused n) later = ended (HeadersRead.Refused n)
 headerThen at (HeaderRead.Header value declared next) later = front at value (later declared next)
 
--- so many headers from a place on, where those before them lengthAfter this
+-- so many headers from a place on, where those before them declare this
 unfoldable pub headersAt : Direction → List ℕ → ℕ → ℕ → Declared → Entries HeadersRead
 headersAt direction s at zero declared = ended (HeadersRead.Headers declared at)
 headersAt direction s at (suc count) declared =

@@ -16,7 +16,7 @@ use Rattle.headers.specs.declared.length.LengthRead.{LengthRead}
 abbrev pub maxDeclared : ℕ
 maxDeclared = 4294967295
 
--- the most digits that lengthAfter it
+-- the most digits that declare it
 abbrev pub maxDigits : ℕ
 maxDigits = 10
 

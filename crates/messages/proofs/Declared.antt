@@ -1,6 +1,6 @@
 -- What is told as declared is what the packet shows: the value of its one content-length. What headers declare so far (`payload`'s definition
 -- `Handed`) changes only at a header whose name is content-length: a code is that name's exactly where reading takes it for it, and a name that
--- is spelled out and let by is no listed one.
+-- is spelled out and accepted is no listed one.
 -- Assumes nothing.
 use native.Mathlib.Omega.{arith}
 use borrow.Author.Tests.{leb-true, ltb-true}

@@ -1,5 +1,5 @@
 -- The frame of a whole packet: its direction's leading bytes, its length, and so many bytes behind that. What is written as a packet has such a
--- frame, and a whole packet is its packetHead and its payload: reading looks at nothing else of it to find it whole.
+-- frame, and a whole packet is its head and its payload: reading looks at nothing else of it to find it whole.
 -- Assumes nothing.
 use native.Mathlib.Omega.{arith}
 use borrow.Author.Tests.{le-leb, le-ltb, eq-eqb, eqb-true}
@@ -143,7 +143,7 @@ leading-two : (d : Direction) → getD (leading d) 0 0 ∷ getD (leading d) 1 0 
 leading-two Direction.ToContainer = refl
 leading-two Direction.ToServer = refl
 
--- a whole packet is its packetHead and its payload
+-- a whole packet is its head and its payload
 pub head-kept : (d : Direction) (s : List ℕ) (n : ℕ) → Bytes s → frameAt d s ≡ FrameRead.Whole n → n ≡ length s → s ≡ packet d (drop payloadPlace s)
 unfolding part
 head-kept d s n bytes e all =

@@ -58,7 +58,7 @@ use Rattle.messages.proofs.Tables.{tableOf}
 use Rattle.messages.proofs.FieldsKept.{Held, held-none, held-byte, held-part, held-join, held-rest, integer-held, boolean-held}
 use Rattle.messages.proofs.RoundTrip.{Forth, Back, wrote-done, Shows, Stands, stands-back}
 
--- a call that is done: there was no fault, and its answer is what was outcomeBy
+-- a call that is done: there was no fault, and its answer is the one given
 answered-done : (fault : ℕ) (v w : Written) → outcomeBy fault v ≡ done w → (fault ≡ 0) × (v ≡ w)
 answered-done fault v w = go (eqb fault 0) refl
   where
@@ -169,7 +169,7 @@ unfolding messageBytes
 chunk-stands bytes =
     part-middle (opening Kind.BodyChunk (length (payloadOf (bodyChunk bytes))) ++ integerBytes (length bytes)) bytes (0 ∷ [])
 
--- where the bytes of a body packet stand: behind the size, and behind the packetHead where there are none
+-- where the bytes of a body packet stand: behind the size, and behind the packet's head where there are none
 abbrev pub bodyPart : List ℕ → Part
 bodyPart bytes = pick (eqb (length bytes) 0) (partFrom payloadPlace 0) (partFrom bodyStart (length bytes))
 
@@ -364,7 +364,7 @@ one-forth m one c buffer w left fit e =
     let k = one-packet m one fit in
     stands-back (one-stands k (one-written c (packetMove (k .packet)) (payloadOf m) buffer w left (sym (k .calls .call-is c buffer) ∙ e)))
 
--- what a body packet was read from: nothing behind the packetHead, or a size and so many bytes
+-- what a body packet was read from: nothing behind the packet's head, or a size and so many bytes
 pub data BodyRead (s : List ℕ) : Part → Type 0 where
   empty : length s ≡ payloadPlace → BodyRead s (partFrom payloadPlace 0)
   sized : (n : ℕ) → integerIn s payloadPlace ≡ n → eqb n 0 ≡ false → length s ≡ bodyStart + n → BodyRead s (partFrom bodyStart n)

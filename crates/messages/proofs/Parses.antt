@@ -226,7 +226,7 @@ code-of-kind Direction.ToServer code k =
     go false false false false true p q r s t f = let z : Kind.CPong ≡ k = cc in eqb-true code (codeOf Kind.CPong) t ∙ ap codeOf z
     go false false false false false p q r s t f = cc
 
--- a packet that is not a body packet has its code behind its packetHead
+-- a packet that is not a body packet has its code behind its head
 code-kept : (s : List ℕ) (k : Kind) → isBody k ≡ false → kindAt (contextFor k) s ≡ KindRead.Kind k
     → (afterCodePlace ≤ length s) × (getD s codePlace 0 ≡ codeOf k)
 unfolding byteAt
@@ -238,7 +238,7 @@ code-kept s k b e = go (leb afterCodePlace (length s)) refl (sym (kind-is (conte
     go true p q = (leb-true afterCodePlace (length s) p, code-of-kind (directionOf k) (getD s codePlace 0) k q)
     go false p q = absurd (let z : _≡_ {A = ℕ} 0 1 = cc in omega arith)
 
--- so it is its packetHead, its code and what stands behind that
+-- so it is its head, its code and what stands behind that
 pub coded-kept : {d : Direction} {s : List ℕ} {p : Packet} → Parses d s p → isBody (packetKind p) ≡ false → Bytes s
     → s ≡ packet (directionOf (packetKind p)) (codeOf (packetKind p) ∷ drop afterCodePlace s)
 coded-kept {d} {s} {p} r b bytes =

@@ -34,9 +34,9 @@ use Rattle.messages.specs.Bytes.{fieldsBy, headerFields, headersBytes, v
 use Rattle.messages.specs.Writing.{Built, stopped, built, builtBy, piece, headerCallBy, addHeader, addHeaders, attributeCallBy, addAttribute, addAttributes}
 use Rattle.messages.proofs.Fine.{FieldsFine, HeadersFine, AttributesFine}
 
--- buildingFields, with a fault that is looked for before them and one that is looked for behind them
+-- fields, with a fault that is looked for before them and one that is looked for behind them
 module _ (first last : ℕ) (own : List Field) where
-  -- where none is found, there is none of the buildingFields or the last
+  -- where none is found, there is none of the fields or the last
   around-rest : firstFault (first ∷ (faultsOf own ++ (last ∷ []))) ≡ 0 → orElse (firstFault (faultsOf own)) last ≡ 0
   around-rest h =
       sym (faults-append 0 (faultsOf own) (last ∷ []))
@@ -47,21 +47,21 @@ module _ (first last : ℕ) (own : List Field) where
   around-none : first ≡ 0 → FieldsFine own → last ≡ 0 → firstFault (first ∷ (faultsOf own ++ (last ∷ []))) ≡ 0
   around-none p q r = rw (p, faults-append 0 (faultsOf own) (last ∷ []), q, r)
 
--- the fixed buildingFields have the first fault of the packet's own
+-- the fixed fields have the first fault of the packet's own
 fixed-faults : (kind : BuildingKind) (own : List Field) → firstFault (faultsOf (fixed kind own)) ≡ firstFault (faultsOf own)
 fixed-faults kind own =
     ap firstFault (faults-more own (unset ∷ []))
     ∙ faults-append 0 (faultsOf own) (0 ∷ [])
     ∙ or-none (firstFault (faultsOf own))
 
--- a header's call is that of its buildingFields
+-- a header's call is that of its fields
 header-call : (r : Building) (buffer : List ℕ) (value : Text) (name : MessageName)
     → headerCallBy r buffer value name ≡ headerCall r buffer (fieldsBy (directionIn r) value name)
 unfolding codedCall spelledCall
 header-call r buffer value (coded n) = refl
 header-call r buffer value (spelled name) = refl
 
--- an attribute's call is that of its buildingFields
+-- an attribute's call is that of its fields
 attribute-call : (r : Building) (buffer : List ℕ) (code : ℕ) (value : Value)
     → attributeCallBy r buffer code value ≡ attributeCall r buffer (valueFields code value)
 unfolding textCall integerCall pairCall
@@ -122,7 +122,7 @@ module _ (call : Call Building) (buffer raw : List ℕ) (at : call .at ≡ lengt
       ∙ sym (fit-by end (length x) true true (le-leb end maxPacket (omega arith)) (le-leb end (length x) (omega arith))))
 
 -- what pieces have come to: the bytes of the packet so far stand in the buffer from its first place on and within it, and the record is the one
--- behind them, which can be
+-- behind them, which is possible
 pub record Reached (x : Built) (kind : BuildingKind) (count headers : ℕ) (came : Bool) (buffer raw : List ℕ) : Type 0 where
   pub is : x ≡ built (buildingFields kind (length raw) count headers came) (over buffer 0 raw)
   pub possible : isPossible (buildingFields kind (length raw) count headers came) (over buffer 0 raw) ≡ true
@@ -154,7 +154,7 @@ piece-reached {x} {kind} {count} {headers} {came} {call} {buffer} {raw} p e answ
       room = p .fits;
     }
 
--- the fixed buildingFields; their count is their last two bytes
+-- the fixed fields; their count is their last two bytes
 module _ (kind : BuildingKind) (own : List Field) (buffer : List ℕ) where
   -- what they come to where they are written
   begun : Pieced (fixedCall kind own) buffer []
@@ -184,7 +184,7 @@ module _ (kind : BuildingKind) (own : List Field) (buffer : List ℕ) where
 -- a header behind what was built
 module _ {x : Built} {kind : BuildingKind} {count headers : ℕ} {buffer raw : List ℕ} (header : Header)
     (here : Reached x kind count headers false buffer raw) where
-  -- its buildingFields
+  -- its fields
   abbrev headerOwn : List Field
   headerOwn = headerFields (directionOf (builtKind kind)) header
 

@@ -107,7 +107,7 @@ listsBytes kind headers attributes = headersBytes (directionOf (builtKind kind))
 abbrev piecesBytes : BuildingKind → List Field → List Header → List Attribute → List ℕ
 piecesBytes kind own headers attributes = unclosed kind (fieldsBytes own) 0 0 (listsBytes kind headers attributes)
 
--- where the count is: it is the last two bytes of the fixed buildingFields
+-- where the count is: it is the last two bytes of the fixed fields
 abbrev countPlace : BuildingKind → List Field → ℕ
 countPlace kind own = length (fieldsBytes (fixed kind own)) - 2
 

@@ -29,7 +29,7 @@ listsOf size declared (AttributesRead.Refused n) = ListsRead.Refused n
 listsOf size declared (AttributesRead.Attributes count next) =
     pick (eqb next size) (ListsRead.Lists (record { 0 = declaredLength declared }) count) (ListsRead.Refused leftOver)
 
--- the attributes behind the headers, of which is known what length they declare
+-- the attributes behind the headers, where it is known what length the headers declare
 unfoldable pub attributesBehind : List ℕ → Declared → ℕ → Entries ListsRead
 attributesBehind s declared at = ending (listsOf (length s) declared) (attributesAt s at maxAttributes [])
 

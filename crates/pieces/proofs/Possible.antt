@@ -1,4 +1,4 @@
--- A record that a call answers can be: over the buffer as the call leaves it, no later piece finds it impossible.
+-- A record that a call answers is possible: over the buffer as the call leaves it, no later piece finds it impossible.
 -- Assumes nothing.
 use native.Mathlib.Omega.{arith}
 use mathlib.Core.Path.{_≡_, refl, sym, ap, _∙_}
@@ -38,7 +38,7 @@ byte-kept call buffer i none h =
     ∙ ap (λ (l : List ℕ). getD l i 0) (after-before call buffer none)
     ∙ getD-take (call .at) buffer i 0 h
 
--- a piece that begins at the next place of a record that can be, and the record behind it
+-- a piece that begins at the next place of a possible record, and the record behind it
 module _ (r s : Building) (buffer : List ℕ) (call : Call Building) (can : Possible r buffer) (none : refusalOf call (length buffer) ≡ 0) where
   behind-possible : call .at ≡ r .next .0 → s .next .0 ≡ call .at + length (call .bytes) → s .count ≡ r .count → s .kind ≡ r .kind
       → s .headers ≤ maxHeaders → Possible s (bufferAfter call buffer)

@@ -1,5 +1,5 @@
--- What the functions of a Forward's fixed fields promise to one another: cuts of `forwardFields`, of which the method and these two
--- parts are made.
+-- What the functions of a Forward's fixed fields promise to one another: cuts of `forwardFields`, which is the method and these two
+-- parts.
 -- Assumes nothing.
 use mathlib.Core.List.{List, [], _∷_}
 use Prim.Native.Nat.{ℕ}

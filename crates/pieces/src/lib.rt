@@ -1,6 +1,6 @@
 // The pieces of a Forward and of a Send Headers: the fixed fields (`forward`, `send_headers`), then each header (`header`), then each
 // attribute (`attribute`). Each call takes the building record that the one before it answered, and answers the next one. A refusal
-// leaves the buffer as it was, and the record given still counts. Every call answers for any record, any buffer and any arguments.
+// leaves the buffer as it was, and the record given still counts. Every public call answers for any record, any buffer and any arguments.
 // For each piece a call with the same arguments tells how many bytes the buffer needs for it, counted from the buffer's first byte;
 // 8193 says that no buffer helps. When a Forward is closed, its FF needs one byte more. A buffer of 8192 bytes is always long enough.
 ghost use mathlib.Core.Path.{_≡_};

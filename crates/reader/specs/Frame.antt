@@ -15,7 +15,7 @@ use Rattle.wire.specs.declared.read.NumberRead.{NumberRead}
 use Rattle.connection.specs.Connection.{maxPayload}
 use Rattle.reader.specs.declared.frame.FrameRead.{FrameRead}
 
--- a byte is there and is another one than this
+-- a byte is there and is not this one
 abbrev pub differs : List ℕ → ℕ → ℕ → Bool
 differs s at byte = both (leb (at + 1) (length s)) (not (eqb (getD s at 0) byte))
 

@@ -19,7 +19,7 @@ pub enum FrameRead {
     Whole(usize),
 }
 
-// Whether a byte is there and is another one than this.
+// Whether a byte is there and is not this one.
 fn is_other(bytes: &[u8], at: usize, byte: u8) -> bool
     ensures { λ r. ⌜ r ≡ differs (now (bytes .entry)) at byte ⌝ }
 {

@@ -1,4 +1,4 @@
--- What is behind an accepted packet, and what any answer is worth: that it is one, and how many bytes a "needs" asks for.
+-- What is behind an accepted packet; which answers are not "needs", and how many bytes a "needs" asks for.
 -- Document 01, 'Refusal numbers': the reading order, and what acceptance tells.
 -- Assumes nothing.
 use mathlib.Core.Path.{_≡_}

@@ -64,7 +64,7 @@ pub data PartMeaning : Type 0 where
   other : PartMeaning
   answered : Meaning → PartMeaning
 
--- what each case of the answer says, where a part is handed out for the packet `of` it
+-- what each case of the answer says; `of` makes the packet from the part that is handed out
 abbrev pub partMeaning : (Part → Packet) → PartRead → PartMeaning
 partMeaning of PartRead.Other = other
 partMeaning of (PartRead.Refused n) = answered (refused n)

@@ -171,7 +171,7 @@ fn stepped(part: Part, taken: usize, step: Step) -> PartRead
     }
 }
 
-// A part of no bytes, which a packet has that is neither a body packet nor a chunk.
+// A part of no bytes: what a packet has that is neither a body packet nor a chunk.
 fn no_part() -> Part
     ensures { λ r. ⌜ r ≡ noPart ⌝ }
 {

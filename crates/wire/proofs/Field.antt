@@ -82,7 +82,7 @@ module _ (null : Bool) (text : List ℕ) where
   pub size-text : null ≡ false → length (stringBytes null text) ≡ length text + 3
   size-text e = ap length (text-bytes e) ∙ omega (arith, length-append text (0 ∷ []))
 
--- a packet's leading bytes are two, and its packetHead four
+-- a packet's leading bytes are two, and its head has four
 pub length-leading : (d : Direction) → length (leading d) ≡ 2
 length-leading Direction.ToContainer = refl
 length-leading Direction.ToServer = refl
@@ -158,7 +158,7 @@ found-text s at optional len e k present =
     go true false v h z c = tt
     go false u v h z c = tt
 
--- null is let by where the field is optional
+-- null is accepted where the field is optional
 null-optional : (optional : Bool) (len : ℕ) → lacks optional true len ≡ false → optional ≡ true
 null-optional true len e = refl
 null-optional false len e = absurd (false≢true (sym e))

@@ -71,7 +71,7 @@ bodySizeWrong = 14
 abbrev pub bufferTooShort : ℕ
 bufferTooShort = 15
 
--- a header behind an attribute, an attribute on Send Headers, or a building record that cannot be
+-- a header behind an attribute, an attribute on Send Headers, or an impossible building record
 abbrev pub recordWrong : ℕ
 recordWrong = 16
 

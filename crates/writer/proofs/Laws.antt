@@ -1,4 +1,4 @@
--- What a call that sends comes to, by what `ready` outcomeBy: its answer, its buffer, and that the packet fits where it is written. Then
+-- What a call that sends comes to, by what `ready` answers: its answer, its buffer, and that the packet fits where it is written. Then
 -- the packets as rows of fields, and a packet that is written row by row.
 -- Assumes nothing.
 use native.Mathlib.Omega.{arith}
@@ -53,7 +53,7 @@ ready-step c m size room = go (inState c (moveKind m)) (inSize c m)
     go true false = refl
     go false b = refl
 
--- what is outcomeBy matters only where there is no fault
+-- the answer of a call matters only where there is no fault
 answered-same : (fault : ℕ) (v w : Written) → (fault ≡ 0 → v ≡ w) → outcomeBy fault v ≡ outcomeBy fault w
 answered-same fault v w e = go (eqb fault 0) refl
   where

@@ -1,7 +1,7 @@
 // The packets that one call builds: CPing and body packet at the server's end; CPong, Send Body Chunk, Get Body Chunk and End at the
 // container's. A packet is written at the start of the buffer; its length and the connection after it are answered, and no byte behind it
-// is touched. A refusal leaves the buffer as it was, and the connection given still counts. Every call answers for any connection, any
-// buffer and any bytes. A CPing and a CPong have 5 bytes, a Get Body Chunk 7, an End 6; `body_needs` and `body_chunk_needs` tell the
+// is touched. A refusal leaves the buffer as it was, and the connection given still counts. Every public call answers for any connection,
+// any buffer and any bytes. A CPing and a CPong have 5 bytes, a Get Body Chunk 7, an End 6; `body_needs` and `body_chunk_needs` tell the
 // others. A buffer of 8192 bytes is long enough for every packet.
 ghost use mathlib.Core.Path.{_≡_};
 ghost use lib.ListN.{length};

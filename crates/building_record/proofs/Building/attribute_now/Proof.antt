@@ -1,4 +1,4 @@
--- `Building::attribute_now` meets its contract, by whether the record can be.
+-- `Building::attribute_now` meets its contract, by whether the record is possible.
 -- Assumes nothing.
 use mathlib.Core.Path.{ap, _∙_}
 use Rattle.wire.specs.Pick.{both}

@@ -1,4 +1,4 @@
--- `Building::header_now` meets its contract, by whether the record can be.
+-- `Building::header_now` meets its contract, by whether the record is possible.
 -- Assumes nothing.
 use mathlib.Core.Path.{ap, _∙_}
 use mathlib.Core.Bool.{not}
