@@ -1,88 +1,41 @@
--- What a call leaves, by the fault that it finds first: what every exported call cites at its returns.
+-- What each kind of exported call leaves, by what the library answered it.
 -- Assumes nothing.
-use native.Mathlib.Omega.{arith}
-use borrow.Author.Tests.{eq-eqb, ne-eqb, eqb-true, leb-true}
 use mathlib.Core.Path.{_≡_, ap, _∙_}
 use mathlib.Core.List.{List}
-use Prim.Native.Nat.{ℕ, _≤_}
-use lib.Dec.{leb, eqb}
+use Prim.Native.Nat.{ℕ}
 use lib.ListN.{length}
 use Rattle.packet.specs.declared.Direction.{Direction}
 use Rattle.connection.specs.declared.Connection.{Connection}
 use Rattle.connection.specs.declared.Kind.{Kind}
 use Rattle.building.specs.Fault.{orElse}
 use Rattle.building.specs.Call.{Call, Outcome, outcome, bufferAfter}
-use Rattle.building.proofs.Sizes.{or-first, or-second, unless-none}
-use Rattle.building_record.specs.declared.Building.{Building}
+use Rattle.building.specs.Sent.{Written}
+use Rattle.building.proofs.Sizes.{or-first, or-second}
 use Rattle.building_record.specs.Record.{builtKind}
+use Rattle.building_record.specs.declared.Building.{Building}
 use Rattle.reader.specs.Meaning.{Meaning}
 use Rattle.reader.specs.Reading.{reading, tableAfter}
-use Rattle.building.specs.Sent.{Written}
 use Rattle.closing.specs.Closing.{closeOutcome, closeBuffer}
-use Rattle.words.specs.Status as status
-use Rattle.words.specs.Number.{lastNumber, numberFault}
-use Rattle.words.specs.ConnectionWords.{connectionSize, connectionRoom, connectionFault, connectionIn}
-use Rattle.words.specs.BuildingWords.{buildingFault, buildingIn}
-use Rattle.answers.specs.Answer.{answerSize, answerFault}
-use Rattle.answers.specs.Effect.{Effect, leaves, checked, callFault}
-use Rattle.answers.specs.Told.{afterReading}
-use Rattle.ajp13.specs.Reading.{readEffect}
-use Rattle.answers.specs.Told.{afterSending}
-use Rattle.ajp13.specs.Sending.{sendEffect, closeFault, closeEffect}
-use Rattle.ajp13.specs.Private.{ConnectionFits, BuildingFits}
+use Rattle.words.specs.ConnectionWords.{connectionFault, connectionIn}
+use Rattle.words.specs.BuildingWords.{buildingSize, buildingFault, buildingIn}
+use Rattle.words.proofs.Records.{building-all}
+use Rattle.answers.specs.Answer.{answerFault}
+use Rattle.answers.specs.Effect.{Effect, checked, callFault}
+use Rattle.answers.specs.Told.{afterReading, afterSending}
 use Rattle.answers.specs.Private.{Takes}
-use Rattle.ajp13.specs.Reading.{soundReading}
-use Rattle.ajp13.proofs.Records.{connection-fits, building-fits}
+use Rattle.answers.proofs.Effects.{takes-by, none-told}
+use Rattle.ajp13.specs.Reading.{soundReading, readEffect}
+use Rattle.ajp13.specs.Sending.{sendEffect, closeFault, closeEffect}
 
--- an array that is to take a connection has room for it
-pub room-all : (words : List ℕ) → connectionRoom words ≡ 0 → length words ≡ connectionSize
-unfolding connectionRoom
-room-all words h = eqb-true (length words) connectionSize (unless-none (eqb (length words) connectionSize) status.connectionLength (omega arith) h)
-
--- an array lent for an answer has room for it
-answer-all : (answer : List ℕ) → answerFault answer ≡ 0 → length answer ≡ answerSize
-unfolding answerFault
-answer-all answer h = eqb-true (length answer) answerSize (unless-none (eqb (length answer) answerSize) status.answerLength (omega arith) h)
-
--- an argument that is a number
-pub number-within : (n : ℕ) → numberFault n ≡ 0 → n ≤ lastNumber
-unfolding numberFault
-number-within n h = leb-true n lastNumber (unless-none (leb n lastNumber) status.argument (omega arith) h)
-
--- where a call finds no fault, its connection can be read, and the arrays take what it writes
-pub record Right (connection answer : List ℕ) : Type 0 where
-  pub fits : ConnectionFits connection
-  pub takes : Takes connection answer
-
-right-by : (connection answer : List ℕ) → connectionFault connection ≡ 0 → answerFault answer ≡ 0 → Right connection answer
-right-by connection answer c a =
-    let fits = connection-fits connection c in
-    record {
-      fits = fits;
-      takes = record { connected = fits .all; answered = answer-all answer a };
-    }
-
-pub call-right : (connection answer : List ℕ) → callFault connection answer ≡ 0 → Right connection answer
-unfolding callFault
-call-right connection answer h = right-by connection answer (or-first _ (answerFault answer) h) (or-second (connectionFault connection) _ h)
-
-pub close-right : (connection building answer : List ℕ) → closeFault connection building answer ≡ 0 → Right connection answer × BuildingFits building
+-- where closing finds no fault, its arrays are as long as they have to be
+pub close-right : (connection building answer : List ℕ) → closeFault connection building answer ≡ 0
+    → Takes connection answer × (length building ≡ buildingSize)
 unfolding closeFault
 close-right connection building answer h =
     let first : orElse (connectionFault connection) (buildingFault building) ≡ 0 = or-first _ (answerFault answer) h in (
-      right-by connection answer (or-first _ (buildingFault building) first) (or-second (orElse (connectionFault connection) (buildingFault building)) _ h),
-      building-fits building (or-second (connectionFault connection) _ first),
+      takes-by connection answer (or-first _ (buildingFault building) first) (or-second (orElse (connectionFault connection) (buildingFault building)) _ h),
+      building-all building (or-second (connectionFault connection) _ first),
     )
-
--- a call by the fault that was found
-module _ (connection lent answer : List ℕ) (fault found : ℕ) (is : found ≡ fault) (effect : Effect) where
-  -- it is told
-  pub fault-told : (found ≡ 0 → ⊥) → leaves found connection lent answer ≡ checked fault connection lent answer effect
-  fault-told h = rw (← is, ne-eqb found 0 h)
-
-  -- there is none
-  pub none-told : found ≡ 0 → effect ≡ checked fault connection lent answer effect
-  none-told h = rw (← is, eq-eqb found 0 h)
 
 -- where the reader answered and left the table so, this is what reading leaves
 pub sound-reading : (direction : Direction) (connection bytes table answer : List ℕ) (c : Connection) (m : Meaning) (after : List ℕ) (e : Effect)
@@ -134,8 +87,3 @@ close-leaves connection building buffer answer found c r kind o after e is none 
     (comes ∙ ap (λ (x : Connection). closeOutcome x r buffer) from ∙ ap (λ (x : Building). closeOutcome (connectionIn connection) x buffer) record-is)
     (writes ∙ ap (λ (x : Connection). closeBuffer x r buffer) from ∙ ap (λ (x : Building). closeBuffer (connectionIn connection) x buffer) record-is)
     (tells ∙ ap (λ (k : Kind). afterSending k o connection after answer) (kind-is ∙ ap (λ (x : Building). builtKind (x .kind)) record-is))
-
--- what is left by the arrays that were written
-pub leaves-same : (status : ℕ) (lent : List ℕ) {connection other answer words : List ℕ} → connection ≡ other → answer ≡ words
-    → leaves status connection lent answer ≡ leaves status other lent words
-leaves-same status lent c a = rw (c, a)

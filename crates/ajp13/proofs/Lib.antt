@@ -1,10 +1,7 @@
-pub mod Lists
-pub mod Records
 pub mod Within
 pub mod Effects
-pub mod Found
-pub mod Views
 pub mod Names
-pub mod FixedWords
+pub mod OutOfRange
 pub mod Pieces
 pub mod Unchanged
+pub mod Statuses

@@ -1,7 +1,7 @@
 -- A piece over words, by what was found first and by what the library's call came to; what is left where it is done, and where not.
 -- Assumes nothing.
 use native.Mathlib.Omega.{arith}
-use borrow.Author.Tests.{eq-eqb, ne-eqb, eqb-true, eqb-false}
+use borrow.Author.Tests.{eq-eqb, ne-eqb, eqb-false}
 use mathlib.Core.Path.{_≡_, refl, ap, _∙_}
 use mathlib.Core.Bool.{Bool, true, false}
 use mathlib.Core.List.{List}
@@ -12,15 +12,13 @@ use Rattle.wire.specs.Pick.{pick}
 use Rattle.wire.specs.Bytes.{over}
 use Rattle.building.specs.Fault.{firstFault}
 use Rattle.building.specs.Call.{Call, Outcome, refused, done, refusalOf, outcome, bufferAfter}
-use Rattle.building.proofs.Sizes.{unless-none}
 use Rattle.building_record.specs.Record.{isPossible}
 use Rattle.building_record.specs.declared.Building.{Building}
 use Rattle.building_record.proofs.Laws.{possible-yes}
-use Rattle.words.specs.Status as status
-use Rattle.words.specs.BuildingWords.{buildingSize, buildingRoom, buildingFault, buildingIn, buildingWords}
-use Rattle.ajp13.specs.Piece.{Piece, pieceEffect}
+use Rattle.words.specs.BuildingWords.{buildingIn, buildingWords}
+use Rattle.words.proofs.Records.{building-back}
 use Rattle.answers.specs.Told.{PieceEffect, pieceLeaves, afterAdding}
-use Rattle.words.proofs.Records.{building-back, building-right}
+use Rattle.ajp13.specs.Piece.{Piece, pieceEffect}
 
 module _ (piece : Piece) (building buffer : List ℕ) {found : ℕ} (is : found ≡ firstFault (piece .faults)) where
   -- a fault is told, and all is as it was
@@ -39,10 +37,11 @@ module _ (piece : Piece) (building buffer : List ℕ) {found : ℕ} (is : found 
       ∙ ap (λ (o : Outcome Building). afterAdding o building left) (comes ∙ ap (λ (k : Call Building). outcome k (length buffer)) same)
       ∙ ap (afterAdding (outcome (piece .call) (length buffer)) building) (writes ∙ ap (λ (k : Call Building). bufferAfter k buffer) same))
 
--- an array that can take a building record has room for it
-pub room-fits : (words : List ℕ) → buildingRoom words ≡ 0 → length words ≡ buildingSize
-unfolding buildingRoom
-room-fits words h = eqb-true (length words) buildingSize (unless-none (eqb (length words) buildingSize) status.buildingLength (omega arith) h)
+-- the words of a record that is possible say the record: its numbers fit
+pub possible-back : (r : Building) (buffer : List ℕ) → isPossible r buffer ≡ true → buildingIn (buildingWords r) ≡ r
+possible-back r buffer e =
+    let p = possible-yes r buffer e in
+    building-back r (omega (arith, p .within)) (omega (arith, p .within, p .apart)) (omega (arith, p .few))
 
 -- what is left where the piece is done, and where not
 module _ (piece : Piece) (building buffer : List ℕ) where
@@ -82,13 +81,7 @@ module _ (piece : Piece) (building buffer : List ℕ) where
       go true false p q k = absurd (eqb-false refusal 0 q k)
       go false added p q k = absurd (eqb-false (firstFault (piece .faults)) 0 p k)
 
-  -- so the record that the next piece takes from the words is the one that the library's call answered
-  pub piece-next : pieceEffect piece building buffer .status ≡ 0
+  -- so the record that the next piece takes from the words is the one that the library's call answered, where that is possible
+  pub piece-next : (after : List ℕ) → isPossible (piece .call .answer) after ≡ true → pieceEffect piece building buffer .status ≡ 0
       → buildingIn (pieceEffect piece building buffer .building) ≡ piece .call .answer
-  piece-next h = ap buildingIn (piece-done h .0) ∙ building-back (piece .call .answer)
-
--- the words of a record that can be have no fault: those of every record that a piece answers
-pub possible-right : (r : Building) (buffer : List ℕ) → isPossible r buffer ≡ true → buildingFault (buildingWords r) ≡ 0
-possible-right r buffer e =
-    let p = possible-yes r buffer e in
-    building-right r (omega (arith, p .within)) (omega (arith, p .within, p .apart)) (omega (arith, p .few))
+  piece-next after e h = ap buildingIn (piece-done h .0) ∙ possible-back (piece .call .answer) after e

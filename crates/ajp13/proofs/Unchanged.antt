@@ -25,9 +25,8 @@ use Rattle.words.specs.Status as status
 use Rattle.words.specs.ConnectionWords.{connectionIn}
 use Rattle.words.specs.BuildingWords.{buildingIn}
 use Rattle.answers.specs.Effect.{Effect, leaves, checked, callFault}
-use Rattle.answers.specs.Told.{afterReading}
+use Rattle.answers.specs.Told.{afterReading, afterSending}
 use Rattle.ajp13.specs.Reading.{readEffect}
-use Rattle.answers.specs.Told.{afterSending}
 use Rattle.ajp13.specs.Sending.{sendEffect, closeFault, closeEffect}
 
 -- arrays that are as they were, whatever the status

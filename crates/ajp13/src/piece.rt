@@ -48,16 +48,7 @@ pub extern "C" fn ajp13_words_begin_forward(
         let first = forward::fields_fault(numbers, nulls, protocol, uri, addr, host, name);
         return or_else(first as u32, wrong);
     }
-    let added = forward::begin(
-        buffer,
-        numbers,
-        nulls,
-        protocol,
-        uri,
-        addr,
-        host,
-        name,
-    );
+    let added = forward::begin(buffer, numbers, nulls, protocol, uri, addr, host, name);
     put_added(building, added)
 }
 

@@ -22,7 +22,11 @@ use words::status::or_else;
 
 // A CPing: the container is asked whether it is there.
 #[no_mangle]
-pub extern "C" fn ajp13_words_cping(connection: &mut [u32], buffer: &mut [u8], answer: &mut [u32]) -> u32
+pub extern "C" fn ajp13_words_cping(
+    connection: &mut [u32],
+    buffer: &mut [u8],
+    answer: &mut [u32],
+) -> u32
     ensures { λ r. ⌜ leaves r (now (connection .exit)) (now (buffer .exit)) (now (answer .exit)) ≡ cpingEffect (now (connection .entry)) (now (buffer .entry)) (now (answer .entry)) ⌝ }
 {
     let found = call_fault(connection, answer);
@@ -35,7 +39,11 @@ pub extern "C" fn ajp13_words_cping(connection: &mut [u32], buffer: &mut [u8], a
 
 // A CPong: the answer to a CPing.
 #[no_mangle]
-pub extern "C" fn ajp13_words_cpong(connection: &mut [u32], buffer: &mut [u8], answer: &mut [u32]) -> u32
+pub extern "C" fn ajp13_words_cpong(
+    connection: &mut [u32],
+    buffer: &mut [u8],
+    answer: &mut [u32],
+) -> u32
     ensures { λ r. ⌜ leaves r (now (connection .exit)) (now (buffer .exit)) (now (answer .exit)) ≡ cpongEffect (now (connection .entry)) (now (buffer .entry)) (now (answer .entry)) ⌝ }
 {
     let found = call_fault(connection, answer);

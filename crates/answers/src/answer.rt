@@ -52,7 +52,22 @@ fn row(kind: u32, bytes: u32, first: u32, second: u32, headers: u32) -> [u32; AN
     ensures { λ r. ⌜ r ≡ row kind bytes first second headers ⌝ }
 {
     [
-        kind, bytes, first, second, 0, 0, 0, 0, 0, 0, headers, 0, 0, UNUSED, UNUSED, UNUSED,
+        kind,
+        bytes,
+        first,
+        second,
+        0,
+        0,
+        0,
+        0,
+        0,
+        0,
+        headers,
+        0,
+        0,
+        UNUSED,
+        UNUSED,
+        UNUSED,
     ]
 }
 

@@ -3,3 +3,4 @@ pub mod Found
 pub mod Records
 pub mod FixedWords
 pub mod Capped
+pub mod Errors

@@ -2,7 +2,11 @@
 -- that no number which a call hands out can be taken for one. `src/status.rt` has the same list.
 -- The C boundary.
 -- Assumes nothing.
+use mathlib.Core.Bool.{Bool}
 use Prim.Native.Nat.{ℕ}
+use lib.Dec.{eqb}
+use Rattle.wire.specs.Pick.{either, between}
+use Rattle.wire.specs.Refusal.{isFault}
 
 -- accepted, written, added
 abbrev pub done : ℕ
@@ -40,3 +44,15 @@ answerLength = 0x10007
 -- an argument that cannot be
 abbrev pub argument : ℕ
 argument = 0x10008
+
+-- the number of an error
+abbrev pub isError : ℕ → Bool
+isError n = between connectionLength argument n
+
+-- what is found wrong with the arrays and the arguments of a call: nothing, or an error
+abbrev pub isErrorOrNone : ℕ → Bool
+isErrorOrNone n = either (eqb n done) (isError n)
+
+-- what a call may return: done or the number of a refusal, needs, an error
+abbrev pub isStatus : ℕ → Bool
+isStatus n = either (isFault n) (either (eqb n needs) (isError n))

@@ -1,19 +1,20 @@
--- `close::ajp13_close` meets its contract: the packet is closed, and what that came to is told.
+-- `close::ajp13_words_close` meets its contract: the packet is closed, and what that came to is told.
 -- Assumes nothing.
 use mathlib.Core.Path.{sym, ap, subst, _∙_}
 use Rattle.building_record.specs.Record.{builtKind}
 use Rattle.ajp13.specs.Sending.{closeEffect}
-use Rattle.ajp13.specs.Private.{BuildingFits}
-use Rattle.answers.specs.Private.{SentWithin}
+use Rattle.answers.specs.Private.{SentWithin, Takes}
 use Rattle.ajp13.proofs.Within.{close-within}
-use Rattle.ajp13.proofs.Effects.{Right, close-right, close-leaves}
+use lib.ListN.{length}
+use Rattle.words.specs.BuildingWords.{buildingSize}
+use Rattle.ajp13.proofs.Effects.{close-right, close-leaves}
 use Rattle.answers.proofs.Effects.{fault-told}
 use borrow.Author.Needs.{needs}
-use Rattle.ajp13.proofs.close.ajp13_close.Statement.{statement}
-use Rattle.ajp13.proofs.close.ajp13_close.Tie as tie
+use Rattle.ajp13.proofs.close.ajp13_words_close.Statement.{statement}
+use Rattle.ajp13.proofs.close.ajp13_words_close.Tie as tie
 
--- where no fault was found, both records can be read and the arrays take what is written
-right : (c : tie.Else1) → let a = c .before .before .before .before .before .before .before .before .args in Right (a .connection .now) (a .answer .now) × BuildingFits (a .building .now)
+-- where no fault was found, the arrays are as long as they have to be
+right : (c : tie.Else1) → let a = c .before .before .before .before .before .before .before .before .args in Takes (a .connection .now) (a .answer .now) × (length (a .building .now) ≡ buildingSize)
 right c = close-right _ _ _ (sym (c .before .close-fault .ensures) ∙ c .if1 .left)
 
 close-fault-requires : tie.Need-close-fault-requires
@@ -36,7 +37,7 @@ kind-requires : tie.Need-kind-requires
 kind-requires c κs = search needs
 
 connection-in-requires : tie.Need-connection-in-requires
-connection-in-requires c κs = right (c .before .before .before) .0 .fits
+connection-in-requires c κs = right (c .before .before .before) .0 .connected
 
 close-requires : tie.Need-close-requires
 close-requires c κs = search needs
@@ -44,9 +45,9 @@ close-requires c κs = search needs
 kind-requires-2 : tie.Need-kind-requires-2
 kind-requires-2 c κs = search needs
 
-tell-requires : tie.Need-tell-requires
-tell-requires c κs =
-    (right (c .before .before .before .before .before .before .before .before .before .before .before) .0 .takes, subst SentWithin (sym (c .before .before .before .before .before .close .ensures .0)) (close-within (c .before .before .before .before .before .before .before .connection-in .result) (c .before .before .before .before .before .before .before .before .before .before .building-in .result) (c .before .before .before .before .before .before .before .before .before .before .before .before .before .before .before .before .before .before .before .args .buffer .now)))
+tell-sent-requires : tie.Need-tell-sent-requires
+tell-sent-requires c κs =
+    (right (c .before .before .before .before .before .before .before .before .before .before .before) .0, subst SentWithin (sym (c .before .before .before .before .before .close .ensures .0)) (close-within (c .before .before .before .before .before .before .before .connection-in .result) (c .before .before .before .before .before .before .before .before .before .before .building-in .result) (c .before .before .before .before .before .before .before .before .before .before .before .before .before .before .before .before .before .before .before .args .buffer .now)))
 
 same-length-3 : tie.Need-same-length-3
 same-length-3 c = search needs
@@ -66,7 +67,7 @@ returns-2 c =
     close-leaves (a .connection .now) (a .building .now) (a .buffer .now) (a .answer .now) _ (conn .result) (record-is .result) _ _ _ _
     (e .before .close-fault .ensures) (e .if1 .left) (conn .ensures) (record-is .ensures)
     (c .before .before .before .before .before .before .before .kind2 .ensures ∙ ap builtKind (c .before .before .before .before .before .before .before .before .before .before .before .before .before .before .kind .ensures))
-    (c .before .before .before .before .before .before .before .before .before .before .close .ensures .0) (c .before .before .before .before .before .before .before .before .before .before .close .ensures .1) (c .before .before .before .before .tell .ensures _)
+    (c .before .before .before .before .before .before .before .before .before .before .close .ensures .0) (c .before .before .before .before .before .before .before .before .before .before .close .ensures .1) (c .before .before .before .before .tell-sent .ensures _)
 
 pub ajp13-words-close-spec : {M : Type 1} → statement M
 ajp13-words-close-spec =
@@ -81,7 +82,7 @@ ajp13-words-close-spec =
     connection-in-requires
     close-requires
     kind-requires-2
-    tell-requires
+    tell-sent-requires
     same-length-3
     same-length-4
     same-length-5

@@ -1,12 +1,12 @@
--- `fresh::ajp13_fresh` meets its contract, by whether the array takes a connection.
+-- `held::ajp13_words_fresh` meets its contract, by whether the array takes a connection.
 -- Assumes nothing.
 use borrow.Author.Tests.{eq-eqb, ne-eqb}
 use mathlib.Core.Path.{sym, ap, _∙_}
 use Rattle.words.specs.ConnectionWords.{connectionWords, freshAfter}
-use Rattle.ajp13.proofs.Effects.{room-all}
+use Rattle.words.proofs.Records.{connection-room}
 use borrow.Author.Needs.{needs}
-use Rattle.ajp13.proofs.fresh.ajp13_fresh.Statement.{statement}
-use Rattle.ajp13.proofs.fresh.ajp13_fresh.Tie as tie
+use Rattle.ajp13.proofs.held.ajp13_words_fresh.Statement.{statement}
+use Rattle.ajp13.proofs.held.ajp13_words_fresh.Tie as tie
 
 connection-room-requires : tie.Need-connection-room-requires
 connection-room-requires c κs = search needs
@@ -22,7 +22,7 @@ fresh-requires : tie.Need-fresh-requires
 fresh-requires c κs = search needs
 
 put-connection-requires : tie.Need-put-connection-requires
-put-connection-requires c κs = room-all _ (sym (c .before .before .before .connection-room .ensures) ∙ c .before .before .if1 .left)
+put-connection-requires c κs = connection-room _ (sym (c .before .before .before .connection-room .ensures) ∙ c .before .before .if1 .left)
 
 same-length-2 : tie.Need-same-length-2
 same-length-2 c = search needs

@@ -1,14 +1,15 @@
--- `piece::ajp13_begin_forward` meets its contract: a fault is told and nothing is written, else all is as the library's call leaves it.
+-- `piece::ajp13_words_begin_forward` meets its contract: a fault is told and nothing is written, else all is as the library's call leaves it.
 -- Assumes nothing.
 use mathlib.Core.Path.{_≡_, refl, sym, _∙_}
 use Rattle.building.specs.Fault.{firstFault}
 use Rattle.building.proofs.Faults.{Faultless, faultless}
 use Rattle.ajp13.specs.Piece.{Piece, forwardPiece}
-use Rattle.ajp13.proofs.FixedWords.{fixed-fits}
-use Rattle.ajp13.proofs.Pieces.{piece-fault, piece-called, room-fits}
+use Rattle.words.proofs.FixedWords.{fixed-all}
+use Rattle.words.proofs.Records.{building-room}
+use Rattle.ajp13.proofs.Pieces.{piece-fault, piece-called}
 use borrow.Author.Needs.{needs}
-use Rattle.ajp13.proofs.piece.ajp13_begin_forward.Statement.{statement}
-use Rattle.ajp13.proofs.piece.ajp13_begin_forward.Tie as tie
+use Rattle.ajp13.proofs.piece.ajp13_words_begin_forward.Statement.{statement}
+use Rattle.ajp13.proofs.piece.ajp13_words_begin_forward.Tie as tie
 
 -- the piece that is to be added
 abbrev piece : tie.After-or-else → Piece
@@ -42,18 +43,18 @@ returns c =
 
 numbers-in-requires : tie.Need-numbers-in-requires
 unfolding forwardPiece
-numbers-in-requires c κs = fixed-fits _ (none (c .before) .1 .0)
+numbers-in-requires c κs = fixed-all _ (none (c .before) .1 .0)
 
 nulls-in-requires : tie.Need-nulls-in-requires
 unfolding forwardPiece
-nulls-in-requires c κs = fixed-fits _ (none (c .before .before) .1 .0)
+nulls-in-requires c κs = fixed-all _ (none (c .before .before) .1 .0)
 
 begin-requires : tie.Need-begin-requires
 begin-requires c κs = search needs
 
 put-added-requires : tie.Need-put-added-requires
 unfolding forwardPiece
-put-added-requires c κs = room-fits _ (none (c .before .before .before .before .before .before .before) .0)
+put-added-requires c κs = building-room _ (none (c .before .before .before .before .before .before .before) .0)
 
 same-length-2 : tie.Need-same-length-2
 same-length-2 c = search needs

@@ -1,14 +1,14 @@
--- `piece::ajp13_begin_send_headers` meets its contract: a fault is told and nothing is written, else all is as the library's call leaves it.
+-- `piece::ajp13_words_begin_send_headers` meets its contract: a fault is told and nothing is written, else all is as the library's call leaves it.
 -- Assumes nothing.
 use mathlib.Core.Path.{_≡_, refl, sym, _∙_}
 use Rattle.building.specs.Fault.{firstFault}
 use Rattle.building.proofs.Faults.{Faultless, faultless}
 use Rattle.ajp13.specs.Piece.{Piece, sendHeadersPiece}
-use Rattle.words.proofs.Records.{number-within}
-use Rattle.ajp13.proofs.Pieces.{piece-fault, piece-called, room-fits}
+use Rattle.words.proofs.Records.{number-within, building-room}
+use Rattle.ajp13.proofs.Pieces.{piece-fault, piece-called}
 use borrow.Author.Needs.{needs}
-use Rattle.ajp13.proofs.piece.ajp13_begin_send_headers.Statement.{statement}
-use Rattle.ajp13.proofs.piece.ajp13_begin_send_headers.Tie as tie
+use Rattle.ajp13.proofs.piece.ajp13_words_begin_send_headers.Statement.{statement}
+use Rattle.ajp13.proofs.piece.ajp13_words_begin_send_headers.Tie as tie
 
 -- the piece that is to be added
 abbrev piece : tie.After-or-else2 → Piece
@@ -58,7 +58,7 @@ begin-requires c κs = search needs
 
 put-added-requires : tie.Need-put-added-requires
 unfolding sendHeadersPiece
-put-added-requires c κs = room-fits _ (none (c .before .before .before .before .before .before .before) .0)
+put-added-requires c κs = building-room _ (none (c .before .before .before .before .before .before .before) .0)
 
 same-length-2 : tie.Need-same-length-2
 same-length-2 c = search needs

@@ -1,14 +1,14 @@
--- `piece::ajp13_header_named` meets its contract: a fault is told and nothing is written, else all is as the library's call leaves it.
+-- `piece::ajp13_words_header_named` meets its contract: a fault is told and nothing is written, else all is as the library's call leaves it.
 -- Assumes nothing.
 use mathlib.Core.Path.{_≡_, refl, sym, _∙_}
 use Rattle.building.specs.Fault.{firstFault}
 use Rattle.building.proofs.Faults.{Faultless, faultless}
 use Rattle.ajp13.specs.Piece.{Piece, namedPiece}
-use Rattle.ajp13.proofs.Records.{building-fits}
+use Rattle.words.proofs.Records.{building-all}
 use Rattle.ajp13.proofs.Pieces.{piece-fault, piece-called}
 use borrow.Author.Needs.{needs}
-use Rattle.ajp13.proofs.piece.ajp13_header_named.Statement.{statement}
-use Rattle.ajp13.proofs.piece.ajp13_header_named.Tie as tie
+use Rattle.ajp13.proofs.piece.ajp13_words_header_named.Statement.{statement}
+use Rattle.ajp13.proofs.piece.ajp13_words_header_named.Tie as tie
 
 -- the piece that is to be added
 abbrev piece : tie.After-or-else → Piece
@@ -42,7 +42,7 @@ returns c =
 
 building-in-requires : tie.Need-building-in-requires
 unfolding namedPiece
-building-in-requires c κs = building-fits _ (none (c .before) .0)
+building-in-requires c κs = building-all _ (none (c .before) .0)
 
 flag-in-requires : tie.Need-flag-in-requires
 flag-in-requires c κs = search needs
@@ -52,7 +52,7 @@ named-requires c κs = search needs
 
 put-added-requires : tie.Need-put-added-requires
 unfolding namedPiece
-put-added-requires c κs = building-fits _ (none (c .before .before .before .before .before .before .before .before) .0) .all
+put-added-requires c κs = building-all _ (none (c .before .before .before .before .before .before .before .before) .0)
 
 same-length-2 : tie.Need-same-length-2
 same-length-2 c = search needs

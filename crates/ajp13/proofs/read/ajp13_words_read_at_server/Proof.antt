@@ -1,4 +1,4 @@
--- `read::ajp13_read_at_server` meets its contract: an allowed Send Body Chunk is told of as its short way answers, and every other packet is read as any.
+-- `read::ajp13_words_read_at_server` meets its contract: an allowed Send Body Chunk is told of as its short way answers, and every other packet is read as any.
 -- Assumes nothing.
 use mathlib.Core.Path.{refl, sym, ap, subst, _∙_}
 use lib.ListN.{length}
@@ -8,13 +8,13 @@ use Rattle.short_ways.specs.Short.{partMeaning}
 use Rattle.short_ways.proofs.ShortWays.{short-reads, short-keeps}
 use Rattle.answers.specs.Answer.{packetWords}
 use Rattle.ajp13.specs.Reading.{readEffect}
-use Rattle.answers.specs.Private.{ReadWithin}
+use Rattle.answers.specs.Private.{ReadWithin, Takes}
 use Rattle.ajp13.proofs.Within.{read-within}
-use Rattle.ajp13.proofs.Effects.{Right, call-right, sound-reading, read-leaves}
-use Rattle.answers.proofs.Effects.{fault-told}
+use Rattle.answers.proofs.Effects.{call-takes, fault-told}
+use Rattle.ajp13.proofs.Effects.{sound-reading, read-leaves}
 use borrow.Author.Needs.{needs}
-use Rattle.ajp13.proofs.read.ajp13_read_at_server.Statement.{statement}
-use Rattle.ajp13.proofs.read.ajp13_read_at_server.Tie as tie
+use Rattle.ajp13.proofs.read.ajp13_words_read_at_server.Statement.{statement}
+use Rattle.ajp13.proofs.read.ajp13_words_read_at_server.Tie as tie
 
 -- where no fault was found, the connection can be read and the arrays take what is written
 right : (c : tie.Else1) → let a = c .before .before .before .before .before .before .before .before .args in Right (a .connection .now) (a .answer .now)

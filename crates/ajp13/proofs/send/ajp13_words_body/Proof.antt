@@ -1,4 +1,4 @@
--- `send::ajp13_body` meets its contract: a body packet is sent, and told.
+-- `send::ajp13_words_body` meets its contract: a body packet is sent, and told.
 -- Assumes nothing.
 use mathlib.Core.Path.{sym, subst, _∙_}
 use Rattle.connection.specs.declared.Kind.{Kind}
@@ -7,17 +7,17 @@ use lib.ListN.{length}
 use Rattle.connection.specs.declared.Connection.{Connection}
 use Rattle.writer.specs.Sending.{bodyPayload, bodyCall}
 use Rattle.ajp13.specs.Sending.{bodyEffect}
-use Rattle.answers.specs.Private.{SentWithin}
+use Rattle.answers.specs.Private.{SentWithin, Takes}
 use Rattle.ajp13.proofs.Within.{sent-within}
-use Rattle.ajp13.proofs.Effects.{Right, call-right, send-leaves}
-use Rattle.answers.proofs.Effects.{fault-told}
+use Rattle.answers.proofs.Effects.{call-takes, fault-told}
+use Rattle.ajp13.proofs.Effects.{send-leaves}
 use borrow.Author.Needs.{needs}
-use Rattle.ajp13.proofs.send.ajp13_body.Statement.{statement}
-use Rattle.ajp13.proofs.send.ajp13_body.Tie as tie
+use Rattle.ajp13.proofs.send.ajp13_words_body.Statement.{statement}
+use Rattle.ajp13.proofs.send.ajp13_words_body.Tie as tie
 
--- where no fault was found, the connection can be read and the arrays take what is written
-right : (c : tie.Else1) → let a = c .before .before .before .before .before .before .before .before .args in Right (a .connection .now) (a .answer .now)
-right c = call-right _ _ (sym (c .before .call-fault .ensures) ∙ c .if1 .left)
+-- where no fault was found, the arrays take what is written
+takes : (c : tie.Else1) → let a = c .before .before .before .before .before .before .before .before .args in Takes (a .connection .now) (a .answer .now)
+takes c = call-takes _ _ (sym (c .before .call-fault .ensures) ∙ c .if1 .left)
 
 call-fault-requires : tie.Need-call-fault-requires
 call-fault-requires c κs = search needs
@@ -33,16 +33,16 @@ unfolding bodyEffect
 returns c = fault-told _ _ _ _ _ (c .before .call-fault .ensures) _ (c .if1 .taken)
 
 connection-in-requires : tie.Need-connection-in-requires
-connection-in-requires c κs = right (c .before) .fits
+connection-in-requires c κs = takes (c .before) .connected
 
 body-requires : tie.Need-body-requires
 body-requires c κs = search needs
 
-tell-requires : tie.Need-tell-requires
+tell-sent-requires : tie.Need-tell-sent-requires
 unfolding bodyCall
-tell-requires c κs =
+tell-sent-requires c κs =
     let a = c .before .before .before .before .before .before .before .before .before .before .before .before .before .before .before .before .args in
-    (right (c .before .before .before .before .before .before .before .before) .takes, subst SentWithin (sym (c .before .before .before .before .body .ensures .0)) (sent-within (c .before .before .before .before .before .before .connection-in .result) (Move.Body (length (a .bytes .now))) (bodyPayload (a .bytes .now)) (a .buffer .now)))
+    (takes (c .before .before .before .before .before .before .before .before), subst SentWithin (sym (c .before .before .before .before .body .ensures .0)) (sent-within (c .before .before .before .before .before .before .connection-in .result) (Move.Body (length (a .bytes .now))) (bodyPayload (a .bytes .now)) (a .buffer .now)))
 
 same-length-3 : tie.Need-same-length-3
 same-length-3 c = search needs
@@ -59,7 +59,7 @@ returns-2 c =
     let e = c .before .before .before .before .before .before .before .before .before .before .before .before .before in
     let a = e .before .before .before .before .before .before .before .before .args in
     send-leaves Kind.Body (λ (x : Connection). bodyCall x (a .bytes .now)) (a .connection .now) (a .buffer .now) (a .answer .now) _ _ (c .before .before .before .before .before .before .before .before .before .before .before .connection-in .result) _ _ _
-    (e .before .call-fault .ensures) (e .if1 .left) (c .before .before .before .before .before .before .before .before .before .before .before .connection-in .ensures) (c .before .before .before .before .before .before .before .before .before .body .ensures .0) (c .before .before .before .before .before .before .before .before .before .body .ensures .1) (c .before .before .before .before .tell .ensures _)
+    (e .before .call-fault .ensures) (e .if1 .left) (c .before .before .before .before .before .before .before .before .before .before .before .connection-in .ensures) (c .before .before .before .before .before .before .before .before .before .body .ensures .0) (c .before .before .before .before .before .before .before .before .before .body .ensures .1) (c .before .before .before .before .tell-sent .ensures _)
 
 pub ajp13-words-body-spec : {M : Type 1} → statement M
 ajp13-words-body-spec =
@@ -71,7 +71,7 @@ ajp13-words-body-spec =
     returns
     connection-in-requires
     body-requires
-    tell-requires
+    tell-sent-requires
     same-length-3
     same-length-4
     same-length-5

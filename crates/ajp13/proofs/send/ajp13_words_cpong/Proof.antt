@@ -1,21 +1,21 @@
--- `send::ajp13_cpong` meets its contract: a CPong is sent, and told.
+-- `send::ajp13_words_cpong` meets its contract: a CPong is sent, and told.
 -- Assumes nothing.
 use mathlib.Core.Path.{sym, subst, _∙_}
 use Rattle.connection.specs.declared.Kind.{Kind}
 use Rattle.connection.specs.declared.Move.{Move}
 use Rattle.writer.specs.Sending.{barePayload, bareCall, cpongCall}
 use Rattle.ajp13.specs.Sending.{cpongEffect}
-use Rattle.answers.specs.Private.{SentWithin}
+use Rattle.answers.specs.Private.{SentWithin, Takes}
 use Rattle.ajp13.proofs.Within.{sent-within}
-use Rattle.ajp13.proofs.Effects.{Right, call-right, send-leaves}
-use Rattle.answers.proofs.Effects.{fault-told}
+use Rattle.answers.proofs.Effects.{call-takes, fault-told}
+use Rattle.ajp13.proofs.Effects.{send-leaves}
 use borrow.Author.Needs.{needs}
-use Rattle.ajp13.proofs.send.ajp13_cpong.Statement.{statement}
-use Rattle.ajp13.proofs.send.ajp13_cpong.Tie as tie
+use Rattle.ajp13.proofs.send.ajp13_words_cpong.Statement.{statement}
+use Rattle.ajp13.proofs.send.ajp13_words_cpong.Tie as tie
 
--- where no fault was found, the connection can be read and the arrays take what is written
-right : (c : tie.Else1) → let a = c .before .before .before .before .before .before .before .args in Right (a .connection .now) (a .answer .now)
-right c = call-right _ _ (sym (c .before .call-fault .ensures) ∙ c .if1 .left)
+-- where no fault was found, the arrays take what is written
+takes : (c : tie.Else1) → let a = c .before .before .before .before .before .before .before .args in Takes (a .connection .now) (a .answer .now)
+takes c = call-takes _ _ (sym (c .before .call-fault .ensures) ∙ c .if1 .left)
 
 call-fault-requires : tie.Need-call-fault-requires
 call-fault-requires c κs = search needs
@@ -31,16 +31,16 @@ unfolding cpongEffect
 returns c = fault-told _ _ _ _ _ (c .before .call-fault .ensures) _ (c .if1 .taken)
 
 connection-in-requires : tie.Need-connection-in-requires
-connection-in-requires c κs = right (c .before) .fits
+connection-in-requires c κs = takes (c .before) .connected
 
 cpong-requires : tie.Need-cpong-requires
 cpong-requires c κs = search needs
 
-tell-requires : tie.Need-tell-requires
+tell-sent-requires : tie.Need-tell-sent-requires
 unfolding bareCall
-tell-requires c κs =
+tell-sent-requires c κs =
     let a = c .before .before .before .before .before .before .before .before .before .before .before .before .before .before .before .args in
-    (right (c .before .before .before .before .before .before .before .before) .takes, subst SentWithin (sym (c .before .before .before .before .cpong .ensures .0)) (sent-within (c .before .before .before .before .before .before .connection-in .result) Move.CPong (barePayload Move.CPong) (a .buffer .now)))
+    (takes (c .before .before .before .before .before .before .before .before), subst SentWithin (sym (c .before .before .before .before .cpong .ensures .0)) (sent-within (c .before .before .before .before .before .before .connection-in .result) Move.CPong (barePayload Move.CPong) (a .buffer .now)))
 
 same-length-3 : tie.Need-same-length-3
 same-length-3 c = search needs
@@ -57,7 +57,7 @@ returns-2 c =
     let e = c .before .before .before .before .before .before .before .before .before .before .before .before .before in
     let a = e .before .before .before .before .before .before .before .args in
     send-leaves Kind.CPong cpongCall (a .connection .now) (a .buffer .now) (a .answer .now) _ _ (c .before .before .before .before .before .before .before .before .before .before .before .connection-in .result) _ _ _
-    (e .before .call-fault .ensures) (e .if1 .left) (c .before .before .before .before .before .before .before .before .before .before .before .connection-in .ensures) (c .before .before .before .before .before .before .before .before .before .cpong .ensures .0) (c .before .before .before .before .before .before .before .before .before .cpong .ensures .1) (c .before .before .before .before .tell .ensures _)
+    (e .before .call-fault .ensures) (e .if1 .left) (c .before .before .before .before .before .before .before .before .before .before .before .connection-in .ensures) (c .before .before .before .before .before .before .before .before .before .cpong .ensures .0) (c .before .before .before .before .before .before .before .before .before .cpong .ensures .1) (c .before .before .before .before .tell-sent .ensures _)
 
 pub ajp13-words-cpong-spec : {M : Type 1} → statement M
 ajp13-words-cpong-spec =
@@ -69,7 +69,7 @@ ajp13-words-cpong-spec =
     returns
     connection-in-requires
     cpong-requires
-    tell-requires
+    tell-sent-requires
     same-length-3
     same-length-4
     same-length-5

@@ -1,4 +1,4 @@
--- `send::ajp13_end` meets its contract: an End is sent, and told.
+-- `send::ajp13_words_end` meets its contract: an End is sent, and told.
 -- Assumes nothing.
 use mathlib.Core.Path.{_≡_, sym, ap, subst, _∙_}
 use mathlib.Core.Bool.{Bool}
@@ -13,22 +13,22 @@ use Rattle.writer.specs.Sending.{endPayload, endCall}
 use Rattle.words.specs.Number.{flagIn, flagFault}
 use Rattle.answers.specs.Effect.{callFault}
 use Rattle.ajp13.specs.Sending.{endEffect}
-use Rattle.answers.specs.Private.{SentWithin}
+use Rattle.answers.specs.Private.{SentWithin, Takes}
 use Rattle.ajp13.proofs.Within.{sent-within}
-use Rattle.ajp13.proofs.Effects.{Right, call-right, send-leaves}
-use Rattle.answers.proofs.Effects.{fault-told}
+use Rattle.answers.proofs.Effects.{call-takes, fault-told}
+use Rattle.ajp13.proofs.Effects.{send-leaves}
 use borrow.Author.Needs.{needs}
-use Rattle.ajp13.proofs.send.ajp13_end.Statement.{statement}
-use Rattle.ajp13.proofs.send.ajp13_end.Tie as tie
+use Rattle.ajp13.proofs.send.ajp13_words_end.Statement.{statement}
+use Rattle.ajp13.proofs.send.ajp13_words_end.Tie as tie
 
 -- the fault that was found
 found : (c : tie.After-or-else) → let a = c .before .before .before .before .before .before .before .before .args in
     c .or-else .result ≡ orElse (callFault (a .connection .now) (a .answer .now)) (flagFault (a .reuse))
 found c = rw (c .or-else .ensures, c .before .before .call-fault .ensures, c .before .flag-fault .ensures)
 
--- where there is none, the connection can be read and the arrays take what is written
-right : (c : tie.Else1) → let a = c .before .before .before .before .before .before .before .before .before .args in Right (a .connection .now) (a .answer .now)
-right c = call-right _ _ (or-first _ _ (sym (found (c .before)) ∙ c .if1 .left))
+-- where there is none, the arrays take what is written
+takes : (c : tie.Else1) → let a = c .before .before .before .before .before .before .before .before .before .args in Takes (a .connection .now) (a .answer .now)
+takes c = call-takes _ _ (or-first _ _ (sym (found (c .before)) ∙ c .if1 .left))
 
 call-fault-requires : tie.Need-call-fault-requires
 call-fault-requires c κs = search needs
@@ -50,7 +50,7 @@ unfolding endEffect
 returns c = fault-told _ _ _ _ _ (found (c .before)) _ (c .if1 .taken)
 
 connection-in-requires : tie.Need-connection-in-requires
-connection-in-requires c κs = right (c .before) .fits
+connection-in-requires c κs = takes (c .before) .connected
 
 flag-in-requires : tie.Need-flag-in-requires
 flag-in-requires c κs = search needs
@@ -58,11 +58,11 @@ flag-in-requires c κs = search needs
 end-requires : tie.Need-end-requires
 end-requires c κs = search needs
 
-tell-requires : tie.Need-tell-requires
+tell-sent-requires : tie.Need-tell-sent-requires
 unfolding endCall
-tell-requires c κs =
+tell-sent-requires c κs =
     let a = c .before .before .before .before .before .before .before .before .before .before .before .before .before .before .before .before .before .before .args in
-    (right (c .before .before .before .before .before .before .before .before .before) .takes, subst SentWithin (sym (c .before .before .before .before .end .ensures .0)) (sent-within (c .before .before .before .before .before .before .before .connection-in .result) (Move.End (c .before .before .before .before .before .flag-in .result)) (endPayload (c .before .before .before .before .before .flag-in .result)) (a .buffer .now)))
+    (takes (c .before .before .before .before .before .before .before .before .before), subst SentWithin (sym (c .before .before .before .before .end .ensures .0)) (sent-within (c .before .before .before .before .before .before .before .connection-in .result) (Move.End (c .before .before .before .before .before .flag-in .result)) (endPayload (c .before .before .before .before .before .flag-in .result)) (a .buffer .now)))
 
 same-length-3 : tie.Need-same-length-3
 same-length-3 c = search needs
@@ -84,7 +84,7 @@ returns-2 c =
     (found (e .before)) (e .if1 .left) (conn .ensures)
     (sent .end .ensures .0 ∙ ap (λ (x : Bool). outcome (endCall (conn .result) x) (length (a .buffer .now))) (sent .before .flag-in .ensures))
     (sent .end .ensures .1 ∙ ap (λ (x : Bool). bufferAfter (endCall (conn .result) x) (a .buffer .now)) (sent .before .flag-in .ensures))
-    (c .before .before .before .before .tell .ensures _)
+    (c .before .before .before .before .tell-sent .ensures _)
 
 pub ajp13-words-end-spec : {M : Type 1} → statement M
 ajp13-words-end-spec =
@@ -99,7 +99,7 @@ ajp13-words-end-spec =
     connection-in-requires
     flag-in-requires
     end-requires
-    tell-requires
+    tell-sent-requires
     same-length-3
     same-length-4
     same-length-5

@@ -1,4 +1,4 @@
--- `send::ajp13_get_body` meets its contract: a Get Body Chunk is sent, and told.
+-- `send::ajp13_words_get_body` meets its contract: a Get Body Chunk is sent, and told.
 -- Assumes nothing.
 use mathlib.Core.Path.{_≡_, sym, ap, subst, _∙_}
 use Prim.Native.Nat.{ℕ}
@@ -13,23 +13,23 @@ use Rattle.writer.specs.Sending.{getPayload, getCall}
 use Rattle.words.specs.Number.{numberFault}
 use Rattle.answers.specs.Effect.{callFault}
 use Rattle.ajp13.specs.Sending.{getEffect}
-use Rattle.answers.specs.Private.{SentWithin}
+use Rattle.answers.specs.Private.{SentWithin, Takes}
 use Rattle.ajp13.proofs.Within.{sent-within}
-use Rattle.ajp13.proofs.Effects.{Right, call-right, send-leaves}
+use Rattle.answers.proofs.Effects.{call-takes, fault-told}
+use Rattle.ajp13.proofs.Effects.{send-leaves}
 use Rattle.words.proofs.Records.{number-within}
-use Rattle.answers.proofs.Effects.{fault-told}
 use borrow.Author.Needs.{needs}
-use Rattle.ajp13.proofs.send.ajp13_get_body.Statement.{statement}
-use Rattle.ajp13.proofs.send.ajp13_get_body.Tie as tie
+use Rattle.ajp13.proofs.send.ajp13_words_get_body.Statement.{statement}
+use Rattle.ajp13.proofs.send.ajp13_words_get_body.Tie as tie
 
 -- the fault that was found
 found : (c : tie.After-or-else) → let a = c .before .before .before .before .before .before .before .before .args in
     c .or-else .result ≡ orElse (callFault (a .connection .now) (a .answer .now)) (numberFault (a .asked))
 found c = rw (c .or-else .ensures, c .before .before .call-fault .ensures, c .before .number-fault .ensures)
 
--- where there is none, the connection can be read and the arrays take what is written
-right : (c : tie.Else1) → let a = c .before .before .before .before .before .before .before .before .before .args in Right (a .connection .now) (a .answer .now)
-right c = call-right _ _ (or-first _ _ (sym (found (c .before)) ∙ c .if1 .left))
+-- where there is none, the arrays take what is written
+takes : (c : tie.Else1) → let a = c .before .before .before .before .before .before .before .before .before .args in Takes (a .connection .now) (a .answer .now)
+takes c = call-takes _ _ (or-first _ _ (sym (found (c .before)) ∙ c .if1 .left))
 
 call-fault-requires : tie.Need-call-fault-requires
 call-fault-requires c κs = search needs
@@ -51,7 +51,7 @@ unfolding getEffect
 returns c = fault-told _ _ _ _ _ (found (c .before)) _ (c .if1 .taken)
 
 connection-in-requires : tie.Need-connection-in-requires
-connection-in-requires c κs = right (c .before) .fits
+connection-in-requires c κs = takes (c .before) .connected
 
 number-in-requires : tie.Need-number-in-requires
 number-in-requires c κs =
@@ -62,11 +62,11 @@ number-in-requires c κs =
 get-body-requires : tie.Need-get-body-requires
 get-body-requires c κs = search needs
 
-tell-requires : tie.Need-tell-requires
+tell-sent-requires : tie.Need-tell-sent-requires
 unfolding getCall
-tell-requires c κs =
+tell-sent-requires c κs =
     let a = c .before .before .before .before .before .before .before .before .before .before .before .before .before .before .before .before .before .before .args in
-    (right (c .before .before .before .before .before .before .before .before .before) .takes, subst SentWithin (sym (c .before .before .before .before .get-body .ensures .0)) (sent-within (c .before .before .before .before .before .before .before .connection-in .result) (Move.GetBody (c .before .before .before .before .before .number-in .result)) (getPayload (c .before .before .before .before .before .number-in .result)) (a .buffer .now)))
+    (takes (c .before .before .before .before .before .before .before .before .before), subst SentWithin (sym (c .before .before .before .before .get-body .ensures .0)) (sent-within (c .before .before .before .before .before .before .before .connection-in .result) (Move.GetBody (c .before .before .before .before .before .number-in .result)) (getPayload (c .before .before .before .before .before .number-in .result)) (a .buffer .now)))
 
 same-length-3 : tie.Need-same-length-3
 same-length-3 c = search needs
@@ -88,7 +88,7 @@ returns-2 c =
     (found (e .before)) (e .if1 .left) (conn .ensures)
     (sent .get-body .ensures .0 ∙ ap (λ (x : ℕ). outcome (getCall (conn .result) x) (length (a .buffer .now))) (sent .before .number-in .ensures))
     (sent .get-body .ensures .1 ∙ ap (λ (x : ℕ). bufferAfter (getCall (conn .result) x) (a .buffer .now)) (sent .before .number-in .ensures))
-    (c .before .before .before .before .tell .ensures _)
+    (c .before .before .before .before .tell-sent .ensures _)
 
 pub ajp13-words-get-body-spec : {M : Type 1} → statement M
 ajp13-words-get-body-spec =
@@ -103,7 +103,7 @@ ajp13-words-get-body-spec =
     connection-in-requires
     number-in-requires
     get-body-requires
-    tell-requires
+    tell-sent-requires
     same-length-3
     same-length-4
     same-length-5

@@ -1,4 +1,4 @@
--- `view::ajp13_text_at` meets its contract: a fault is told and nothing is written, else the words of the string.
+-- `view::ajp13_words_text_at` meets its contract: a fault is told and nothing is written, else the words of the string.
 -- Assumes nothing.
 use mathlib.Core.Path.{sym, ap, _∙_}
 use native.Mathlib.Omega.{arith}
@@ -8,8 +8,8 @@ use Rattle.view_words.specs.View.{textWords, textAfter}
 use Rattle.words.proofs.Found.{fault-keeps, later-written}
 use Rattle.view_words.proofs.Views.{text-fine}
 use borrow.Author.Needs.{needs}
-use Rattle.ajp13.proofs.view.ajp13_text_at.Statement.{statement}
-use Rattle.ajp13.proofs.view.ajp13_text_at.Tie as tie
+use Rattle.ajp13.proofs.view.ajp13_words_text_at.Statement.{statement}
+use Rattle.ajp13.proofs.view.ajp13_words_text_at.Tie as tie
 
 text-fault-requires : tie.Need-text-fault-requires
 text-fault-requires c κs = search needs
