@@ -56,7 +56,7 @@ module _ {A : Type 0} (call : Call A) where
 -- a call with a fault of its own is refused with the first of them
 own-comes : {A : Type 0} (call : Call A) (room : ℕ) → (firstFault (call .faults) ≡ 0 → ⊥) → outcome call room ≡ refused (firstFault (call .faults))
 unfolding outcome refusalOf
-own-comes call room h = rw (ne-eqb (firstFault (call .faults)) 0 h) refl
+own-comes call room h = rw (ne-eqb (firstFault (call .faults)) 0 h) (rw (ne-eqb (firstFault (call .faults)) 0 h) refl)
 
 -- the number of a refusal, 0 for none
 abbrev refusedNumber : {A : Type 0} → Outcome A → ℕ

@@ -127,13 +127,13 @@ sends-status connection buffer answer =
     let e = call-error connection answer in
     let known = sent-refusals c in (
       send-status (callFault connection answer) Kind.CPing (cpingCall c) connection buffer answer e (known .0),
-      send-status (callFault connection answer) Kind.CPong (cpongCall c) connection buffer answer e (known .1 .0),
-      λ bytes. send-status (callFault connection answer) Kind.Body (bodyCall c bytes) connection buffer answer e (known .1 .1 .0 bytes),
-      λ bytes. send-status (callFault connection answer) Kind.BodyChunk (chunkCall c bytes) connection buffer answer e (known .1 .1 .1 .0 bytes),
+      send-status (callFault connection answer) Kind.CPong (cpongCall c) connection buffer answer e (known .1),
+      λ bytes. send-status (callFault connection answer) Kind.Body (bodyCall c bytes) connection buffer answer e (known .2 bytes),
+      λ bytes. send-status (callFault connection answer) Kind.BodyChunk (chunkCall c bytes) connection buffer answer e (known .3 bytes),
       λ asked. send-status (orElse (callFault connection answer) (numberFault asked)) Kind.GetBody (getCall c asked) connection buffer answer
-          (or-error (callFault connection answer) (numberFault asked) e (number-error asked)) (known .1 .1 .1 .1 .0 asked),
+          (or-error (callFault connection answer) (numberFault asked) e (number-error asked)) (known .4 asked),
       λ reuse. send-status (callFault connection answer) Kind.End (endOf c reuse) connection buffer answer e
-          (with-numbered (endCall c (flagIn reuse)) (reuseFault reuse) (unless-fault (leb reuse lastFlag) outOfRange refl) (known .1 .1 .1 .1 .1 (flagIn reuse))),
+          (with-numbered (endCall c (flagIn reuse)) (reuseFault reuse) (unless-fault (leb reuse lastFlag) outOfRange refl) (known .5 (flagIn reuse))),
     )
 
 -- closing
@@ -180,25 +180,24 @@ pub pieces-status : (building buffer : List ℕ)
 unfolding forwardPiece sendHeadersPiece codedPiece spelledPiece namedPiece textPiece integerPiece pairPiece
 pieces-status building buffer =
     let r = buildingIn building in
-    let known = piece-refusals in
-    let two = λ (first second : ℕ) (p : isErrorOrNone first ≡ true) (q : isErrorOrNone second ≡ true). or-error first second p q in (
+    let known = piece-refusals in (
       λ fixed protocol uri addr host name. piece-status (forwardPiece building fixed protocol uri addr host name) building buffer
-          (two (buildingRoom building) (fixedFault fixed) (room-error building) (fixed-error fixed))
+          (or-error (buildingRoom building) (fixedFault fixed) (room-error building) (fixed-error fixed))
           (with-numbered (forwardCall (numbersIn fixed) (nullsIn fixed) protocol uri addr host name) (sslFault fixed) (unless-fault (leb (word fixed sslPlace) lastFlag) outOfRange refl) (known .0 (numbersIn fixed) (nullsIn fixed) protocol uri addr host name)),
       λ httpStatus message null. piece-status (sendHeadersPiece building httpStatus message null) building buffer
-          (two (buildingRoom building) (flagFault null) (room-error building) (flag-error null)) (known .1 .0 (capped httpStatus) (flagIn null) message),
+          (or-error (buildingRoom building) (flagFault null) (room-error building) (flag-error null)) (known .1 (capped httpStatus) (flagIn null) message),
       λ code value null. piece-status (codedPiece building buffer code value null) building buffer
-          (two (buildingFault building) (flagFault null) (building-error building) (flag-error null)) (known .1 .1 .0 r buffer (capped code) (flagIn null) value),
+          (or-error (buildingFault building) (flagFault null) (building-error building) (flag-error null)) (known .2 r buffer (capped code) (flagIn null) value),
       λ name noname value novalue. piece-status (spelledPiece building buffer name noname value novalue) building buffer
-          (two (orElse (buildingFault building) (flagFault noname)) (flagFault novalue) (two (buildingFault building) (flagFault noname) (building-error building) (flag-error noname)) (flag-error novalue))
-          (known .1 .1 .1 .0 r buffer (flagIn noname) name (flagIn novalue) value),
+          (or-error (orElse (buildingFault building) (flagFault noname)) (flagFault novalue) (or-error (buildingFault building) (flagFault noname) (building-error building) (flag-error noname)) (flag-error novalue))
+          (known .3 r buffer (flagIn noname) name (flagIn novalue) value),
       λ name value null. piece-status (namedPiece building buffer name value null) building buffer
-          (two (buildingFault building) (flagFault null) (building-error building) (flag-error null)) (known .1 .1 .1 .1 .0 r buffer name (flagIn null) value),
+          (or-error (buildingFault building) (flagFault null) (building-error building) (flag-error null)) (known .4 r buffer name (flagIn null) value),
       λ code value null. piece-status (textPiece building buffer code value null) building buffer
-          (two (buildingFault building) (flagFault null) (building-error building) (flag-error null)) (known .1 .1 .1 .1 .1 .0 r buffer (capped code) (flagIn null) value),
+          (or-error (buildingFault building) (flagFault null) (building-error building) (flag-error null)) (known .5 r buffer (capped code) (flagIn null) value),
       λ code value. piece-status (integerPiece building buffer code value) building buffer
-          (two (buildingFault building) (numberFault value) (building-error building) (number-error value)) (known .1 .1 .1 .1 .1 .1 .0 r buffer (capped code) value),
+          (or-error (buildingFault building) (numberFault value) (building-error building) (number-error value)) (known .6 r buffer (capped code) value),
       λ code name noname value novalue. piece-status (pairPiece building buffer code name noname value novalue) building buffer
-          (two (orElse (buildingFault building) (flagFault noname)) (flagFault novalue) (two (buildingFault building) (flagFault noname) (building-error building) (flag-error noname)) (flag-error novalue))
-          (known .1 .1 .1 .1 .1 .1 .1 r buffer (capped code) (flagIn noname) name (flagIn novalue) value),
+          (or-error (orElse (buildingFault building) (flagFault noname)) (flagFault novalue) (or-error (buildingFault building) (flagFault noname) (building-error building) (flag-error noname)) (flag-error novalue))
+          (known .7 r buffer (capped code) (flagIn noname) name (flagIn novalue) value),
     )

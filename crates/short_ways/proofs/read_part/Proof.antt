@@ -29,10 +29,10 @@ read-body-chunk-requires : tie.Need-read-body-chunk-requires
 read-body-chunk-requires c κs = search needs
 
 returns : tie.Need-returns
-returns c = by {d = Direction.ToContainer} _ _ _ _ (c .before .enum-told .given .1) (c .read-body .ensures)
+returns c = by {d = Direction.ToContainer} _ _ _ (c .read-body .result) (c .before .enum-told .given .1) (c .read-body .ensures)
 
 returns-2 : tie.Need-returns-2
-returns-2 c = by {d = Direction.ToServer} _ _ _ _ (c .before .enum-told2 .given .1) (c .read-body-chunk .ensures)
+returns-2 c = by {d = Direction.ToServer} _ _ _ (c .read-body-chunk .result) (c .before .enum-told2 .given .1) (c .read-body-chunk .ensures)
 
 pub read-part-spec : {M : Type 1} → statement M
 read-part-spec =

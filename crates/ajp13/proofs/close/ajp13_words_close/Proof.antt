@@ -1,6 +1,6 @@
 -- `close::ajp13_words_close` meets its contract: the packet is closed, and what that came to is told.
 -- Assumes nothing.
-use mathlib.Core.Path.{sym, ap, subst, _∙_}
+use mathlib.Core.Path.{_≡_, sym, ap, subst, _∙_}
 use Rattle.building_record.specs.Record.{builtKind}
 use Rattle.ajp13.specs.Sending.{closeEffect}
 use Rattle.answers.specs.Private.{SentWithin, Takes}

@@ -21,14 +21,12 @@ list-in-requires : tie.Need-list-in-requires
 list-in-requires c κs = search needs
 
 number-in-requires : tie.Need-number-in-requires
-number-in-requires c κs =
-    let fine = c .before .before in
-    name-fine _ _ _ (fine .before .name-fault .ensures) (fine .if1 .left) .1
+number-in-requires c κs = search needs
 
 put-name-requires : tie.Need-put-name-requires
 put-name-requires c κs =
     let fine = c .before .before .before in
-    name-fine _ _ _ (fine .before .name-fault .ensures) (fine .if1 .left) .0
+    name-fine _ _ (fine .before .name-fault .ensures) (fine .if1 .left)
 
 same-length-2 : tie.Need-same-length-2
 same-length-2 c = search needs

@@ -12,20 +12,13 @@ unless-requires c κs = search needs
 list-fault-requires : tie.Need-list-fault-requires
 list-fault-requires c κs = search needs
 
-number-fault-requires : tie.Need-number-fault-requires
-number-fault-requires c κs = search needs
-
 or-else-requires : tie.Need-or-else-requires
 or-else-requires c κs = search needs
-
-or-else-requires-2 : tie.Need-or-else-requires-2
-or-else-requires-2 c κs = search needs
 
 returns : tie.Need-returns
 unfolding nameFault
 returns c =
-    c .or-else2 .ensures
-    ∙ rw (c .before .or-else .ensures, c .before .before .before .before .unless .ensures, c .before .before .before .list-fault .ensures, c .before .before .number-fault .ensures) refl
+    c .or-else .ensures ∙ rw (c .before .before .unless .ensures, c .before .list-fault .ensures) refl
 
 pub name-fault-spec : {M : Type 1} → statement M
 name-fault-spec =
@@ -33,7 +26,5 @@ name-fault-spec =
     (tie.spec
     unless-requires
     list-fault-requires
-    number-fault-requires
     or-else-requires
-    or-else-requires-2
     returns)

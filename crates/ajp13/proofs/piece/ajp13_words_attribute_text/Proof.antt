@@ -3,34 +3,34 @@
 use mathlib.Core.Path.{_≡_, refl, sym, _∙_}
 use Rattle.building.specs.Fault.{firstFault}
 use Rattle.building.proofs.Faults.{Faultless, faultless}
+use Rattle.words.proofs.Records.{building-all}
 use Rattle.ajp13.specs.Piece.{Piece, textPiece}
-use Rattle.words.proofs.Records.{building-all, number-within}
 use Rattle.ajp13.proofs.Pieces.{piece-fault, piece-called}
 use borrow.Author.Needs.{needs}
 use Rattle.ajp13.proofs.piece.ajp13_words_attribute_text.Statement.{statement}
 use Rattle.ajp13.proofs.piece.ajp13_words_attribute_text.Tie as tie
 
 -- the piece that is to be added
-abbrev piece : tie.After-piece-fault → Piece
+abbrev piece : tie.After-or-else → Piece
 piece c = let a = c .before .before .before .before .before .before .before .args in textPiece (a .building .now) (a .buffer .now) (a .code) (a .value .now) (a .null)
 
 -- what was found is the first of its faults
-found : (c : tie.After-piece-fault) → c .piece-fault .result ≡ firstFault (piece c .faults)
+found : (c : tie.After-or-else) → c .or-else .result ≡ firstFault (piece c .faults)
 unfolding textPiece
-found c = c .piece-fault .ensures ∙ rw (c .before .before .number-fault .ensures, c .before .flag-fault .ensures) refl
+found c = c .or-else .ensures ∙ rw (c .before .before .building-fault .ensures, c .before .flag-fault .ensures) refl
 
 -- where it is none, none of them is one
 none : (c : tie.Else1) → Faultless (piece (c .before) .faults)
 none c = faultless (piece (c .before) .faults) (sym (found (c .before)) ∙ c .if1 .left)
 
-number-fault-requires : tie.Need-number-fault-requires
-number-fault-requires c κs = search needs
+building-fault-requires : tie.Need-building-fault-requires
+building-fault-requires c κs = search needs
 
 flag-fault-requires : tie.Need-flag-fault-requires
 flag-fault-requires c κs = search needs
 
-piece-fault-requires : tie.Need-piece-fault-requires
-piece-fault-requires c κs = search needs
+or-else-requires : tie.Need-or-else-requires
+or-else-requires c κs = search needs
 
 same-length : tie.Need-same-length
 same-length c = search needs
@@ -45,8 +45,7 @@ unfolding textPiece
 building-in-requires c κs = building-all _ (none (c .before) .0)
 
 number-in-requires : tie.Need-number-in-requires
-unfolding textPiece
-number-in-requires c κs = number-within _ (none (c .before .before .before) .1 .0)
+number-in-requires c κs = search needs
 
 flag-in-requires : tie.Need-flag-in-requires
 flag-in-requires c κs = search needs
@@ -68,9 +67,9 @@ returns-2 : tie.Need-returns-2
 unfolding textPiece
 returns-2 c =
     let called = c .before .before .before .before .before .before in
-    let none = called .before .before .before .before .before .before in
-    let a = none .before .before .before .before .before .before .before .before .args in
-    piece-called (piece (none .before)) (a .building .now) (a .buffer .now) (found (none .before)) (none .if1 .left)
+    let here = called .before .before .before .before .before .before in
+    let a = here .before .before .before .before .before .before .before .before .args in
+    piece-called (piece (here .before)) (a .building .now) (a .buffer .now) (found (here .before)) (here .if1 .left)
     (rw (called .before .before .before .before .building-in .ensures, called .before .before .number-in .ensures, called .before .flag-in .ensures) refl)
     (called .text .ensures .0) (called .text .ensures .1) (c .before .before .put-added .ensures _)
 
@@ -78,9 +77,9 @@ pub ajp13-words-attribute-text-spec : {M : Type 1} → statement M
 ajp13-words-attribute-text-spec =
     tie.close
     (tie.spec
-    number-fault-requires
+    building-fault-requires
     flag-fault-requires
-    piece-fault-requires
+    or-else-requires
     same-length
     returns
     building-in-requires

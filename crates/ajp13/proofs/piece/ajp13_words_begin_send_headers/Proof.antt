@@ -3,21 +3,21 @@
 use mathlib.Core.Path.{_≡_, refl, sym, _∙_}
 use Rattle.building.specs.Fault.{firstFault}
 use Rattle.building.proofs.Faults.{Faultless, faultless}
+use Rattle.words.proofs.Records.{building-room}
 use Rattle.ajp13.specs.Piece.{Piece, sendHeadersPiece}
-use Rattle.words.proofs.Records.{number-within, building-room}
 use Rattle.ajp13.proofs.Pieces.{piece-fault, piece-called}
 use borrow.Author.Needs.{needs}
 use Rattle.ajp13.proofs.piece.ajp13_words_begin_send_headers.Statement.{statement}
 use Rattle.ajp13.proofs.piece.ajp13_words_begin_send_headers.Tie as tie
 
 -- the piece that is to be added
-abbrev piece : tie.After-or-else2 → Piece
-piece c = let a = c .before .before .before .before .before .before .before .before .before .args in sendHeadersPiece (a .building .now) (a .status) (a .message .now) (a .null)
+abbrev piece : tie.After-or-else → Piece
+piece c = let a = c .before .before .before .before .before .before .before .args in sendHeadersPiece (a .building .now) (a .status) (a .message .now) (a .null)
 
 -- what was found is the first of its faults
-found : (c : tie.After-or-else2) → c .or-else2 .result ≡ firstFault (piece c .faults)
+found : (c : tie.After-or-else) → c .or-else .result ≡ firstFault (piece c .faults)
 unfolding sendHeadersPiece
-found c = c .or-else2 .ensures ∙ rw (c .before .before .or-else .ensures, c .before .before .before .before .building-room .ensures, c .before .before .before .number-fault .ensures, c .before .flag-fault .ensures) refl
+found c = c .or-else .ensures ∙ rw (c .before .before .building-room .ensures, c .before .flag-fault .ensures) refl
 
 -- where it is none, none of them is one
 none : (c : tie.Else1) → Faultless (piece (c .before) .faults)
@@ -26,29 +26,22 @@ none c = faultless (piece (c .before) .faults) (sym (found (c .before)) ∙ c .i
 building-room-requires : tie.Need-building-room-requires
 building-room-requires c κs = search needs
 
-number-fault-requires : tie.Need-number-fault-requires
-number-fault-requires c κs = search needs
-
-or-else-requires : tie.Need-or-else-requires
-or-else-requires c κs = search needs
-
 flag-fault-requires : tie.Need-flag-fault-requires
 flag-fault-requires c κs = search needs
 
-or-else-requires-2 : tie.Need-or-else-requires-2
-or-else-requires-2 c κs = search needs
+or-else-requires : tie.Need-or-else-requires
+or-else-requires c κs = search needs
 
 same-length : tie.Need-same-length
 same-length c = search needs
 
 returns : tie.Need-returns
 returns c =
-    let a = c .before .before .before .before .before .before .before .before .before .before .args in
+    let a = c .before .before .before .before .before .before .before .before .args in
     piece-fault (piece (c .before)) (a .building .now) (a .buffer .now) (found (c .before)) (c .if1 .taken)
 
 number-in-requires : tie.Need-number-in-requires
-unfolding sendHeadersPiece
-number-in-requires c κs = number-within _ (none (c .before) .1 .0)
+number-in-requires c κs = search needs
 
 flag-in-requires : tie.Need-flag-in-requires
 flag-in-requires c κs = search needs
@@ -70,9 +63,9 @@ returns-2 : tie.Need-returns-2
 unfolding sendHeadersPiece
 returns-2 c =
     let called = c .before .before .before .before .before .before in
-    let none = called .before .before .before .before in
-    let a = none .before .before .before .before .before .before .before .before .before .before .args in
-    piece-called (piece (none .before)) (a .building .now) (a .buffer .now) (found (none .before)) (none .if1 .left)
+    let here = called .before .before .before .before in
+    let a = here .before .before .before .before .before .before .before .before .args in
+    piece-called (piece (here .before)) (a .building .now) (a .buffer .now) (found (here .before)) (here .if1 .left)
     (rw (called .before .before .number-in .ensures, called .before .flag-in .ensures) refl)
     (called .begin .ensures .0) (called .begin .ensures .1) (c .before .before .put-added .ensures _)
 
@@ -81,10 +74,8 @@ ajp13-words-begin-send-headers-spec =
     tie.close
     (tie.spec
     building-room-requires
-    number-fault-requires
-    or-else-requires
     flag-fault-requires
-    or-else-requires-2
+    or-else-requires
     same-length
     returns
     number-in-requires

@@ -10,17 +10,17 @@ use Rattle.ajp13.proofs.read.read_any.Statement.{statement}
 use Rattle.ajp13.proofs.read.read_any.Tie as tie
 
 connection-in-requires : tie.Need-connection-in-requires
-connection-in-requires c κs = search needs
+connection-in-requires c κs = c .before .before .before .before .before .pre .connected
 
 read-requires : tie.Need-read-requires
 read-requires c κs = search needs
 
-tell-requires : tie.Need-tell-requires
-tell-requires c κs =
+tell-received-requires : tie.Need-tell-received-requires
+tell-received-requires c κs =
     let start = c .before .before .before .before .before .before .before .before .before .before .before .before in
     let a = start .args in
     let received = c .before .before .before .before in
-    (start .pre .1, subst ReadWithin (sym (received .read .ensures .0)) (read-within (a .direction) (received .before .before .connection-in .result) (a .bytes .now) (length (a .table .now))))
+    (start .pre, subst ReadWithin (sym (received .read .ensures .0)) (read-within (a .direction) (received .before .before .connection-in .result) (a .bytes .now) (length (a .table .now))))
 
 same-length : tie.Need-same-length
 same-length c = search needs
@@ -37,7 +37,7 @@ returns c =
     let received = c .before .before .before .before .before .before .before .before .before in
     let conn = received .before .before .connection-in in
     sound-reading (a .direction) (a .connection .now) (a .bytes .now) (a .table .now) (a .answer .now) (conn .result) _ _ _
-    (conn .ensures) (received .read .ensures .0) (received .read .ensures .1) (c .before .before .before .before .tell .ensures _)
+    (conn .ensures) (received .read .ensures .0) (received .read .ensures .1) (c .before .before .before .before .tell-received .ensures _)
 
 pub read-any-spec : {M : Type 1} → statement M
 read-any-spec =
@@ -45,7 +45,7 @@ read-any-spec =
     (tie.spec
     connection-in-requires
     read-requires
-    tell-requires
+    tell-received-requires
     same-length
     same-length-2
     same-length-3

@@ -10,14 +10,14 @@ use Rattle.building.specs.Fault.{orElse}
 use Rattle.building.specs.Call.{outcome, bufferAfter}
 use Rattle.building.proofs.Sizes.{or-first, or-second}
 use Rattle.writer.specs.Sending.{getPayload, getCall}
-use Rattle.words.specs.Number.{numberFault}
+use Rattle.words.specs.Number.{capped, numberFault}
 use Rattle.answers.specs.Effect.{callFault}
 use Rattle.ajp13.specs.Sending.{getEffect}
 use Rattle.answers.specs.Private.{SentWithin, Takes}
 use Rattle.ajp13.proofs.Within.{sent-within}
 use Rattle.answers.proofs.Effects.{call-takes, fault-told}
 use Rattle.ajp13.proofs.Effects.{send-leaves}
-use Rattle.words.proofs.Records.{number-within}
+use Rattle.words.proofs.Records.{number-within, capped-same}
 use borrow.Author.Needs.{needs}
 use Rattle.ajp13.proofs.send.ajp13_words_get_body.Statement.{statement}
 use Rattle.ajp13.proofs.send.ajp13_words_get_body.Tie as tie
@@ -27,7 +27,12 @@ found : (c : tie.After-or-else) → let a = c .before .before .before .before .b
     c .or-else .result ≡ orElse (callFault (a .connection .now) (a .answer .now)) (numberFault (a .asked))
 found c = rw (c .or-else .ensures, c .before .before .call-fault .ensures, c .before .number-fault .ensures)
 
--- where there is none, the arrays take what is written
+-- where there is none, what is asked for fits, and the arrays take what is written
+fits : (c : tie.Else1) → let a = c .before .before .before .before .before .before .before .before .before .args in capped (a .asked) ≡ a .asked
+fits c =
+    let a = c .before .before .before .before .before .before .before .before .before .args in
+    capped-same (a .asked) (number-within (a .asked) (or-second (callFault (a .connection .now) (a .answer .now)) _ (sym (found (c .before)) ∙ c .if1 .left)))
+
 takes : (c : tie.Else1) → let a = c .before .before .before .before .before .before .before .before .before .args in Takes (a .connection .now) (a .answer .now)
 takes c = call-takes _ _ (or-first _ _ (sym (found (c .before)) ∙ c .if1 .left))
 
@@ -54,10 +59,7 @@ connection-in-requires : tie.Need-connection-in-requires
 connection-in-requires c κs = takes (c .before) .connected
 
 number-in-requires : tie.Need-number-in-requires
-number-in-requires c κs =
-    let e = c .before .before .before in
-    let a = e .before .before .before .before .before .before .before .before .before .args in
-    number-within _ (or-second (callFault (a .connection .now) (a .answer .now)) _ (sym (found (e .before)) ∙ e .if1 .left))
+number-in-requires c κs = search needs
 
 get-body-requires : tie.Need-get-body-requires
 get-body-requires c κs = search needs
@@ -86,8 +88,8 @@ returns-2 c =
     let conn = c .before .before .before .before .before .before .before .before .before .before .before .before .connection-in in
     send-leaves Kind.GetBody (λ (x : Connection). getCall x (a .asked)) (a .connection .now) (a .buffer .now) (a .answer .now) _ _ (conn .result) _ _ _
     (found (e .before)) (e .if1 .left) (conn .ensures)
-    (sent .get-body .ensures .0 ∙ ap (λ (x : ℕ). outcome (getCall (conn .result) x) (length (a .buffer .now))) (sent .before .number-in .ensures))
-    (sent .get-body .ensures .1 ∙ ap (λ (x : ℕ). bufferAfter (getCall (conn .result) x) (a .buffer .now)) (sent .before .number-in .ensures))
+    (sent .get-body .ensures .0 ∙ ap (λ (x : ℕ). outcome (getCall (conn .result) x) (length (a .buffer .now))) (sent .before .number-in .ensures ∙ fits e))
+    (sent .get-body .ensures .1 ∙ ap (λ (x : ℕ). bufferAfter (getCall (conn .result) x) (a .buffer .now)) (sent .before .number-in .ensures ∙ fits e))
     (c .before .before .before .before .tell-sent .ensures _)
 
 pub ajp13-words-get-body-spec : {M : Type 1} → statement M
