@@ -1,6 +1,6 @@
 -- What each kind of exported call leaves, by what the library answered it.
 -- Assumes nothing.
-use mathlib.Core.Path.{_≡_, ap, _∙_}
+use mathlib.Core.Path.{_≡_, sym, ap, subst, _∙_}
 use mathlib.Core.List.{List}
 use Prim.Native.Nat.{ℕ}
 use lib.ListN.{length}
@@ -15,6 +15,8 @@ use Rattle.building_record.specs.Record.{builtKind}
 use Rattle.building_record.specs.declared.Building.{Building}
 use Rattle.reader.specs.Meaning.{Meaning}
 use Rattle.reader.specs.Reading.{reading, tableAfter}
+use Rattle.short_ways.specs.Short.{answered, shortReading}
+use Rattle.short_ways.proofs.ShortWays.{short-reads, short-keeps}
 use Rattle.closing.specs.Closing.{closeOutcome, closeBuffer}
 use Rattle.words.specs.ConnectionWords.{connectionFault, connectionIn}
 use Rattle.words.specs.BuildingWords.{buildingSize, buildingFault, buildingIn}
@@ -22,10 +24,11 @@ use Rattle.words.proofs.Records.{building-all}
 use Rattle.answers.specs.Answer.{answerFault}
 use Rattle.answers.specs.Effect.{Effect, checked, callFault}
 use Rattle.answers.specs.Told.{afterReading, afterSending}
-use Rattle.answers.specs.Private.{Takes}
+use Rattle.answers.specs.Private.{Takes, ReadWithin}
 use Rattle.answers.proofs.Effects.{takes-by, none-told}
 use Rattle.ajp13.specs.Reading.{soundReading, readEffect}
 use Rattle.ajp13.specs.Sending.{sendEffect, closeFault, closeEffect}
+use Rattle.ajp13.proofs.Within.{read-within}
 
 -- where closing finds no fault, its arrays are as long as they have to be
 pub close-right : (connection building answer : List ℕ) → closeFault connection building answer ≡ 0
@@ -54,6 +57,19 @@ pub read-leaves : (direction : Direction) (connection bytes table answer : List 
 unfolding readEffect
 read-leaves direction connection bytes table answer found e is none sound =
     sound ∙ none-told connection table answer (callFault connection answer) found is _ none
+
+-- a packet that goes a short way, at the end to which packets of this direction go: what its answer tells fits a word, and is what the call leaves
+module _ (direction : Direction) (connection bytes table answer : List ℕ) (c : Connection) (m : Meaning)
+    (short : answered m ≡ shortReading direction c bytes) where
+  pub short-within : ReadWithin m
+  short-within =
+      subst ReadWithin (sym (short-reads direction c bytes m short table)) (read-within direction c bytes (length table))
+
+  pub short-leaves : (found : ℕ) (e : Effect) → found ≡ callFault connection answer → found ≡ 0 → c ≡ connectionIn connection
+      → e ≡ afterReading m connection table answer → e ≡ readEffect direction connection bytes table answer
+  short-leaves found e is none from tells =
+      read-leaves direction connection bytes table answer found e is none
+      (sound-reading direction connection bytes table answer c m table e from (short-reads direction c bytes m short table) (short-keeps direction c bytes m short table) tells)
 
 -- where a call came to this and left the buffer so, this is what sending leaves
 sending-leaves : (kind : Kind) (connection buffer answer : List ℕ) (fault found : ℕ) (o p : Outcome Written) (after then : List ℕ) (e : Effect)

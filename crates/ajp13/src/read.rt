@@ -8,15 +8,16 @@ ghost use Rattle.ajp13.specs.Reading.{soundReading, readEffect};
 use answers::answer::call_fault;
 use answers::received::tell_part;
 use answers::received::tell_received;
+use connection::Kind;
 use packet::Direction;
 use reader::read;
 use short_ways::PartRead;
-use short_ways::part_kind;
-use short_ways::read_part;
+use short_ways::read_body;
+use short_ways::read_body_chunk;
 use words::connection_words::connection_in;
 use words::status;
 
-// Reads a packet of any kind, for all that goes no short way; it stands apart, so that it stays out of the short ways.
+// Reads a packet of any kind. Both ends call it for all that goes no short way, so that it stays out of the short ways.
 fn read_any(
     direction: Direction,
     connection: &mut [u32],
@@ -31,31 +32,6 @@ fn read_any(
     tell_received(received, connection, answer)
 }
 
-// Reads the first packet of the bytes at the end to which packets of this direction go.
-fn read_at(
-    direction: Direction,
-    connection: &mut [u32],
-    bytes: &[u8],
-    table: &mut [u16],
-    answer: &mut [u32],
-) -> u32
-    ensures { λ r. ⌜ leaves r (now (connection .exit)) (now (table .exit)) (now (answer .exit)) ≡ readEffect direction (now (connection .entry)) (now (bytes .entry)) (now (table .entry)) (now (answer .entry)) ⌝ }
-{
-    let found = call_fault(connection, answer);
-    if found != status::DONE {
-        return found;
-    }
-    match read_part(direction, connection_in(connection), bytes) {
-        PartRead::Other => read_any(direction, connection, bytes, table, answer),
-        PartRead::Refused(n) => n as u32,
-        PartRead::Part {
-            part,
-            taken,
-            connection: after,
-        } => tell_part(part_kind(direction), part, taken, after, connection, answer),
-    }
-}
-
 // The container's end reads the first packet of the bytes. Where it is accepted, the table has the places of its headers and attributes.
 #[no_mangle]
 pub extern "C" fn ajp13_words_read_at_container(
@@ -66,7 +42,19 @@ pub extern "C" fn ajp13_words_read_at_container(
 ) -> u32
     ensures { λ r. ⌜ leaves r (now (connection .exit)) (now (table .exit)) (now (answer .exit)) ≡ readEffect Direction.ToContainer (now (connection .entry)) (now (bytes .entry)) (now (table .entry)) (now (answer .entry)) ⌝ }
 {
-    read_at(Direction::ToContainer, connection, bytes, table, answer)
+    let found = call_fault(connection, answer);
+    if found != status::DONE {
+        return found;
+    }
+    match read_body(connection_in(connection), bytes) {
+        PartRead::Other => read_any(Direction::ToContainer, connection, bytes, table, answer),
+        PartRead::Refused(n) => n as u32,
+        PartRead::Part {
+            part,
+            taken,
+            connection: after,
+        } => tell_part(Kind::Body, part, taken, after, connection, answer),
+    }
 }
 
 // The server's end reads the first packet of the bytes, in the same way.
@@ -79,5 +67,17 @@ pub extern "C" fn ajp13_words_read_at_server(
 ) -> u32
     ensures { λ r. ⌜ leaves r (now (connection .exit)) (now (table .exit)) (now (answer .exit)) ≡ readEffect Direction.ToServer (now (connection .entry)) (now (bytes .entry)) (now (table .entry)) (now (answer .entry)) ⌝ }
 {
-    read_at(Direction::ToServer, connection, bytes, table, answer)
+    let found = call_fault(connection, answer);
+    if found != status::DONE {
+        return found;
+    }
+    match read_body_chunk(connection_in(connection), bytes) {
+        PartRead::Other => read_any(Direction::ToServer, connection, bytes, table, answer),
+        PartRead::Refused(n) => n as u32,
+        PartRead::Part {
+            part,
+            taken,
+            connection: after,
+        } => tell_part(Kind::BodyChunk, part, taken, after, connection, answer),
+    }
 }

@@ -50,15 +50,6 @@ abbrev pub shortSize : Direction → Connection → List ℕ → ℕ
 shortSize Direction.ToContainer c s = bodySize c s
 shortSize Direction.ToServer c s = chunkSize c s
 
--- the kind of packet that goes it, and the packet with a part
-abbrev pub partKind : Direction → Kind
-partKind Direction.ToContainer = Kind.Body
-partKind Direction.ToServer = Kind.BodyChunk
-
-abbrev pub partPacket : Direction → Part → Packet
-partPacket Direction.ToContainer = Packet.Body
-partPacket Direction.ToServer = Packet.BodyChunk
-
 -- what a short way answers: that the packet is another one, or what reading a packet answers
 pub data PartMeaning : Type 0 where
   other : PartMeaning

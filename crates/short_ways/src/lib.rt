@@ -1,5 +1,5 @@
 // The short ways: a body packet at the container's end and a Send Body Chunk at the server's, each where it is whole and allowed now.
-// They answer what `read` answers. The compiler keeps all of them in registers in their caller; `read` is too large for that.
+// They answer what `read` answers. Each has one caller, in which the compiler keeps all of it in registers; `read` is too large for that.
 ghost use mathlib.Core.Path.{_≡_};
 ghost use lib.ListN.{length};
 ghost use Rattle.wire.specs.Field.{byteAt};
@@ -10,7 +10,7 @@ ghost use Rattle.payload.specs.BodyChunk.{chunkAt};
 ghost use Rattle.reader.specs.Frame.{frameAt};
 ghost use Rattle.reader.specs.Reading.{accepting};
 ghost use Rattle.short_ways.specs.Private.{noPart, partIn, steppedPart};
-ghost use Rattle.short_ways.specs.Short.{wholeSize, isChunk, bodySize, chunkSize, partKind, partPacket, answered, partMeaning, shortReading};
+ghost use Rattle.short_ways.specs.Short.{wholeSize, isChunk, bodySize, chunkSize, answered, partMeaning, shortReading};
 ghost use Rattle.wire.specs.Packet.{codePlace};
 use connection::Connection;
 use connection::Kind;
@@ -60,26 +60,6 @@ pub fn read_body_chunk(connection: Connection, bytes: &[u8]) -> PartRead
         return PartRead::Other; // not whole, or no chunk that is allowed
     }
     body_chunk(connection, part_of(bytes, 0, size))
-}
-
-// The kind of packet that goes the short way of a direction.
-pub fn part_kind(direction: Direction) -> Kind
-    ensures { λ r. ⌜ r ≡ partKind direction ⌝ }
-{
-    match direction {
-        Direction::ToContainer => Kind::Body,
-        Direction::ToServer => Kind::BodyChunk,
-    }
-}
-
-// Reads the first packet of the bytes by the short way of a direction.
-pub fn read_part(direction: Direction, connection: Connection, bytes: &[u8]) -> PartRead
-    ensures { λ r. ⌜ partMeaning (partPacket direction) r ≡ shortReading direction connection (now (bytes .entry)) ⌝ }
-{
-    match direction {
-        Direction::ToContainer => read_body(connection, bytes),
-        Direction::ToServer => read_body_chunk(connection, bytes),
-    }
 }
 
 // How many bytes the first packet has where it is whole and a body packet is due, else 0.
