@@ -1,8 +1,7 @@
 /*
  * A container's end over a byte stream, from standard input to standard output. It answers CPing, reads the body of a
- * request, and answers each request with its own path. With an argument it reads at most so many bytes at a time.
- *
- * It ends with 0 where the input ends between two requests, with 1 where the other end is wrong, with 2 where it is.
+ * request, and answers each request with its own path. With an argument it reads at most so many bytes at a time. Exit
+ * status: 0 where the input ends between two requests; 1 where the other end broke off or was refused; 2 for an error.
  */
 #include <stdio.h>
 #include <stdlib.h>
@@ -47,7 +46,6 @@ static uint32_t reply(const uint8_t *packet, size_t length)
             status = sent(ajp13_body_chunk(&connection, out, sizeof out, packet + path.words[AJP13_TEXT_START],
                                            path.words[AJP13_TEXT_LENGTH], &answer));
     } /* else a body packet: AJP13_ANSWER_LENGTH bytes from packet + AJP13_ANSWER_START on, not used here */
-
     if (status != AJP13_DONE || connection.words[AJP13_CONNECTION_DUE])
         return status; /* a body packet that is due comes by itself */
     if (connection.words[AJP13_CONNECTION_LEFT] > 0)
