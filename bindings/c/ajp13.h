@@ -49,9 +49,10 @@ extern "C" {
  * Done is 0, a refusal is 1 to 65535, AJP13_NEEDS is 65536, an error is above that.
  *
  * A refusal says what is wrong with the packet, or with what was asked: it is an ordinary answer. An error says that
- * the call was given an impossible record, an array of the wrong length, or an argument out of range: it is a fault of
- * the program. Errors are looked for before refusals, in the order of their numbers, and the first one is told. The
- * comment above each call names, under "Status" or "Returns", all that it can return.
+ * the call was given a record or an argument with a number out of range, or an array of the wrong length: it is a fault
+ * of the program. Errors are looked for before refusals, in the order of their numbers, and the first one is told.
+ *
+ * The comment above each call names, under "Status" or "Returns", all that it can return.
  */
 enum {
     /* Accepted, written or added. */
@@ -75,17 +76,17 @@ enum {
     AJP13_NOT_NOW = 13,               /* not allowed in this state of the connection */
     AJP13_BODY_SIZE_WRONG = 14,       /* a body packet of another size than the cycle allows now */
     AJP13_BUFFER_TOO_SHORT = 15,      /* the lent buffer, or the lent table, is too short */
-    AJP13_RECORD_WRONG = 16,          /* a header after an attribute, an attribute on a Send Headers, or a building
-                                         record that does not fit the buffer */
+    AJP13_RECORD_WRONG = 16,          /* a header after an attribute, an attribute on a Send Headers, or an
+                                         impossible building record; see ajp13_building */
 
     /* Only from reading: the packet is not whole yet. See ajp13_read_at_container. */
     AJP13_NEEDS = 0x10000,
 
     /* Errors. Those of a length come only from the calls of ajp13_words.h, and from ajp13_name. */
     AJP13_ERROR_CONNECTION_LENGTH = 0x10001, /* the connection has not AJP13_SIZE_CONNECTION words */
-    AJP13_ERROR_CONNECTION_WORD = 0x10002,   /* an impossible connection; see ajp13_connection */
+    AJP13_ERROR_CONNECTION_WORD = 0x10002,   /* a word of it is out of range; see ajp13_connection */
     AJP13_ERROR_BUILDING_LENGTH = 0x10003,   /* the building record has not AJP13_SIZE_BUILDING words */
-    AJP13_ERROR_BUILDING_WORD = 0x10004,     /* an impossible building record; see ajp13_building */
+    AJP13_ERROR_BUILDING_WORD = 0x10004,     /* a word of it is out of range; see ajp13_building */
     AJP13_ERROR_FIXED_LENGTH = 0x10005,      /* the fixed numbers of a Forward are not AJP13_SIZE_FIXED words */
     AJP13_ERROR_FIXED_WORD = 0x10006,        /* a Forward's server_port above 65535, or the null of one of its strings
                                                 above 1 */
@@ -130,9 +131,9 @@ static inline const char *ajp13_status_text(uint32_t status)
     case AJP13_RECORD_WRONG: return "building record does not allow this";
     case AJP13_NEEDS: return "packet not whole yet";
     case AJP13_ERROR_CONNECTION_LENGTH: return "error: connection of the wrong length";
-    case AJP13_ERROR_CONNECTION_WORD: return "error: impossible connection";
+    case AJP13_ERROR_CONNECTION_WORD: return "error: connection with a word out of range";
     case AJP13_ERROR_BUILDING_LENGTH: return "error: building record of the wrong length";
-    case AJP13_ERROR_BUILDING_WORD: return "error: impossible building record";
+    case AJP13_ERROR_BUILDING_WORD: return "error: building record with a word out of range";
     case AJP13_ERROR_FIXED_LENGTH: return "error: fixed numbers of the wrong length";
     case AJP13_ERROR_FIXED_WORD: return "error: fixed number out of range";
     case AJP13_ERROR_ANSWER_LENGTH: return "error: array for the answer of the wrong length";
@@ -192,10 +193,10 @@ enum {
  * Nothing else is allowed (AJP13_NOT_NOW). A body packet holds at least one byte and at most ajp13_largest_body; where
  * that is 0, the body packet is empty (else AJP13_BODY_SIZE_WRONG).
  *
- * Left, due, asked and headers count only in Busy, and asked only where a body packet is due; elsewhere they are not
- * looked at, and a step sets them to 0.
+ * Left, due, asked and headers count only in Busy, and asked only where a body packet is due. What does not count is
+ * not looked at, and a step sets to 0 what does not count after it.
  *
- * Impossible, AJP13_ERROR_CONNECTION_WORD: state above 3; head, edition or open not 0; or, in Busy, due or headers
+ * Words out of range (AJP13_ERROR_CONNECTION_WORD): state above 3; head, edition or open not 0; in Busy due or headers
  * above 1, or asked above 65535 where a body packet is due.
  */
 typedef struct ajp13_connection {
@@ -227,11 +228,11 @@ enum {
  * A building record. It says how far a Forward or a Send Headers is built. The calls that begin a packet make it, the
  * pieces step it.
  *
- * Impossible, AJP13_ERROR_BUILDING_WORD: kind is neither AJP13_KIND_FORWARD nor AJP13_KIND_SEND_HEADERS (so a record of
- * zeros is impossible), or attributes is above 1.
+ * Words out of range (AJP13_ERROR_BUILDING_WORD): kind neither AJP13_KIND_FORWARD nor AJP13_KIND_SEND_HEADERS, as in a
+ * record of zeros; attributes above 1.
  *
- * Refused, AJP13_RECORD_WRONG: next is above 8192 or past the buffer, count_place is under 4 or less than two before
- * next, headers is above 100, or the buffer's byte at place 4 is not that packet's code.
+ * Impossible (AJP13_RECORD_WRONG): next above 8192 or past the buffer, count_place under 4 or less than two before next,
+ * headers above 100, or another byte at the buffer's place 4 than that packet's code.
  */
 typedef struct ajp13_building {
     uint32_t words[AJP13_SIZE_BUILDING];
@@ -524,7 +525,7 @@ static inline ajp13_string ajp13_chars(const char *text)
     return text == NULL ? ajp13_null() : ajp13_bytes(text, strlen(text));
 }
 
-/* The pointer and the length that a string is handed to the library with: a pointer that is not NULL. */
+/* What a string is handed to the library as: a pointer that is not NULL, and a length. */
 static inline const uint8_t *ajp13_string_bytes(ajp13_string string)
 {
     return string.bytes == NULL ? (const uint8_t *)"" : string.bytes;
@@ -554,11 +555,11 @@ static inline size_t ajp13_string_length(ajp13_string string)
 /*
  * The fixed fields of a Forward Request, in the packet's order.
  *
- *   method            1 to 27, AJP13_METHOD_.. (else AJP13_OUT_OF_RANGE).
- *   protocol, req_uri                      may be neither null nor empty (else AJP13_STRING_WRONG).
- *   remote_addr, remote_host, server_name  may be either.
- *   server_port       at most 65535 (else AJP13_ERROR_FIXED_WORD).
- *   is_ssl            0 or 1 (else AJP13_OUT_OF_RANGE).
+ *   method                                 1 to 27, AJP13_METHOD_.. (else AJP13_OUT_OF_RANGE)
+ *   protocol, req_uri                      neither null nor empty (else AJP13_STRING_WRONG)
+ *   remote_addr, remote_host, server_name  may be null or empty
+ *   server_port                            at most 65535 (else AJP13_ERROR_FIXED_WORD)
+ *   is_ssl                                 0 or 1 (else AJP13_OUT_OF_RANGE)
  */
 typedef struct ajp13_forward {
     uint32_t method;
@@ -741,7 +742,7 @@ static inline uint32_t ajp13_attribute_pair(ajp13_building *building, uint8_t *b
  * reader of the other end would refuse. Where it is refused, the buffer is as it was before closing, the connection has
  * not stepped, and more pieces may be added.
  *
- * Status: AJP13_DONE; any refusal; AJP13_ERROR_CONNECTION_WORD, AJP13_ERROR_BUILDING_WORD.
+ * Status: AJP13_DONE; a refusal; AJP13_ERROR_CONNECTION_WORD, AJP13_ERROR_BUILDING_WORD.
  */
 static inline uint32_t ajp13_close(ajp13_connection *connection, const ajp13_building *building,
                                    uint8_t *buffer, size_t buffer_length, ajp13_answer *answer)

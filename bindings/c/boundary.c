@@ -1,6 +1,6 @@
 /*
- * What a call answers to numbers out of range, to words that do not count, to impossible records and to arrays of the
- * wrong length. Every status is looked at, and where a call is not done, that everything lent is as it was.
+ * What a call answers to numbers out of range, to words that do not count, to impossible building records and to arrays
+ * of the wrong length. Every status is looked at, and where a call is not done, that everything lent is as it was.
  *
  * Prints how many calls were looked at, and a line for each that is wrong. It is C and C++ alike.
  */
@@ -103,7 +103,7 @@ static void begin_send_headers(void)
 
 /* ---- Numbers out of range that are refused ---------------------------------------------------------------------- */
 
-/* A building record with a place or a number of headers that no record has: 16 from closing and from each piece. */
+/* An impossible building record, with a place or a number of headers of any size: 16 from closing and each piece. */
 static void building_records(void)
 {
     static const uint32_t positions[] = {AJP13_BUILDING_NEXT, AJP13_BUILDING_COUNT_PLACE, AJP13_BUILDING_HEADERS};
@@ -299,8 +299,8 @@ static uint32_t call(int number, uint32_t *c, size_t c_length, uint32_t *a, size
     }
 }
 
-/* A connection that is impossible: from every call, before all else. */
-static void impossible(void)
+/* A connection with a word out of range: the error of every call, before all else. */
+static void out_of_range(void)
 {
     int i;
 
@@ -314,32 +314,32 @@ static void impossible(void)
     LEFT(ajp13_close(&lent.connection, &lent.building, OUT, &lent.answer), AJP13_ERROR_CONNECTION_WORD);
 }
 
-static void impossible_connections(void)
+static void connections_out_of_range(void)
 {
     uint32_t state, position;
 
     connection(4, 0, 0, 0, 0);
-    impossible();
+    out_of_range();
     connection(9, 0, 0, 0, 0);
-    impossible();
+    out_of_range();
     connection(0xFFFFFFFF, 0, 0, 0, 0);
-    impossible();
+    out_of_range();
     for (state = AJP13_STATE_IDLE; state <= AJP13_STATE_CLOSED; state++)
         for (position = AJP13_CONNECTION_HEAD; position <= AJP13_CONNECTION_OPEN; position++) {
             connection(state, 0, 0, 0, 0);
             lent.connection.words[position] = 1;
-            impossible();
+            out_of_range();
         }
     connection(AJP13_STATE_BUSY, 5, 1, 70000, 1);
-    impossible();
+    out_of_range();
     connection(AJP13_STATE_BUSY, 5, 1, 65536, 0);
-    impossible();
+    out_of_range();
     connection(AJP13_STATE_BUSY, 5, 2, 5, 1);
-    impossible();
+    out_of_range();
     connection(AJP13_STATE_BUSY, 5, 0, 0, 2);
-    impossible();
+    out_of_range();
     connection(AJP13_STATE_BUSY, 5, 1, 5, 9);
-    impossible();
+    out_of_range();
 }
 
 /* Arrays of the wrong length, through the calls over words. */
@@ -392,7 +392,7 @@ static void lengths(void)
         LEFT(ajp13_name(4, AJP13_METHOD_GET, lent.name, names[i]), AJP13_ERROR_ANSWER_LENGTH);
 }
 
-/* Arguments that are still errors when out of range, and an impossible building record. */
+/* Arguments whose numbers out of range are errors, and a building record with a word out of range. */
 static void arguments(void)
 {
     ajp13_string a = ajp13_chars("a"), bad = ajp13_chars("a");
@@ -571,7 +571,7 @@ int main(void)
     forwards();
     codes();
     words_that_do_not_count();
-    impossible_connections();
+    connections_out_of_range();
     lengths();
     arguments();
     largest();
