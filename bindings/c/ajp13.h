@@ -231,8 +231,8 @@ enum {
  * Words out of range (AJP13_ERROR_BUILDING_WORD): kind neither AJP13_KIND_FORWARD nor AJP13_KIND_SEND_HEADERS, as in a
  * record of zeros; attributes above 1.
  *
- * Impossible (AJP13_RECORD_WRONG): next above 8192 or past the buffer, count_place under 4 or less than two before next,
- * headers above 100, or another byte at the buffer's place 4 than that packet's code.
+ * Impossible (AJP13_RECORD_WRONG): next above 8192 or past the buffer, count_place under 4 or less than two before
+ * next, headers above 100, or another byte at the buffer's place 4 than that packet's code.
  */
 typedef struct ajp13_building {
     uint32_t words[AJP13_SIZE_BUILDING];
