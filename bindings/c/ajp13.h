@@ -7,25 +7,35 @@
  *
  * What holds for every call:
  *
- * - An array is given as a pointer and a length. The length counts elements, not bytes.
- * - No pointer may be NULL, also where its length is 0 (give "" or the address of any object), and each must be
- *   aligned for its type.
- * - An array that is lent for writing (its pointer is not to const) may not overlap any other array of the same call.
- *   Arrays that are only read may overlap one another.
- * - Every number and every flag is a uint32_t. A flag is 0 or 1; every other number of a packet is at most 65535, but
- *   for the length of a body, which may be any. What does not fit is an error, and nothing is cut.
+ * - A connection, a building record, an answer and a text each have a type, an array of words with named positions:
+ *   answer.words[AJP13_ANSWER_BYTES]. Bytes, buffers and tables are given as a pointer and a length, which counts
+ *   elements. A string to write is an ajp13_string.
+ * - No pointer may be NULL, also where its length is 0; each must be aligned for its type. The one exception is the
+ *   pointer in an ajp13_string.
+ * - What is lent for writing (its pointer is not to const) may not overlap anything else that the call is given.
  * - Any bytes, any record, any table, any buffer and any numbers get an answer.
- * - A refusal or an error writes nothing at all: every lent array is as it was before the call.
- * - Nothing is kept between calls, and no pointer either. Calls may be made from several threads at once, on different
- *   records, buffers, tables and answers.
+ * - A number that is out of range is refused or is an error. No number is cut to fit.
+ * - A refusal or an error writes nothing: everything lent is as it was before the call.
+ * - No pointer is kept. Calls may be made from several threads at once, on different records, buffers, tables and
+ *   answers.
  *
- * An array that is written "whole" is written at every element. What a call does not name as written stays as it was.
+ * What is written "whole" is written at every element. What a call does not name as written stays as it was.
+ *
+ * The header is for C99 and later and for C++11 and later. Link with libajp13.a.
  */
 #ifndef AJP13_H
 #define AJP13_H
 
 #include <stddef.h>
 #include <stdint.h>
+#include <string.h>
+
+#include "ajp13_words.h"
+
+#define AJP13_VERSION "0.2.0"
+#define AJP13_VERSION_MAJOR 0
+#define AJP13_VERSION_MINOR 2
+#define AJP13_VERSION_PATCH 0
 
 #ifdef __cplusplus
 extern "C" {
@@ -36,11 +46,13 @@ extern "C" {
  * ------------------------------------------------------------------------------------------------------------------ */
 
 /*
- * Done is 0, a refusal is 1 to 16, all else is above 65535.
+ * Done is 0, a refusal is 1 to 65535, AJP13_NEEDS is 65536, an error is above that.
  *
  * A refusal says what is wrong with the packet, or with what was asked: it is an ordinary answer. An error says that
- * the call was given an array of the wrong length or a word that cannot be. Errors are looked for before anything else,
- * in the order of their numbers, and the first one is told.
+ * the call was given a record or an argument with a number out of range, or an array of the wrong length: it is a fault
+ * of the program. Errors are looked for before refusals, in the order of their numbers, and the first one is told.
+ *
+ * The comment above each call names, under "Status" or "Returns", all that it can return.
  */
 enum {
     /* Accepted, written or added. */
@@ -64,25 +76,37 @@ enum {
     AJP13_NOT_NOW = 13,               /* not allowed in this state of the connection */
     AJP13_BODY_SIZE_WRONG = 14,       /* a body packet of another size than the cycle allows now */
     AJP13_BUFFER_TOO_SHORT = 15,      /* the lent buffer, or the lent table, is too short */
-    AJP13_RECORD_WRONG = 16,          /* a header after an attribute, an attribute on a Send Headers, or a building
-                                         record that cannot be */
+    AJP13_RECORD_WRONG = 16,          /* a header after an attribute, an attribute on a Send Headers, or an
+                                         impossible building record; see ajp13_building */
 
     /* Only from reading: the packet is not whole yet. See ajp13_read_at_container. */
     AJP13_NEEDS = 0x10000,
 
-    /* Errors. */
-    AJP13_CONNECTION_LENGTH = 0x10001, /* the connection has not AJP13_CONNECTION_WORDS words */
-    AJP13_CONNECTION_WORD = 0x10002,   /* a word of it cannot be: state above 3, due or headers sent above 1, asked
-                                          above 65535 */
-    AJP13_BUILDING_LENGTH = 0x10003,   /* the building record has not AJP13_BUILDING_WORDS words */
-    AJP13_BUILDING_WORD = 0x10004,     /* a word of it cannot be: kind neither 3 nor 6, next, count's place or headers
-                                          so far above 65535, attributes began above 1 */
-    AJP13_FIXED_LENGTH = 0x10005,      /* the fixed numbers of a Forward are not AJP13_FIXED_WORDS words */
-    AJP13_FIXED_WORD = 0x10006,        /* a word of them cannot be: method or port above 65535, a flag above 1 */
-    AJP13_ANSWER_LENGTH = 0x10007,     /* an array lent for the answer has not its length: answer AJP13_ANSWER_WORDS,
-                                          text AJP13_TEXT_WORDS, name AJP13_NAME_BYTES */
-    AJP13_ARGUMENT = 0x10008           /* a number argument above 65535, a flag above 1, a list above 3 */
+    /* Errors. Those of a length come only from the calls of ajp13_words.h, and from ajp13_name. */
+    AJP13_ERROR_CONNECTION_LENGTH = 0x10001, /* the connection has not AJP13_SIZE_CONNECTION words */
+    AJP13_ERROR_CONNECTION_WORD = 0x10002,   /* a word of it is out of range; see ajp13_connection */
+    AJP13_ERROR_BUILDING_LENGTH = 0x10003,   /* the building record has not AJP13_SIZE_BUILDING words */
+    AJP13_ERROR_BUILDING_WORD = 0x10004,     /* a word of it is out of range; see ajp13_building */
+    AJP13_ERROR_FIXED_LENGTH = 0x10005,      /* the fixed numbers of a Forward are not AJP13_SIZE_FIXED words */
+    AJP13_ERROR_FIXED_WORD = 0x10006,        /* a Forward's server_port above 65535, or the null of one of its strings
+                                                above 1 */
+    AJP13_ERROR_ANSWER_LENGTH = 0x10007,     /* an array lent for the answer has not its length: answer
+                                                AJP13_SIZE_ANSWER, text AJP13_SIZE_TEXT, name AJP13_SIZE_NAME */
+    AJP13_ERROR_ARGUMENT = 0x10008           /* a place, the integer of an attribute or what a Get Body asks for above
+                                                65535; the null of a string above 1; a list above 3 */
 };
+
+/* 1 where a status is a refusal, which is a number of the protocol; else 0. */
+static inline int ajp13_is_refusal(uint32_t status)
+{
+    return status >= 1 && status <= 65535;
+}
+
+/* 1 where a status, or another number that a call returned, is an error; else 0. */
+static inline int ajp13_is_error(uint32_t status)
+{
+    return status > AJP13_NEEDS;
+}
 
 /* A status in words, for messages to people. Never NULL. */
 static inline const char *ajp13_status_text(uint32_t status)
@@ -106,40 +130,55 @@ static inline const char *ajp13_status_text(uint32_t status)
     case AJP13_BUFFER_TOO_SHORT: return "lent table or buffer too short";
     case AJP13_RECORD_WRONG: return "building record does not allow this";
     case AJP13_NEEDS: return "packet not whole yet";
-    case AJP13_CONNECTION_LENGTH: return "connection array of the wrong length";
-    case AJP13_CONNECTION_WORD: return "connection word that cannot be";
-    case AJP13_BUILDING_LENGTH: return "building array of the wrong length";
-    case AJP13_BUILDING_WORD: return "building word that cannot be";
-    case AJP13_FIXED_LENGTH: return "array of fixed numbers of the wrong length";
-    case AJP13_FIXED_WORD: return "fixed number that cannot be";
-    case AJP13_ANSWER_LENGTH: return "array lent for the answer of the wrong length";
-    case AJP13_ARGUMENT: return "argument that cannot be";
+    case AJP13_ERROR_CONNECTION_LENGTH: return "error: connection of the wrong length";
+    case AJP13_ERROR_CONNECTION_WORD: return "error: connection with a word out of range";
+    case AJP13_ERROR_BUILDING_LENGTH: return "error: building record of the wrong length";
+    case AJP13_ERROR_BUILDING_WORD: return "error: building record with a word out of range";
+    case AJP13_ERROR_FIXED_LENGTH: return "error: fixed numbers of the wrong length";
+    case AJP13_ERROR_FIXED_WORD: return "error: fixed number out of range";
+    case AJP13_ERROR_ANSWER_LENGTH: return "error: array for the answer of the wrong length";
+    case AJP13_ERROR_ARGUMENT: return "error: argument out of range";
     default: return "no such status";
     }
 }
 
 /* ---------------------------------------------------------------------------------------------------------------------
- * Arrays: their sizes, and what stands at each position
+ * Types: how many words each has, and what stands at each position
  * ------------------------------------------------------------------------------------------------------------------ */
 
-/* Sizes of arrays, in elements, and of packets. */
+/* Sizes of arrays, in elements. */
 enum {
-    AJP13_CONNECTION_WORDS = 5,
-    AJP13_BUILDING_WORDS = 5,
-    AJP13_ANSWER_WORDS = 13,
-    AJP13_TEXT_WORDS = 3,
-    AJP13_FIXED_WORDS = 8,
-    AJP13_NAME_BYTES = 17,
+    AJP13_SIZE_CONNECTION = 8,
+    AJP13_SIZE_BUILDING = 5,
+    AJP13_SIZE_ANSWER = 16,
+    AJP13_SIZE_TEXT = 3,
+    AJP13_SIZE_FIXED = 8,
+    AJP13_SIZE_NAME = 17
+};
 
+/* Limits. */
+enum {
     AJP13_MAX_PACKET = 8192, /* bytes of a whole packet: a buffer of this length is never too short */
     AJP13_MAX_PLACES = 328,  /* places of a table: a table of this length is never too short */
     AJP13_MAX_BODY = 8186,   /* bytes of a body in one body packet */
     AJP13_MAX_CHUNK = 8184   /* bytes of one body chunk */
 };
 
+/* The kinds of packets. */
+enum {
+    AJP13_KIND_CPING = 1,        /* to the container */
+    AJP13_KIND_CPONG = 2,        /* to the server */
+    AJP13_KIND_FORWARD = 3,      /* Forward Request, to the container */
+    AJP13_KIND_BODY = 4,         /* body packet, to the container */
+    AJP13_KIND_GET_BODY = 5,     /* Get Body Chunk, to the server */
+    AJP13_KIND_SEND_HEADERS = 6, /* to the server */
+    AJP13_KIND_BODY_CHUNK = 7,   /* Send Body Chunk, to the server */
+    AJP13_KIND_END = 8           /* End Response, to the server */
+};
+
 /*
- * A connection: uint32_t[AJP13_CONNECTION_WORDS]. Each end keeps its own. A send steps the sender's, an accepted packet
- * steps the receiver's, both by the same cycle:
+ * A connection. Each end keeps its own. A send steps the sender's, an accepted packet steps the receiver's, both by the
+ * same cycle:
  *
  *   state                          packet            after
  *   Idle                           CPing             Pinged
@@ -151,103 +190,117 @@ enum {
  *   Busy, headers sent             Send Body Chunk   the same
  *   Busy, headers sent, none due   End Response      Idle where the connection is to be reused, else Closed
  *
- * Nothing else is allowed (AJP13_NOT_NOW). A body packet holds at least one byte and at most the least of what was
- * asked for, AJP13_MAX_BODY and what is left; where that least is 0, the body packet is empty (else AJP13_BODY_SIZE_WRONG).
- * Left, due, asked and headers sent count only in Busy, and asked only where one is due.
+ * Nothing else is allowed (AJP13_NOT_NOW). A body packet holds at least one byte and at most ajp13_largest_body; where
+ * that is 0, the body packet is empty (else AJP13_BODY_SIZE_WRONG).
+ *
+ * Left, due, asked and headers count only in Busy, and asked only where a body packet is due. What does not count is
+ * not looked at, and a step sets to 0 what does not count after it.
+ *
+ * Words out of range (AJP13_ERROR_CONNECTION_WORD): state above 3; head, edition or open not 0; in Busy due or headers
+ * above 1, or asked above 65535 where a body packet is due.
  */
+typedef struct ajp13_connection {
+    uint32_t words[AJP13_SIZE_CONNECTION];
+} ajp13_connection;
+
 enum {
-    AJP13_STATE = 0,       /* AJP13_IDLE .. AJP13_CLOSED */
-    AJP13_LEFT = 1,        /* bytes of the request's body still to come */
-    AJP13_DUE = 2,         /* 1 where a body packet is due */
-    AJP13_ASKED = 3,       /* how many bytes were asked for, where one is due */
-    AJP13_HEADERS_SENT = 4 /* 1 once Send Headers went */
+    AJP13_CONNECTION_STATE = 0,   /* AJP13_STATE_IDLE .. AJP13_STATE_CLOSED */
+    AJP13_CONNECTION_LEFT = 1,    /* bytes of the request's body still to come, any number */
+    AJP13_CONNECTION_DUE = 2,     /* 1 where a body packet is due */
+    AJP13_CONNECTION_ASKED = 3,   /* how many bytes were asked for, where one is due */
+    AJP13_CONNECTION_HEADERS = 4, /* 1 once Send Headers went */
+
+    /* Kept for a later version: written as 0, and must be 0. */
+    AJP13_CONNECTION_HEAD = 5,
+    AJP13_CONNECTION_EDITION = 6,
+    AJP13_CONNECTION_OPEN = 7
 };
 
 /* The states of a connection. */
 enum {
-    AJP13_IDLE = 0,
-    AJP13_PINGED = 1,
-    AJP13_BUSY = 2,
-    AJP13_CLOSED = 3
+    AJP13_STATE_IDLE = 0,
+    AJP13_STATE_PINGED = 1,
+    AJP13_STATE_BUSY = 2,
+    AJP13_STATE_CLOSED = 3
 };
 
 /*
- * A building record: uint32_t[AJP13_BUILDING_WORDS]. It says how far a Forward or a Send Headers is built. The calls
- * that begin a packet make it, the pieces step it. All zeros is no building record.
- */
-enum {
-    AJP13_BUILDING_KIND = 0,    /* AJP13_FORWARD or AJP13_SEND_HEADERS */
-    AJP13_NEXT = 1,             /* the place of the next piece in the buffer */
-    AJP13_COUNT_PLACE = 2,      /* the place of the number of headers */
-    AJP13_HEADERS_SO_FAR = 3,   /* how many headers there are so far */
-    AJP13_ATTRIBUTES_BEGAN = 4  /* 1 once there was an attribute: no header may follow */
-};
-
-/*
- * An answer: uint32_t[AJP13_ANSWER_WORDS]. A call that is given one writes it whole where it answers AJP13_DONE or
- * AJP13_NEEDS; words that the answer does not use are 0 then.
+ * A building record. It says how far a Forward or a Send Headers is built. The calls that begin a packet make it, the
+ * pieces step it.
  *
- * A call that sends writes the kind, the packet's length and zeros.
+ * Words out of range (AJP13_ERROR_BUILDING_WORD): kind neither AJP13_KIND_FORWARD nor AJP13_KIND_SEND_HEADERS, as in a
+ * record of zeros; attributes above 1.
+ *
+ * Impossible (AJP13_RECORD_WRONG): next above 8192 or past the buffer, count_place under 4 or less than two before
+ * next, headers above 100, or another byte at the buffer's place 4 than that packet's code.
  */
+typedef struct ajp13_building {
+    uint32_t words[AJP13_SIZE_BUILDING];
+} ajp13_building;
+
 enum {
-    AJP13_KIND = 0,  /* AJP13_CPING .. AJP13_END; 0 with AJP13_NEEDS */
-    AJP13_BYTES = 1, /* read: the bytes taken. AJP13_NEEDS: the bytes needed in all. Sent: the packet's length */
+    AJP13_BUILDING_KIND = 0,        /* AJP13_KIND_FORWARD or AJP13_KIND_SEND_HEADERS */
+    AJP13_BUILDING_NEXT = 1,        /* the place of the next piece in the buffer */
+    AJP13_BUILDING_COUNT_PLACE = 2, /* the place of the number of headers */
+    AJP13_BUILDING_HEADERS = 3,     /* how many headers there are so far */
+    AJP13_BUILDING_ATTRIBUTES = 4   /* 1 once there was an attribute: no header may follow */
+};
+
+/*
+ * An answer. A call that is given one writes it whole where its status is AJP13_DONE or AJP13_NEEDS; words that the
+ * answer does not use are 0 then, those behind AJP13_ANSWER_DECLARED always. A call that sends writes the kind, the
+ * packet's length and zeros.
+ */
+typedef struct ajp13_answer {
+    uint32_t words[AJP13_SIZE_ANSWER];
+} ajp13_answer;
+
+enum {
+    AJP13_ANSWER_KIND = 0,  /* AJP13_KIND_CPING .. AJP13_KIND_END; 0 with AJP13_NEEDS */
+    AJP13_ANSWER_BYTES = 1, /* read: the bytes taken. AJP13_NEEDS: the bytes needed in all. Sent: the packet's length */
 
     /* Forward Request. A place is where the string stands in the packet; see ajp13_text_at. */
-    AJP13_METHOD = 2,
-    AJP13_PROTOCOL = 3,     /* place */
-    AJP13_REQ_URI = 4,      /* place */
-    AJP13_REMOTE_ADDR = 5,  /* place */
-    AJP13_REMOTE_HOST = 6,  /* place */
-    AJP13_SERVER_NAME = 7,  /* place */
-    AJP13_SERVER_PORT = 8,
-    AJP13_IS_SSL = 9,       /* 0 or 1 */
-    AJP13_HEADERS = 10,     /* how many headers; also of a Send Headers */
-    AJP13_ATTRIBUTES = 11,  /* how many attributes */
-    AJP13_DECLARED = 12,    /* the declared length of the body, 0 where no content-length is there */
+    AJP13_ANSWER_METHOD = 2,      /* AJP13_METHOD_.. */
+    AJP13_ANSWER_PROTOCOL = 3,    /* place */
+    AJP13_ANSWER_REQ_URI = 4,     /* place */
+    AJP13_ANSWER_REMOTE_ADDR = 5, /* place */
+    AJP13_ANSWER_REMOTE_HOST = 6, /* place */
+    AJP13_ANSWER_SERVER_NAME = 7, /* place */
+    AJP13_ANSWER_SERVER_PORT = 8,
+    AJP13_ANSWER_IS_SSL = 9,      /* 0 or 1 */
+    AJP13_ANSWER_HEADERS = 10,    /* how many headers; also of a Send Headers */
+    AJP13_ANSWER_ATTRIBUTES = 11, /* how many attributes */
+    AJP13_ANSWER_DECLARED = 12,   /* the declared length of the body, 0 where no content-length is there */
 
-    /* Send Headers; how many headers is AJP13_HEADERS. */
-    AJP13_STATUS = 2,
-    AJP13_MESSAGE = 3, /* place */
+    /* Send Headers; how many headers is AJP13_ANSWER_HEADERS. */
+    AJP13_ANSWER_STATUS = 2,
+    AJP13_ANSWER_MESSAGE = 3, /* place */
 
     /* Body packet and Send Body Chunk: the bytes delivered are packet + start. */
-    AJP13_START = 2,
-    AJP13_LEN = 3,
+    AJP13_ANSWER_START = 2,
+    AJP13_ANSWER_LENGTH = 3,
 
     /* Get Body Chunk. */
-    AJP13_ASKED_FOR = 2,
+    AJP13_ANSWER_ASKED = 2,
 
     /* End Response. */
-    AJP13_REUSE = 2 /* 0 or 1 */
+    AJP13_ANSWER_REUSE = 2 /* 0 or 1 */
 };
 
-/* The kinds of packets. */
+/* A string of a packet, as ajp13_text_at shows it: where its bytes are in the packet. */
+typedef struct ajp13_text {
+    uint32_t words[AJP13_SIZE_TEXT];
+} ajp13_text;
+
 enum {
-    AJP13_CPING = 1,        /* to the container */
-    AJP13_CPONG = 2,        /* to the server */
-    AJP13_FORWARD = 3,      /* Forward Request, to the container */
-    AJP13_BODY = 4,         /* body packet, to the container */
-    AJP13_GET_BODY = 5,     /* Get Body Chunk, to the server */
-    AJP13_SEND_HEADERS = 6, /* to the server */
-    AJP13_BODY_CHUNK = 7,   /* Send Body Chunk, to the server */
-    AJP13_END = 8           /* End Response, to the server */
+    AJP13_TEXT_START = 0,  /* the place of its first byte */
+    AJP13_TEXT_LENGTH = 1, /* how many bytes it has; 0 where it is null */
+    AJP13_TEXT_NULL = 2    /* 1: the string is null. A null string is not the same as an empty one */
 };
 
 /*
- * A text: uint32_t[AJP13_TEXT_WORDS]. The string's bytes are the AJP13_TEXT_LENGTH bytes from
- * packet + AJP13_TEXT_START on; start and length never lead past the packet's end. Start is the place behind the
- * string's two length bytes, also where it is null, and the packet's end where those two bytes are not there. A null
- * string is told from an empty one by AJP13_TEXT_NULL.
- */
-enum {
-    AJP13_TEXT_START = 0,
-    AJP13_TEXT_LENGTH = 1,
-    AJP13_TEXT_NULL = 2 /* 1: the string is null; its length is 0 then */
-};
-
-/*
- * The fixed numbers of a Forward: uint32_t[AJP13_FIXED_WORDS]. Where AJP13_FIXED_NO_.. is 1, that string is null, and
- * the text given for it does not matter.
+ * The fixed numbers of a Forward, as ajp13_words_begin_forward takes them; ajp13_begin_forward fills them in. Where
+ * AJP13_FIXED_NO_.. is 1, that string is null.
  */
 enum {
     AJP13_FIXED_METHOD = 0,
@@ -260,14 +313,33 @@ enum {
     AJP13_FIXED_NO_SERVER_NAME = 7
 };
 
+/* ---------------------------------------------------------------------------------------------------------------------
+ * The connection
+ * ------------------------------------------------------------------------------------------------------------------ */
+
 /*
  * Makes a connection fresh: Idle, 0 in all else. A fresh connection is the same at either end.
  *
- *   connection  its five words are written; what they held does not matter.
+ *   connection  written whole; what it held does not matter.
  *
- * Answers AJP13_DONE, or AJP13_CONNECTION_LENGTH.
+ * Status: AJP13_DONE, always.
  */
-uint32_t ajp13_fresh(uint32_t *connection, size_t connection_length);
+static inline uint32_t ajp13_fresh(ajp13_connection *connection)
+{
+    return ajp13_words_fresh(connection->words, AJP13_SIZE_CONNECTION);
+}
+
+/*
+ * The most bytes that the next body packet may hold: the least of what was asked for, AJP13_MAX_BODY and what is left.
+ * Where a body packet is due and this is 0, it must be empty; else it must hold at least one byte. Where no body packet
+ * is due, this is 0 too.
+ *
+ * Returns that number, at most AJP13_MAX_BODY, or AJP13_ERROR_CONNECTION_WORD.
+ */
+static inline uint32_t ajp13_largest_body(const ajp13_connection *connection)
+{
+    return ajp13_words_largest_body(connection->words, AJP13_SIZE_CONNECTION);
+}
 
 /* ---------------------------------------------------------------------------------------------------------------------
  * Reading
@@ -284,92 +356,185 @@ uint32_t ajp13_fresh(uint32_t *connection, size_t connection_length);
  *               and the place of its value (of the second string for code 0A). The rest of it is unchanged.
  *   answer      what the packet says.
  *
- * Answers
- *   AJP13_DONE   accepted. The connection has stepped, the table and the answer are written. The packet is the first
- *                answer[AJP13_BYTES] of the bytes; the next packet starts behind it.
- *   AJP13_NEEDS  the packet is not whole yet: call again when answer[AJP13_BYTES] bytes are there in all. Only the
- *                answer is written.
- *   a refusal    nothing is written. The bytes are no packet that this connection may get now, and more of them would
- *                not change that.
- *   an error     AJP13_CONNECTION_LENGTH, AJP13_CONNECTION_WORD or AJP13_ANSWER_LENGTH. Nothing is written.
- *
- * With AJP13_BUFFER_TOO_SHORT (15) the packet is good and the table too short for it: call again with a longer one.
+ * Status
+ *   AJP13_DONE                   accepted. The connection has stepped, the table and the answer are written. The packet
+ *                                is the first AJP13_ANSWER_BYTES of the bytes; the next packet starts behind it.
+ *   AJP13_NEEDS                  the packet is not whole yet: call again when AJP13_ANSWER_BYTES bytes are there in
+ *                                all. Only the answer is written.
+ *   a refusal, 1 to 15           nothing is written. The bytes are no packet that this connection may get now, and more
+ *                                of them would not change that. With AJP13_BUFFER_TOO_SHORT the packet is good and the
+ *                                table too short for it: call again with a longer one.
+ *   AJP13_ERROR_CONNECTION_WORD  nothing is written.
  */
-uint32_t ajp13_read_at_container(uint32_t *connection, size_t connection_length,
-                                 const uint8_t *bytes, size_t bytes_length,
-                                 uint16_t *table, size_t table_length,
-                                 uint32_t *answer, size_t answer_length);
+static inline uint32_t ajp13_read_at_container(ajp13_connection *connection,
+                                               const uint8_t *bytes, size_t bytes_length,
+                                               uint16_t *table, size_t table_length,
+                                               ajp13_answer *answer)
+{
+    return ajp13_words_read_at_container(connection->words, AJP13_SIZE_CONNECTION, bytes, bytes_length,
+                                         table, table_length, answer->words, AJP13_SIZE_ANSWER);
+}
 
 /*
  * Reads the packet at the start of bytes, at the server's end: CPong, Get Body Chunk, Send Headers, Send Body Chunk or
- * End Response. Arguments and answers are those of ajp13_read_at_container; connection is the server's.
+ * End Response. Arguments and status are those of ajp13_read_at_container; connection is the server's.
  */
-uint32_t ajp13_read_at_server(uint32_t *connection, size_t connection_length,
-                              const uint8_t *bytes, size_t bytes_length,
-                              uint16_t *table, size_t table_length,
-                              uint32_t *answer, size_t answer_length);
+static inline uint32_t ajp13_read_at_server(ajp13_connection *connection,
+                                            const uint8_t *bytes, size_t bytes_length,
+                                            uint16_t *table, size_t table_length,
+                                            ajp13_answer *answer)
+{
+    return ajp13_words_read_at_server(connection->words, AJP13_SIZE_CONNECTION, bytes, bytes_length,
+                                      table, table_length, answer->words, AJP13_SIZE_ANSWER);
+}
 
 /* ---------------------------------------------------------------------------------------------------------------------
  * Sending: the packets that one call writes
  *
  *   connection  the sender's connection; stepped where the packet is written.
  *   buffer      the packet is written from its first byte on; bytes past the packet are unchanged.
- *   answer      the packet's kind and, in answer[AJP13_BYTES], its length.
+ *   answer      the packet's kind and, at AJP13_ANSWER_BYTES, its length.
  *
- * Each answers AJP13_DONE, a refusal or an error (AJP13_CONNECTION_LENGTH, AJP13_CONNECTION_WORD, AJP13_ANSWER_LENGTH,
- * AJP13_ARGUMENT). Refusals are looked for in this order: AJP13_NOT_NOW, AJP13_BODY_SIZE_WRONG, AJP13_TOO_LONG,
- * AJP13_BUFFER_TOO_SHORT. With a refusal or an error nothing is written and the connection has not stepped.
+ * The status of each is AJP13_DONE, one of the refusals named above it, which are looked for in the order in which they
+ * are named, or one of the errors named there. With a refusal or an error nothing is written and the connection has not
+ * stepped.
  * ------------------------------------------------------------------------------------------------------------------ */
 
-/* CPing, from the server: 5 bytes. */
-uint32_t ajp13_cping(uint32_t *connection, size_t connection_length,
-                     uint8_t *buffer, size_t buffer_length,
-                     uint32_t *answer, size_t answer_length);
+/*
+ * CPing, from the server: 5 bytes.
+ *
+ * Status: AJP13_DONE; AJP13_NOT_NOW, AJP13_BUFFER_TOO_SHORT; AJP13_ERROR_CONNECTION_WORD.
+ */
+static inline uint32_t ajp13_cping(ajp13_connection *connection, uint8_t *buffer, size_t buffer_length,
+                                   ajp13_answer *answer)
+{
+    return ajp13_words_cping(connection->words, AJP13_SIZE_CONNECTION, buffer, buffer_length,
+                             answer->words, AJP13_SIZE_ANSWER);
+}
 
-/* CPong, from the container: 5 bytes. */
-uint32_t ajp13_cpong(uint32_t *connection, size_t connection_length,
-                     uint8_t *buffer, size_t buffer_length,
-                     uint32_t *answer, size_t answer_length);
+/*
+ * CPong, from the container: 5 bytes.
+ *
+ * Status: AJP13_DONE; AJP13_NOT_NOW, AJP13_BUFFER_TOO_SHORT; AJP13_ERROR_CONNECTION_WORD.
+ */
+static inline uint32_t ajp13_cpong(ajp13_connection *connection, uint8_t *buffer, size_t buffer_length,
+                                   ajp13_answer *answer)
+{
+    return ajp13_words_cpong(connection->words, AJP13_SIZE_CONNECTION, buffer, buffer_length,
+                             answer->words, AJP13_SIZE_ANSWER);
+}
 
 /*
  * A body packet, from the server: the bytes and 6 more; 4 bytes where there are none.
  *
- *   bytes  the part of the request's body that goes now. AJP13_BODY_SIZE_WRONG (14) where the cycle allows another size.
+ *   bytes  the part of the request's body that goes now, 1 to ajp13_largest_body of them, or none where that is 0 (else
+ *          AJP13_BODY_SIZE_WRONG).
+ *
+ * Status: AJP13_DONE; AJP13_NOT_NOW, AJP13_BODY_SIZE_WRONG, AJP13_BUFFER_TOO_SHORT; AJP13_ERROR_CONNECTION_WORD.
  */
-uint32_t ajp13_body(uint32_t *connection, size_t connection_length,
-                    uint8_t *buffer, size_t buffer_length,
-                    const uint8_t *bytes, size_t bytes_length,
-                    uint32_t *answer, size_t answer_length);
+static inline uint32_t ajp13_body(ajp13_connection *connection, uint8_t *buffer, size_t buffer_length,
+                                  const uint8_t *bytes, size_t bytes_length, ajp13_answer *answer)
+{
+    return ajp13_words_body(connection->words, AJP13_SIZE_CONNECTION, buffer, buffer_length, bytes, bytes_length,
+                            answer->words, AJP13_SIZE_ANSWER);
+}
 
 /*
  * Send Body Chunk, from the container: the bytes and 8 more.
  *
  *   bytes  the part of the response's body that goes now, at most AJP13_MAX_CHUNK (else AJP13_TOO_LONG).
+ *
+ * Status: AJP13_DONE; AJP13_NOT_NOW, AJP13_TOO_LONG, AJP13_BUFFER_TOO_SHORT; AJP13_ERROR_CONNECTION_WORD.
  */
-uint32_t ajp13_body_chunk(uint32_t *connection, size_t connection_length,
-                          uint8_t *buffer, size_t buffer_length,
-                          const uint8_t *bytes, size_t bytes_length,
-                          uint32_t *answer, size_t answer_length);
+static inline uint32_t ajp13_body_chunk(ajp13_connection *connection, uint8_t *buffer, size_t buffer_length,
+                                        const uint8_t *bytes, size_t bytes_length, ajp13_answer *answer)
+{
+    return ajp13_words_body_chunk(connection->words, AJP13_SIZE_CONNECTION, buffer, buffer_length, bytes, bytes_length,
+                                  answer->words, AJP13_SIZE_ANSWER);
+}
 
 /*
  * Get Body Chunk, from the container: 7 bytes.
  *
- *   asked  how many bytes of the request's body the container asks for, at most 65535 (else AJP13_ARGUMENT).
+ *   asked  how many bytes of the request's body the container asks for, at most 65535 (else AJP13_ERROR_ARGUMENT).
+ *
+ * Status: AJP13_DONE; AJP13_NOT_NOW, AJP13_BUFFER_TOO_SHORT; AJP13_ERROR_CONNECTION_WORD, AJP13_ERROR_ARGUMENT.
  */
-uint32_t ajp13_get_body(uint32_t *connection, size_t connection_length,
-                        uint8_t *buffer, size_t buffer_length,
-                        uint32_t asked,
-                        uint32_t *answer, size_t answer_length);
+static inline uint32_t ajp13_get_body(ajp13_connection *connection, uint8_t *buffer, size_t buffer_length,
+                                      uint32_t asked, ajp13_answer *answer)
+{
+    return ajp13_words_get_body(connection->words, AJP13_SIZE_CONNECTION, buffer, buffer_length, asked,
+                                answer->words, AJP13_SIZE_ANSWER);
+}
 
 /*
  * End Response, from the container: 6 bytes.
  *
- *   reuse  1 where the connection is used again (Idle after this), 0 where it is not (Closed).
+ *   reuse  1 where the connection is used again (Idle after this), 0 where it is not (Closed); else AJP13_OUT_OF_RANGE.
+ *
+ * Status: AJP13_DONE; AJP13_NOT_NOW, AJP13_OUT_OF_RANGE, AJP13_BUFFER_TOO_SHORT; AJP13_ERROR_CONNECTION_WORD.
  */
-uint32_t ajp13_end(uint32_t *connection, size_t connection_length,
-                   uint8_t *buffer, size_t buffer_length,
-                   uint32_t reuse,
-                   uint32_t *answer, size_t answer_length);
+static inline uint32_t ajp13_end(ajp13_connection *connection, uint8_t *buffer, size_t buffer_length,
+                                 uint32_t reuse, ajp13_answer *answer)
+{
+    return ajp13_words_end(connection->words, AJP13_SIZE_CONNECTION, buffer, buffer_length, reuse,
+                           answer->words, AJP13_SIZE_ANSWER);
+}
+
+/* ---------------------------------------------------------------------------------------------------------------------
+ * Strings to write
+ * ------------------------------------------------------------------------------------------------------------------ */
+
+/*
+ * A string as it is given to the calls that build: its bytes, which may not hold a zero (AJP13_STRING_WRONG), and
+ * whether it is null. A null string is not the same as an empty one.
+ *
+ *   bytes   may be NULL: the string has no bytes then, whatever length says.
+ *   length  how many bytes there are; no zero behind them is needed, and none is counted.
+ *   null    1 where the string is null, and its bytes do not matter; else 0 (above 1 is an error).
+ */
+typedef struct ajp13_string {
+    const uint8_t *bytes;
+    size_t length;
+    uint32_t null;
+} ajp13_string;
+
+/* The string of these bytes. */
+static inline ajp13_string ajp13_bytes(const void *bytes, size_t length)
+{
+    ajp13_string string;
+
+    string.bytes = (const uint8_t *)bytes;
+    string.length = length;
+    string.null = 0;
+    return string;
+}
+
+/* The null string. */
+static inline ajp13_string ajp13_null(void)
+{
+    ajp13_string string = ajp13_bytes("", 0);
+
+    string.null = 1;
+    return string;
+}
+
+/* The string of a C string, without its zero. The null string where text is NULL. */
+static inline ajp13_string ajp13_chars(const char *text)
+{
+    return text == NULL ? ajp13_null() : ajp13_bytes(text, strlen(text));
+}
+
+/* What a string is handed to the library as: a pointer that is not NULL, and a length. */
+static inline const uint8_t *ajp13_string_bytes(ajp13_string string)
+{
+    return string.bytes == NULL ? (const uint8_t *)"" : string.bytes;
+}
+
+static inline size_t ajp13_string_length(ajp13_string string)
+{
+    return string.bytes == NULL ? 0 : string.length;
+}
 
 /* ---------------------------------------------------------------------------------------------------------------------
  * Building: Forward Request and Send Headers in pieces
@@ -381,135 +546,188 @@ uint32_t ajp13_end(uint32_t *connection, size_t connection_length,
  *   buffer    the same one for all pieces of a packet, unchanged between them. The packet stands from its first byte.
  *             A buffer of AJP13_MAX_PACKET bytes is never too short.
  *
- * Every call answers AJP13_DONE, a refusal or an error. With a refusal or an error nothing is written: the packet is as
- * far as it was before, and another piece may be added, or it may be closed. A piece looks for refusals in this order:
- * AJP13_RECORD_WRONG, those of its own fields from left to right, AJP13_TOO_MANY for a 101st header, AJP13_TOO_LONG,
- * AJP13_BUFFER_TOO_SHORT.
- *
- * A string is given as its bytes and a flag that is 1 where the string is null; the bytes do not matter then, but the
- * pointer may still not be NULL.
+ * The status of each is AJP13_DONE, one of the refusals named above it, or one of the errors named there. With a
+ * refusal or an error nothing is written: the packet is as far as it was before, and another piece may be added, or it
+ * may be closed. A piece looks for refusals in this order: AJP13_RECORD_WRONG, those of its own fields from left to
+ * right, AJP13_TOO_MANY for a 101st header, AJP13_TOO_LONG, AJP13_BUFFER_TOO_SHORT.
  * ------------------------------------------------------------------------------------------------------------------ */
+
+/*
+ * The fixed fields of a Forward Request, in the packet's order.
+ *
+ *   method                                 1 to 27, AJP13_METHOD_.. (else AJP13_OUT_OF_RANGE)
+ *   protocol, req_uri                      neither null nor empty (else AJP13_STRING_WRONG)
+ *   remote_addr, remote_host, server_name  may be null or empty
+ *   server_port                            at most 65535 (else AJP13_ERROR_FIXED_WORD)
+ *   is_ssl                                 0 or 1 (else AJP13_OUT_OF_RANGE)
+ */
+typedef struct ajp13_forward {
+    uint32_t method;
+    ajp13_string protocol;
+    ajp13_string req_uri;
+    ajp13_string remote_addr;
+    ajp13_string remote_host;
+    ajp13_string server_name;
+    uint32_t server_port;
+    uint32_t is_ssl;
+} ajp13_forward;
 
 /*
  * Begins a Forward Request: writes its fixed fields, with 0 for its length and for its number of headers.
  *
- *   building     its five words are written; what they held does not matter, only that there are five.
- *   fixed        the numbers and which strings are null: AJP13_FIXED_METHOD .. AJP13_FIXED_NO_SERVER_NAME. A method
- *                that is not 1 to 27 is AJP13_OUT_OF_RANGE.
- *   protocol, req_uri                      may be neither null nor empty (else AJP13_STRING_WRONG).
- *   remote_addr, remote_host, server_name  may be either.
+ *   building  written whole; what it held does not matter.
+ *   forward   the fixed fields.
  *
- * No string may hold a zero byte (AJP13_STRING_WRONG).
- *
- * Errors: AJP13_BUILDING_LENGTH, AJP13_FIXED_LENGTH, AJP13_FIXED_WORD.
+ * Status: AJP13_DONE; AJP13_OUT_OF_RANGE, AJP13_STRING_WRONG, AJP13_TOO_LONG, AJP13_BUFFER_TOO_SHORT;
+ * AJP13_ERROR_FIXED_WORD.
  */
-uint32_t ajp13_begin_forward(uint32_t *building, size_t building_length,
-                             uint8_t *buffer, size_t buffer_length,
-                             const uint32_t *fixed, size_t fixed_length,
-                             const uint8_t *protocol, size_t protocol_length,
-                             const uint8_t *req_uri, size_t req_uri_length,
-                             const uint8_t *remote_addr, size_t remote_addr_length,
-                             const uint8_t *remote_host, size_t remote_host_length,
-                             const uint8_t *server_name, size_t server_name_length);
+static inline uint32_t ajp13_begin_forward(ajp13_building *building, uint8_t *buffer, size_t buffer_length,
+                                           const ajp13_forward *forward)
+{
+    uint32_t fixed[AJP13_SIZE_FIXED];
+
+    fixed[AJP13_FIXED_METHOD] = forward->method;
+    fixed[AJP13_FIXED_PORT] = forward->server_port;
+    fixed[AJP13_FIXED_IS_SSL] = forward->is_ssl;
+    fixed[AJP13_FIXED_NO_PROTOCOL] = forward->protocol.null;
+    fixed[AJP13_FIXED_NO_REQ_URI] = forward->req_uri.null;
+    fixed[AJP13_FIXED_NO_REMOTE_ADDR] = forward->remote_addr.null;
+    fixed[AJP13_FIXED_NO_REMOTE_HOST] = forward->remote_host.null;
+    fixed[AJP13_FIXED_NO_SERVER_NAME] = forward->server_name.null;
+    return ajp13_words_begin_forward(
+        building->words, AJP13_SIZE_BUILDING, buffer, buffer_length, fixed, AJP13_SIZE_FIXED,
+        ajp13_string_bytes(forward->protocol), ajp13_string_length(forward->protocol),
+        ajp13_string_bytes(forward->req_uri), ajp13_string_length(forward->req_uri),
+        ajp13_string_bytes(forward->remote_addr), ajp13_string_length(forward->remote_addr),
+        ajp13_string_bytes(forward->remote_host), ajp13_string_length(forward->remote_host),
+        ajp13_string_bytes(forward->server_name), ajp13_string_length(forward->server_name));
+}
 
 /*
  * Begins a Send Headers: writes its fixed fields, with 0 for its length and for its number of headers.
  *
- *   building       its five words are written; what they held does not matter, only that there are five.
- *   status         the response's status, 100 to 599 (else AJP13_OUT_OF_RANGE; above 65535 AJP13_ARGUMENT).
- *   message, null  the status's message, which may be null or empty.
+ *   building  written whole; what it held does not matter.
+ *   status    the response's status, 100 to 599 (else AJP13_OUT_OF_RANGE).
+ *   message   the status's message, which may be null or empty.
  *
- * Errors: AJP13_BUILDING_LENGTH, AJP13_ARGUMENT.
+ * Status: AJP13_DONE; AJP13_OUT_OF_RANGE, AJP13_STRING_WRONG, AJP13_TOO_LONG, AJP13_BUFFER_TOO_SHORT;
+ * AJP13_ERROR_ARGUMENT (message.null above 1).
  */
-uint32_t ajp13_begin_send_headers(uint32_t *building, size_t building_length,
-                                  uint8_t *buffer, size_t buffer_length,
-                                  uint32_t status,
-                                  const uint8_t *message, size_t message_length, uint32_t null);
+static inline uint32_t ajp13_begin_send_headers(ajp13_building *building, uint8_t *buffer, size_t buffer_length,
+                                                uint32_t status, ajp13_string message)
+{
+    return ajp13_words_begin_send_headers(building->words, AJP13_SIZE_BUILDING, buffer, buffer_length, status,
+                                          ajp13_string_bytes(message), ajp13_string_length(message), message.null);
+}
 
 /*
  * Adds a header with a code for its name.
  *
- *   code         A001 to A00E for a Forward, A001 to A00B for a Send Headers (else AJP13_NAME_WRONG); the lists are at
- *                the end of this file.
- *   value, null  the header's value, which may be null or empty. A Forward's content-length must be 1 to 10 decimal
- *                digits, at most 4294967295 (else AJP13_CONTENT_LENGTH_WRONG). That there are not two of them is looked for
- *                when the packet is closed.
+ *   code   A001 to A00E for a Forward, A001 to A00B for a Send Headers (else AJP13_NAME_WRONG); the lists are at the
+ *          end of this file.
+ *   value  the header's value, which may be null or empty. A Forward's content-length must be 1 to 10 decimal digits,
+ *          at most 4294967295 (else AJP13_CONTENT_LENGTH_WRONG). That there are not two of them is looked for when the
+ *          packet is closed.
  *
- * Errors: AJP13_BUILDING_LENGTH, AJP13_BUILDING_WORD, AJP13_ARGUMENT.
+ * Status: AJP13_DONE; AJP13_RECORD_WRONG, AJP13_NAME_WRONG, AJP13_STRING_WRONG, AJP13_CONTENT_LENGTH_WRONG,
+ * AJP13_TOO_MANY, AJP13_TOO_LONG, AJP13_BUFFER_TOO_SHORT; AJP13_ERROR_BUILDING_WORD, AJP13_ERROR_ARGUMENT (value.null
+ * above 1).
  */
-uint32_t ajp13_header_coded(uint32_t *building, size_t building_length,
-                            uint8_t *buffer, size_t buffer_length,
-                            uint32_t code,
-                            const uint8_t *value, size_t value_length, uint32_t null);
+static inline uint32_t ajp13_header_coded(ajp13_building *building, uint8_t *buffer, size_t buffer_length,
+                                          uint32_t code, ajp13_string value)
+{
+    return ajp13_words_header_coded(building->words, AJP13_SIZE_BUILDING, buffer, buffer_length, code,
+                                    ajp13_string_bytes(value), ajp13_string_length(value), value.null);
+}
 
 /*
  * Adds a header with a name that is spelled out.
  *
- *   name, noname    a token that is not listed for this packet, case ignored (AJP13_NAME_WRONG), neither null nor empty
- *                   (AJP13_STRING_WRONG). In a Forward not transfer-encoding (AJP13_CONTENT_LENGTH_WRONG).
- *   value, novalue  the header's value, which may be null or empty.
+ *   name   neither null nor empty (AJP13_STRING_WRONG), a token that is not listed for this packet, case ignored
+ *          (AJP13_NAME_WRONG). In a Forward not transfer-encoding (AJP13_CONTENT_LENGTH_WRONG).
+ *   value  the header's value, which may be null or empty.
  *
- * Errors: AJP13_BUILDING_LENGTH, AJP13_BUILDING_WORD, AJP13_ARGUMENT.
+ * Status: AJP13_DONE; AJP13_RECORD_WRONG, AJP13_STRING_WRONG, AJP13_NAME_WRONG, AJP13_CONTENT_LENGTH_WRONG,
+ * AJP13_TOO_MANY, AJP13_TOO_LONG, AJP13_BUFFER_TOO_SHORT; AJP13_ERROR_BUILDING_WORD, AJP13_ERROR_ARGUMENT (name.null or
+ * value.null above 1).
  */
-uint32_t ajp13_header_spelled(uint32_t *building, size_t building_length,
-                              uint8_t *buffer, size_t buffer_length,
-                              const uint8_t *name, size_t name_length, uint32_t noname,
-                              const uint8_t *value, size_t value_length, uint32_t novalue);
+static inline uint32_t ajp13_header_spelled(ajp13_building *building, uint8_t *buffer, size_t buffer_length,
+                                            ajp13_string name, ajp13_string value)
+{
+    return ajp13_words_header_spelled(building->words, AJP13_SIZE_BUILDING, buffer, buffer_length,
+                                      ajp13_string_bytes(name), ajp13_string_length(name), name.null,
+                                      ajp13_string_bytes(value), ajp13_string_length(value), value.null);
+}
 
 /*
  * Adds a header by its name: with its code where the name is listed for this packet (case ignored), else spelled out.
  * This is the call for a program that has a header's name as a text.
  *
- *   name         the header's name.
- *   value, null  the header's value, which may be null or empty.
+ *   name   the header's name, neither null nor empty (AJP13_STRING_WRONG).
+ *   value  the header's value, as for ajp13_header_coded.
  *
- * Errors: AJP13_BUILDING_LENGTH, AJP13_BUILDING_WORD, AJP13_ARGUMENT.
+ * Status: that of ajp13_header_coded or of ajp13_header_spelled.
  */
-uint32_t ajp13_header_named(uint32_t *building, size_t building_length,
-                            uint8_t *buffer, size_t buffer_length,
-                            const uint8_t *name, size_t name_length,
-                            const uint8_t *value, size_t value_length, uint32_t null);
+static inline uint32_t ajp13_header_named(ajp13_building *building, uint8_t *buffer, size_t buffer_length,
+                                          ajp13_string name, ajp13_string value)
+{
+    /* The exported call takes no null name; the one for spelled names refuses it. */
+    if (name.null != 0)
+        return ajp13_header_spelled(building, buffer, buffer_length, name, value);
+    return ajp13_words_header_named(building->words, AJP13_SIZE_BUILDING, buffer, buffer_length,
+                                    ajp13_string_bytes(name), ajp13_string_length(name),
+                                    ajp13_string_bytes(value), ajp13_string_length(value), value.null);
+}
 
 /*
  * Adds an attribute whose value is a string. No header may follow.
  *
- *   code         one of AJP13_ATTRIBUTE_.. other than SSL_KEY_SIZE and REQ_ATTRIBUTE (else AJP13_ATTRIBUTE_WRONG). That
- *                none comes twice is looked for when the packet is closed.
- *   value, null  the attribute's value, which may be null or empty.
+ *   code   one of AJP13_ATTRIBUTE_.. other than SSL_KEY_SIZE and REQ_ATTRIBUTE (else AJP13_ATTRIBUTE_WRONG). That none
+ *          comes twice, and that there are at most 64 attributes, is looked for when the packet is closed.
+ *   value  the attribute's value, which may be null or empty.
  *
- * Errors: AJP13_BUILDING_LENGTH, AJP13_BUILDING_WORD, AJP13_ARGUMENT.
+ * Status: AJP13_DONE; AJP13_RECORD_WRONG, AJP13_ATTRIBUTE_WRONG, AJP13_STRING_WRONG, AJP13_TOO_LONG,
+ * AJP13_BUFFER_TOO_SHORT; AJP13_ERROR_BUILDING_WORD, AJP13_ERROR_ARGUMENT (value.null above 1).
  */
-uint32_t ajp13_attribute_text(uint32_t *building, size_t building_length,
-                              uint8_t *buffer, size_t buffer_length,
-                              uint32_t code,
-                              const uint8_t *value, size_t value_length, uint32_t null);
+static inline uint32_t ajp13_attribute_text(ajp13_building *building, uint8_t *buffer, size_t buffer_length,
+                                            uint32_t code, ajp13_string value)
+{
+    return ajp13_words_attribute_text(building->words, AJP13_SIZE_BUILDING, buffer, buffer_length, code,
+                                      ajp13_string_bytes(value), ajp13_string_length(value), value.null);
+}
 
 /*
  * Adds an attribute whose value is an integer. No header may follow.
  *
  *   code   AJP13_ATTRIBUTE_SSL_KEY_SIZE (else AJP13_ATTRIBUTE_WRONG).
- *   value  at most 65535 (else AJP13_ARGUMENT).
+ *   value  at most 65535 (else AJP13_ERROR_ARGUMENT).
  *
- * Errors: AJP13_BUILDING_LENGTH, AJP13_BUILDING_WORD, AJP13_ARGUMENT.
+ * Status: AJP13_DONE; AJP13_RECORD_WRONG, AJP13_ATTRIBUTE_WRONG, AJP13_TOO_LONG, AJP13_BUFFER_TOO_SHORT;
+ * AJP13_ERROR_BUILDING_WORD, AJP13_ERROR_ARGUMENT.
  */
-uint32_t ajp13_attribute_integer(uint32_t *building, size_t building_length,
-                                 uint8_t *buffer, size_t buffer_length,
-                                 uint32_t code, uint32_t value);
+static inline uint32_t ajp13_attribute_integer(ajp13_building *building, uint8_t *buffer, size_t buffer_length,
+                                               uint32_t code, uint32_t value)
+{
+    return ajp13_words_attribute_integer(building->words, AJP13_SIZE_BUILDING, buffer, buffer_length, code, value);
+}
 
 /*
  * Adds an attribute that brings its own name with it. It may come any number of times. No header may follow.
  *
- *   code            AJP13_ATTRIBUTE_REQ_ATTRIBUTE (else AJP13_ATTRIBUTE_WRONG).
- *   name, noname    neither null nor empty (AJP13_STRING_WRONG).
- *   value, novalue  the attribute's value, which may be null or empty.
+ *   code   AJP13_ATTRIBUTE_REQ_ATTRIBUTE (else AJP13_ATTRIBUTE_WRONG).
+ *   name   neither null nor empty (AJP13_STRING_WRONG).
+ *   value  the attribute's value, which may be null or empty.
  *
- * Errors: AJP13_BUILDING_LENGTH, AJP13_BUILDING_WORD, AJP13_ARGUMENT.
+ * Status: AJP13_DONE; AJP13_RECORD_WRONG, AJP13_ATTRIBUTE_WRONG, AJP13_STRING_WRONG, AJP13_TOO_LONG,
+ * AJP13_BUFFER_TOO_SHORT; AJP13_ERROR_BUILDING_WORD, AJP13_ERROR_ARGUMENT (name.null or value.null above 1).
  */
-uint32_t ajp13_attribute_pair(uint32_t *building, size_t building_length,
-                              uint8_t *buffer, size_t buffer_length,
-                              uint32_t code,
-                              const uint8_t *name, size_t name_length, uint32_t noname,
-                              const uint8_t *value, size_t value_length, uint32_t novalue);
+static inline uint32_t ajp13_attribute_pair(ajp13_building *building, uint8_t *buffer, size_t buffer_length,
+                                            uint32_t code, ajp13_string name, ajp13_string value)
+{
+    return ajp13_words_attribute_pair(building->words, AJP13_SIZE_BUILDING, buffer, buffer_length, code,
+                                      ajp13_string_bytes(name), ajp13_string_length(name), name.null,
+                                      ajp13_string_bytes(value), ajp13_string_length(value), value.null);
+}
 
 /*
  * Closes a packet that was built in pieces, and sends it: sets its number of headers and its length, and ends a Forward
@@ -518,26 +736,27 @@ uint32_t ajp13_attribute_pair(uint32_t *building, size_t building_length,
  *   connection  the sender's connection; stepped where the packet is written.
  *   building    the building record, which is only read.
  *   buffer      where the pieces stand.
- *   answer      the packet's kind and, in answer[AJP13_BYTES], its length.
+ *   answer      the packet's kind and, at AJP13_ANSWER_BYTES, its length.
  *
- * Answers AJP13_DONE, a refusal or an error. AJP13_RECORD_WRONG is looked for first, then AJP13_NOT_NOW,
- * AJP13_TOO_LONG and AJP13_BUFFER_TOO_SHORT, then what the reader of the other end would refuse. Where it is refused,
- * the buffer is as it was before closing, the connection has not stepped, and more pieces may be added.
+ * AJP13_RECORD_WRONG is looked for first, then AJP13_NOT_NOW, AJP13_TOO_LONG and AJP13_BUFFER_TOO_SHORT, then what the
+ * reader of the other end would refuse. Where it is refused, the buffer is as it was before closing, the connection has
+ * not stepped, and more pieces may be added.
  *
- * Errors: AJP13_CONNECTION_LENGTH, AJP13_CONNECTION_WORD, AJP13_BUILDING_LENGTH, AJP13_BUILDING_WORD,
- * AJP13_ANSWER_LENGTH.
+ * Status: AJP13_DONE; a refusal; AJP13_ERROR_CONNECTION_WORD, AJP13_ERROR_BUILDING_WORD.
  */
-uint32_t ajp13_close(uint32_t *connection, size_t connection_length,
-                     const uint32_t *building, size_t building_length,
-                     uint8_t *buffer, size_t buffer_length,
-                     uint32_t *answer, size_t answer_length);
+static inline uint32_t ajp13_close(ajp13_connection *connection, const ajp13_building *building,
+                                   uint8_t *buffer, size_t buffer_length, ajp13_answer *answer)
+{
+    return ajp13_words_close(connection->words, AJP13_SIZE_CONNECTION, building->words, AJP13_SIZE_BUILDING,
+                             buffer, buffer_length, answer->words, AJP13_SIZE_ANSWER);
+}
 
 /* ---------------------------------------------------------------------------------------------------------------------
  * Views: the fields of a packet at the places that reading told
  *
  *   packet  the bytes that were read; there may be more behind the packet.
- *   place   a place from the answer or from the table, at most 65535 (else AJP13_ARGUMENT). Any place gets an answer; at
- *           those that reading told it is the packet's field.
+ *   place   a place from the answer or from the table, at most 65535 (else AJP13_ERROR_ARGUMENT). Any place gets an
+ *           answer; at those that reading told it is the packet's field.
  *
  * With h headers, header i has its name's place in table[2 * i] and its value's in table[2 * i + 1]; attribute j has
  * its code's place in table[2 * (h + j)] and its value's in table[2 * (h + j) + 1].
@@ -546,34 +765,54 @@ uint32_t ajp13_close(uint32_t *connection, size_t connection_length,
 /*
  * The string at a place.
  *
- *   text  written whole: AJP13_TEXT_START, AJP13_TEXT_LENGTH, AJP13_TEXT_NULL.
+ *   text  written whole:
+ *         - Where the two bytes of a length stand at place, start is place + 2. Where they are FF FF, the string is
+ *           null, and length is 0. Else length is the number that they are. A length that runs past the packet's end is
+ *           cut: the string shown then ends at the packet's end, and length is packet_length - start.
+ *         - Where those two bytes are not both there (also where place is past the end), start is packet_length, length
+ *           is 0 and null is 0.
+ *         So start + length is never more than packet_length.
  *
- * Answers AJP13_DONE, or AJP13_ANSWER_LENGTH or AJP13_ARGUMENT.
+ * Status: AJP13_DONE; AJP13_ERROR_ARGUMENT.
  */
-uint32_t ajp13_text_at(const uint8_t *packet, size_t packet_length, uint32_t place,
-                       uint32_t *text, size_t text_length);
+static inline uint32_t ajp13_text_at(const uint8_t *packet, size_t packet_length, uint32_t place, ajp13_text *text)
+{
+    return ajp13_words_text_at(packet, packet_length, place, text->words, AJP13_SIZE_TEXT);
+}
 
 /*
  * The name that an attribute with code 0A brings with it.
  *
  *   place  the place of the attribute's code.
- *   text   written whole, as by ajp13_text_at.
+ *   text   written whole: what ajp13_text_at shows at place + 1.
  *
- * Answers AJP13_DONE, or AJP13_ANSWER_LENGTH or AJP13_ARGUMENT.
+ * Status: AJP13_DONE; AJP13_ERROR_ARGUMENT.
  */
-uint32_t ajp13_attribute_name_at(const uint8_t *packet, size_t packet_length, uint32_t place,
-                                 uint32_t *text, size_t text_length);
+static inline uint32_t ajp13_attribute_name_at(const uint8_t *packet, size_t packet_length, uint32_t place,
+                                               ajp13_text *text)
+{
+    return ajp13_words_attribute_name_at(packet, packet_length, place, text->words, AJP13_SIZE_TEXT);
+}
 
-/* The integer at a place, 0 where none is there; or AJP13_ARGUMENT. */
+/*
+ * The integer at a place.
+ *
+ * Returns it, 0 where its two bytes are not both there; or AJP13_ERROR_ARGUMENT.
+ */
 uint32_t ajp13_integer_at(const uint8_t *packet, size_t packet_length, uint32_t place);
 
 /*
- * The code of the header's name at a place, 0 where the name is spelled out (ajp13_text_at shows it then); or
- * AJP13_ARGUMENT.
+ * The code of the header's name at a place.
+ *
+ * Returns it, 0 where the name is spelled out (ajp13_text_at shows it then) or is not there; or AJP13_ERROR_ARGUMENT.
  */
 uint32_t ajp13_header_code_at(const uint8_t *packet, size_t packet_length, uint32_t place);
 
-/* The code of the attribute at a place, 0 where nothing is there; or AJP13_ARGUMENT. */
+/*
+ * The code of the attribute at a place.
+ *
+ * Returns it, 0 where nothing is there; or AJP13_ERROR_ARGUMENT.
+ */
 uint32_t ajp13_attribute_code_at(const uint8_t *packet, size_t packet_length, uint32_t place);
 
 /* What kind of value an attribute has. */
@@ -585,7 +824,11 @@ enum {
                                    with the value's */
 };
 
-/* The kind of value of the attribute whose code is at a place, AJP13_VALUE_..; or AJP13_ARGUMENT. */
+/*
+ * The kind of value of the attribute whose code is at a place.
+ *
+ * Returns it, AJP13_VALUE_..; or AJP13_ERROR_ARGUMENT.
+ */
 uint32_t ajp13_attribute_kind_at(const uint8_t *packet, size_t packet_length, uint32_t place);
 
 /* ---------------------------------------------------------------------------------------------------------------------
@@ -656,11 +899,12 @@ enum {
  * The name that is listed for a code.
  *
  *   list  AJP13_LIST_..
- *   code  at most 65535.
- *   name  AJP13_NAME_BYTES bytes, written whole where the code is listed: the name and zeros behind it (at least one, so
+ *   code  any number.
+ *   name  AJP13_SIZE_NAME bytes, written whole where the code is listed: the name and zeros behind it (at least one, so
  *         that it is a C string). Else nothing is written.
  *
- * Answers the name's length, 0 where no such code is listed; or AJP13_ANSWER_LENGTH or AJP13_ARGUMENT.
+ * Returns the name's length, 0 where no such code is listed; or AJP13_ERROR_ANSWER_LENGTH (name_length is another one),
+ * AJP13_ERROR_ARGUMENT (list above 3).
  */
 uint32_t ajp13_name(uint32_t list, uint32_t code, uint8_t *name, size_t name_length);
 
@@ -670,7 +914,7 @@ uint32_t ajp13_name(uint32_t list, uint32_t code, uint8_t *name, size_t name_len
  *   list  AJP13_LIST_..
  *   text  the name.
  *
- * Answers the code, 0 where the name is not listed; or AJP13_ARGUMENT.
+ * Returns the code, 0 where the name is not listed; or AJP13_ERROR_ARGUMENT (list above 3).
  */
 uint32_t ajp13_code(uint32_t list, const uint8_t *text, size_t text_length);
 
