@@ -25,9 +25,9 @@ mod common {
 mod plain;
 
 use ajp13::raw::{
-    ANSWER_LENGTH, ARGUMENT, BUILDING_LENGTH, BUILDING_WORD, BUILDING_WORDS, BYTES,
-    CONNECTION_LENGTH, CONNECTION_WORD, DONE, FIXED_LENGTH, FIXED_WORD, MAX_PACKET, MAX_PLACES,
-    NEEDS, NEXT,
+    ANSWER_BYTES, BUILDING_NEXT, DONE, ERROR_ANSWER_LENGTH, ERROR_ARGUMENT, ERROR_BUILDING_LENGTH,
+    ERROR_BUILDING_WORD, ERROR_CONNECTION_LENGTH, ERROR_CONNECTION_WORD, ERROR_FIXED_LENGTH,
+    ERROR_FIXED_WORD, MAX_PACKET, MAX_PLACES, NEEDS, SIZE_BUILDING,
 };
 use common::calls::{Array, Call, Lent};
 use common::packets::{self, Kind};
@@ -197,7 +197,7 @@ fn in_pieces(run: &mut Run, rng: &mut Rng) {
     };
     let mut lent = Lent {
         connection: Array::holding(&connection),
-        building: words::words(rng, BUILDING_WORDS),
+        building: words::words(rng, SIZE_BUILDING),
         buffer: words::buffer(rng, length),
         answer: words::answer(rng),
         ..Lent::default()
@@ -223,7 +223,7 @@ fn in_pieces(run: &mut Run, rng: &mut Rng) {
         };
         // At times a value that fills the packet to the brim, or just not.
         if rng.one_in(40) && length >= MAX_PACKET && !many {
-            let room = MAX_PACKET - lent.building.get()[NEXT] as usize;
+            let room = MAX_PACKET - lent.building.get()[BUILDING_NEXT] as usize;
             let room = (room + rng.below(3)).saturating_sub(1 + 2 + 3);
             piece = pieces::long_piece(kind, strings::text_of(rng, room));
         }
@@ -235,7 +235,7 @@ fn in_pieces(run: &mut Run, rng: &mut Rng) {
         return;
     }
     // The other end's connection is the one that the sender's was, and accepts it.
-    let length = after.answer.get()[BYTES] as usize;
+    let length = after.answer.get()[ANSWER_BYTES] as usize;
     let mut bytes = after.buffer.get()[..length].to_vec();
     if rng.one_in(2) {
         bytes.extend(rng.bytes(9));
@@ -247,7 +247,7 @@ fn in_pieces(run: &mut Run, rng: &mut Rng) {
     lent.table = words::table(rng, MAX_PLACES);
     let (status, read) = run.compare(&read, &lent);
     assert_eq!(status, DONE);
-    assert_eq!(read.answer.get()[BYTES] as usize, length);
+    assert_eq!(read.answer.get()[ANSWER_BYTES] as usize, length);
     assert!(read.connection == after.connection);
 }
 
@@ -275,18 +275,27 @@ fn wrong_arrays_and_words() {
         wrong::spoil(&mut rng, &mut call, &mut lent);
         run.compare(&call, &lent);
     }
-    let of_connection: &[u32] = &[CONNECTION_LENGTH, CONNECTION_WORD, ANSWER_LENGTH];
-    let with_argument: &[u32] = &[CONNECTION_LENGTH, CONNECTION_WORD, ANSWER_LENGTH, ARGUMENT];
-    let of_building: &[u32] = &[BUILDING_LENGTH, BUILDING_WORD, ARGUMENT];
+    let of_connection: &[u32] = &[
+        ERROR_CONNECTION_LENGTH,
+        ERROR_CONNECTION_WORD,
+        ERROR_ANSWER_LENGTH,
+    ];
+    let with_argument: &[u32] = &[
+        ERROR_CONNECTION_LENGTH,
+        ERROR_CONNECTION_WORD,
+        ERROR_ANSWER_LENGTH,
+        ERROR_ARGUMENT,
+    ];
+    let of_building: &[u32] = &[ERROR_BUILDING_LENGTH, ERROR_BUILDING_WORD, ERROR_ARGUMENT];
     let of_both: &[u32] = &[
-        CONNECTION_LENGTH,
-        CONNECTION_WORD,
-        BUILDING_LENGTH,
-        BUILDING_WORD,
-        ANSWER_LENGTH,
+        ERROR_CONNECTION_LENGTH,
+        ERROR_CONNECTION_WORD,
+        ERROR_BUILDING_LENGTH,
+        ERROR_BUILDING_WORD,
+        ERROR_ANSWER_LENGTH,
     ];
     run.finish_errors(&[
-        ("fresh", &[CONNECTION_LENGTH]),
+        ("fresh", &[ERROR_CONNECTION_LENGTH]),
         ("read_at_container", of_connection),
         ("read_at_server", of_connection),
         ("cping", of_connection),
@@ -297,9 +306,12 @@ fn wrong_arrays_and_words() {
         ("end", with_argument),
         (
             "begin_forward",
-            &[BUILDING_LENGTH, FIXED_LENGTH, FIXED_WORD],
+            &[ERROR_BUILDING_LENGTH, ERROR_FIXED_LENGTH, ERROR_FIXED_WORD],
         ),
-        ("begin_send_headers", &[BUILDING_LENGTH, ARGUMENT]),
+        (
+            "begin_send_headers",
+            &[ERROR_BUILDING_LENGTH, ERROR_ARGUMENT],
+        ),
         ("header_coded", of_building),
         ("header_spelled", of_building),
         ("header_named", of_building),
@@ -307,14 +319,14 @@ fn wrong_arrays_and_words() {
         ("attribute_integer", of_building),
         ("attribute_pair", of_building),
         ("close", of_both),
-        ("text_at", &[ANSWER_LENGTH, ARGUMENT]),
-        ("attribute_name_at", &[ANSWER_LENGTH, ARGUMENT]),
-        ("integer_at", &[ARGUMENT]),
-        ("header_code_at", &[ARGUMENT]),
-        ("attribute_code_at", &[ARGUMENT]),
-        ("attribute_kind_at", &[ARGUMENT]),
-        ("name", &[ANSWER_LENGTH, ARGUMENT]),
-        ("code", &[ARGUMENT]),
+        ("text_at", &[ERROR_ANSWER_LENGTH, ERROR_ARGUMENT]),
+        ("attribute_name_at", &[ERROR_ANSWER_LENGTH, ERROR_ARGUMENT]),
+        ("integer_at", &[ERROR_ARGUMENT]),
+        ("header_code_at", &[ERROR_ARGUMENT]),
+        ("attribute_code_at", &[ERROR_ARGUMENT]),
+        ("attribute_kind_at", &[ERROR_ARGUMENT]),
+        ("name", &[ERROR_ANSWER_LENGTH, ERROR_ARGUMENT]),
+        ("code", &[ERROR_ARGUMENT]),
     ]);
 }
 

@@ -491,7 +491,10 @@ fn sends() {
     assert_eq!(server.cpong(&mut buffer), Err(Refusal::NotNow));
 
     let mut server = busy(3, Some(2), false);
-    assert_eq!(server.body(&mut buffer, b"abc"), Err(Refusal::BodySizeWrong));
+    assert_eq!(
+        server.body(&mut buffer, b"abc"),
+        Err(Refusal::BodySizeWrong)
+    );
     let packet = server.body(&mut buffer, b"ab").unwrap();
     assert_eq!(packet, b"\x12\x34\x00\x04\x00\x02ab");
     assert_eq!(server, busy(1, None, false));
@@ -539,7 +542,10 @@ fn records_keep_their_fields() {
 #[test]
 fn refusals_have_their_numbers() {
     // Each number of document 01's table is there, once and in order; what more there is has a number above them.
-    let numbers: Vec<u32> = Refusal::ALL.iter().map(|refusal| refusal.number().into()).collect();
+    let numbers: Vec<u32> = Refusal::ALL
+        .iter()
+        .map(|refusal| refusal.number().into())
+        .collect();
     assert_eq!(numbers[..16], (1..=16).collect::<Vec<u32>>());
     assert!(numbers.windows(2).all(|two| two[0] < two[1]));
     for number in (0..0x200).chain([0x10000, u32::MAX]) {

@@ -79,9 +79,9 @@ fn with_building(words: &[u32], expected: u32) {
 #[test]
 fn connections_that_cannot_be() {
     for length in [0, 4, 6] {
-        with_connection(&vec![9; length], raw::CONNECTION_LENGTH);
+        with_connection(&vec![9; length], raw::ERROR_CONNECTION_LENGTH);
         let mut words = vec![9; length];
-        assert_eq!(raw::fresh(&mut words), raw::CONNECTION_LENGTH);
+        assert_eq!(raw::fresh(&mut words), raw::ERROR_CONNECTION_LENGTH);
         assert_eq!(words, vec![9; length]);
     }
     for words in [
@@ -91,7 +91,7 @@ fn connections_that_cannot_be() {
         [0, 0, 0, 0, 2],
         [u32::MAX; 5],
     ] {
-        with_connection(&words, raw::CONNECTION_WORD);
+        with_connection(&words, raw::ERROR_CONNECTION_WORD);
     }
     let mut words = [u32::MAX; 5];
     assert_eq!(raw::fresh(&mut words), raw::DONE);
@@ -102,15 +102,15 @@ fn connections_that_cannot_be() {
 fn building_records_that_cannot_be() {
     for length in [0, 4, 6] {
         let words = vec![9; length];
-        with_building(&words, raw::BUILDING_LENGTH);
+        with_building(&words, raw::ERROR_BUILDING_LENGTH);
 
         let mut building = words.clone();
         let mut buffer = [7; 64];
         let status =
             raw::begin_forward(&mut building, &mut buffer, &[9], b"p", b"u", b"", b"", b"");
-        assert_eq!(status, raw::BUILDING_LENGTH);
+        assert_eq!(status, raw::ERROR_BUILDING_LENGTH);
         let status = raw::begin_send_headers(&mut building, &mut buffer, 65536, b"", 2);
-        assert_eq!(status, raw::BUILDING_LENGTH);
+        assert_eq!(status, raw::ERROR_BUILDING_LENGTH);
         assert_eq!(building, words);
         assert_eq!(buffer, [7; 64]);
     }
@@ -122,7 +122,7 @@ fn building_records_that_cannot_be() {
         [6, 6, 4, 65536, 0],
         [6, 6, 4, 0, 2],
     ] {
-        with_building(&words, raw::BUILDING_WORD);
+        with_building(&words, raw::ERROR_BUILDING_WORD);
     }
 }
 
@@ -141,7 +141,7 @@ fn fixed_numbers_that_cannot_be() {
         status
     };
     for length in [0, 7, 9] {
-        assert_eq!(begin(&vec![u32::MAX; length]), raw::FIXED_LENGTH);
+        assert_eq!(begin(&vec![u32::MAX; length]), raw::ERROR_FIXED_LENGTH);
     }
     for (at, word) in [
         (0, 65536),
@@ -156,7 +156,7 @@ fn fixed_numbers_that_cannot_be() {
         let mut fixed = [2, 80, 0, 0, 0, 0, 0, 0];
         assert_eq!(begin(&fixed), raw::DONE);
         fixed[at] = word;
-        assert_eq!(begin(&fixed), raw::FIXED_WORD);
+        assert_eq!(begin(&fixed), raw::ERROR_FIXED_WORD);
     }
     // A string that is null is not looked at; the protocol may not be null, and that is a refusal.
     assert_eq!(begin(&[2, 80, 0, 1, 0, 0, 0, 0]), 6);
@@ -184,22 +184,25 @@ fn answers_of_the_wrong_length() {
             raw::end(c, b, 2, a),
             raw::close(c, &building, b, a),
         ];
-        assert_eq!(calls, [raw::ANSWER_LENGTH; 9]);
+        assert_eq!(calls, [raw::ERROR_ANSWER_LENGTH; 9]);
         assert_eq!(connection, FRESH);
         assert_eq!(answer, vec![7; length]);
     }
     for length in [0, 2, 4] {
         let mut text = vec![7; length];
-        assert_eq!(raw::text_at(b"", 65536, &mut text), raw::ANSWER_LENGTH);
+        assert_eq!(
+            raw::text_at(b"", 65536, &mut text),
+            raw::ERROR_ANSWER_LENGTH
+        );
         assert_eq!(
             raw::attribute_name_at(b"", 65536, &mut text),
-            raw::ANSWER_LENGTH
+            raw::ERROR_ANSWER_LENGTH
         );
         assert_eq!(text, vec![7; length]);
     }
     for length in [0, 16, 18] {
         let mut name = vec![7; length];
-        assert_eq!(raw::name(4, 65536, &mut name), raw::ANSWER_LENGTH);
+        assert_eq!(raw::name(4, 65536, &mut name), raw::ERROR_ANSWER_LENGTH);
         assert_eq!(name, vec![7; length]);
     }
     assert_eq!(buffer, [7; 64]);
@@ -236,25 +239,28 @@ fn arguments_that_cannot_be() {
         raw::attribute_pair(r, b, 0x0A, b"a", 2, b"", 0),
         raw::attribute_pair(r, b, 0x0A, b"a", 0, b"", 2),
     ];
-    assert_eq!(calls, [raw::ARGUMENT; 16]);
+    assert_eq!(calls, [raw::ERROR_ARGUMENT; 16]);
     assert_eq!(building, first);
     assert_eq!(buffer, before);
     assert_eq!(connection, FRESH);
     assert_eq!(answer, [7; 13]);
 
     let mut text = [7; 3];
-    assert_eq!(raw::text_at(b"", 65536, &mut text), raw::ARGUMENT);
-    assert_eq!(raw::attribute_name_at(b"", 65536, &mut text), raw::ARGUMENT);
+    assert_eq!(raw::text_at(b"", 65536, &mut text), raw::ERROR_ARGUMENT);
+    assert_eq!(
+        raw::attribute_name_at(b"", 65536, &mut text),
+        raw::ERROR_ARGUMENT
+    );
     assert_eq!(text, [7; 3]);
-    assert_eq!(raw::integer_at(b"", 65536), raw::ARGUMENT);
-    assert_eq!(raw::header_code_at(b"", 65536), raw::ARGUMENT);
-    assert_eq!(raw::attribute_code_at(b"", 65536), raw::ARGUMENT);
-    assert_eq!(raw::attribute_kind_at(b"", 65536), raw::ARGUMENT);
+    assert_eq!(raw::integer_at(b"", 65536), raw::ERROR_ARGUMENT);
+    assert_eq!(raw::header_code_at(b"", 65536), raw::ERROR_ARGUMENT);
+    assert_eq!(raw::attribute_code_at(b"", 65536), raw::ERROR_ARGUMENT);
+    assert_eq!(raw::attribute_kind_at(b"", 65536), raw::ERROR_ARGUMENT);
     let mut name = [7; 17];
-    assert_eq!(raw::name(4, 1, &mut name), raw::ARGUMENT);
-    assert_eq!(raw::name(0, 65536, &mut name), raw::ARGUMENT);
+    assert_eq!(raw::name(4, 1, &mut name), raw::ERROR_ARGUMENT);
+    assert_eq!(raw::name(0, 65536, &mut name), raw::ERROR_ARGUMENT);
     assert_eq!(name, [7; 17]);
-    assert_eq!(raw::code(4, b"GET"), raw::ARGUMENT);
+    assert_eq!(raw::code(4, b"GET"), raw::ERROR_ARGUMENT);
 }
 
 #[test]

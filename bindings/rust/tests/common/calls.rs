@@ -86,6 +86,7 @@ impl Text {
 #[derive(Clone)]
 pub enum Call {
     Fresh,
+    LargestBody,
     ReadAtContainer(Vec<u8>),
     ReadAtServer(Vec<u8>),
     CPing,
@@ -175,6 +176,7 @@ macro_rules! call_by {
         let buffer = lent.buffer.lend();
         match $call {
             Call::Fresh => $calls::fresh(connection),
+            Call::LargestBody => $calls::largest_body(connection),
             Call::ReadAtContainer(bytes) => {
                 $calls::read_at_container(connection, bytes, table, answer)
             }
@@ -253,7 +255,8 @@ impl Call {
     pub fn hands_out_number(&self) -> bool {
         matches!(
             self,
-            Call::IntegerAt { .. }
+            Call::LargestBody
+                | Call::IntegerAt { .. }
                 | Call::HeaderCodeAt { .. }
                 | Call::AttributeCodeAt { .. }
                 | Call::AttributeKindAt { .. }
@@ -266,6 +269,7 @@ impl Call {
     pub fn name(&self) -> &'static str {
         match self {
             Call::Fresh => "fresh",
+            Call::LargestBody => "largest_body",
             Call::ReadAtContainer(_) => "read_at_container",
             Call::ReadAtServer(_) => "read_at_server",
             Call::CPing => "cping",
@@ -316,7 +320,7 @@ impl Display for Call {
     fn fmt(&self, f: &mut Formatter) -> fmt::Result {
         f.write_str(self.name())?;
         match self {
-            Call::Fresh | Call::CPing | Call::CPong | Call::Close => Ok(()),
+            Call::Fresh | Call::LargestBody | Call::CPing | Call::CPong | Call::Close => Ok(()),
             Call::ReadAtContainer(bytes)
             | Call::ReadAtServer(bytes)
             | Call::Body(bytes)

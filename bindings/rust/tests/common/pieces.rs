@@ -5,7 +5,7 @@ use super::packets::{self, Kind};
 use super::rng::Rng;
 use super::strings;
 use super::words;
-use ajp13::raw::{ATTRIBUTES_BEGAN, BUILDING_KIND, BUILDING_WORDS, FORWARD};
+use ajp13::raw::{BUILDING_ATTRIBUTES, BUILDING_KIND, KIND_FORWARD, SIZE_BUILDING};
 
 /// How a Forward begins.
 pub fn begin_forward(rng: &mut Rng) -> Call {
@@ -191,7 +191,7 @@ pub fn single_piece(rng: &mut Rng) -> (Call, Lent) {
         // The building record is only written.
         let length = words::array_length(rng, piece_bytes(&call));
         Lent {
-            building: words::words(rng, BUILDING_WORDS),
+            building: words::words(rng, SIZE_BUILDING),
             buffer: words::buffer(rng, length),
             ..Lent::default()
         }
@@ -213,11 +213,11 @@ fn behind_pieces(rng: &mut Rng, kind: Kind, call: &Call) -> Lent {
         Call::HeaderCoded { .. } | Call::HeaderSpelled { .. } | Call::HeaderNamed { .. }
     );
     if is_header && !rng.one_in(6) {
-        building[ATTRIBUTES_BEGAN] = 0;
+        building[BUILDING_ATTRIBUTES] = 0;
     }
     if rng.one_in(8) {
         let other = words::building(rng, bytes.len());
-        let word = rng.below(BUILDING_WORDS);
+        let word = rng.below(SIZE_BUILDING);
         building[word] = other[word];
     }
     let length = words::array_length(rng, bytes.len() + piece_bytes(call));
@@ -241,7 +241,7 @@ fn any_building(rng: &mut Rng) -> Lent {
     let building = words::building(rng, length);
     let mut bytes = rng.bytes(length);
     if let (Some(code), false) = (bytes.get_mut(4), rng.one_in(8)) {
-        *code = if building[BUILDING_KIND] == FORWARD {
+        *code = if building[BUILDING_KIND] == KIND_FORWARD {
             0x02
         } else {
             0x04
@@ -266,7 +266,7 @@ pub fn to_close(rng: &mut Rng) -> Lent {
     match rng.below(12) {
         0 | 1 => {
             let other = words::building(rng, bytes.len());
-            let word = rng.below(BUILDING_WORDS);
+            let word = rng.below(SIZE_BUILDING);
             building[word] = other[word];
         }
         // A word of the record changed by one.

@@ -8,8 +8,8 @@ use super::calls::{Call, Lent};
 use super::rng::Rng;
 use super::settings;
 use ajp13::raw::{
-    ANSWER_LENGTH, ARGUMENT, BUILDING_LENGTH, BUILDING_WORD, CONNECTION_LENGTH, CONNECTION_WORD,
-    DONE, FIXED_LENGTH, FIXED_WORD, NEEDS,
+    DONE, ERROR_ANSWER_LENGTH, ERROR_ARGUMENT, ERROR_BUILDING_LENGTH, ERROR_BUILDING_WORD,
+    ERROR_CONNECTION_LENGTH, ERROR_CONNECTION_WORD, ERROR_FIXED_LENGTH, ERROR_FIXED_WORD, NEEDS,
 };
 use std::collections::BTreeMap;
 use std::time::Instant;
@@ -109,7 +109,7 @@ impl Run {
     /// The same, where only errors are listed and checked.
     pub fn finish_errors(self, expected: &[(&'static str, &[u32])]) {
         self.check_seen(expected, |status| {
-            (CONNECTION_LENGTH..=ARGUMENT).contains(&status)
+            (ERROR_CONNECTION_LENGTH..=ERROR_ARGUMENT).contains(&status)
         });
     }
 
@@ -147,14 +147,14 @@ pub fn status_name(status: u32) -> String {
     let name = match status {
         DONE => "done",
         NEEDS => "needs",
-        CONNECTION_LENGTH => "connection-length",
-        CONNECTION_WORD => "connection-word",
-        BUILDING_LENGTH => "building-length",
-        BUILDING_WORD => "building-word",
-        FIXED_LENGTH => "fixed-length",
-        FIXED_WORD => "fixed-word",
-        ANSWER_LENGTH => "answer-length",
-        ARGUMENT => "argument",
+        ERROR_CONNECTION_LENGTH => "connection-length",
+        ERROR_CONNECTION_WORD => "connection-word",
+        ERROR_BUILDING_LENGTH => "building-length",
+        ERROR_BUILDING_WORD => "building-word",
+        ERROR_FIXED_LENGTH => "fixed-length",
+        ERROR_FIXED_WORD => "fixed-word",
+        ERROR_ANSWER_LENGTH => "answer-length",
+        ERROR_ARGUMENT => "argument",
         ZERO => "0",
         NUMBER => "number",
         number => return format!("({number})"),

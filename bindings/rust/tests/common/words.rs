@@ -5,14 +5,21 @@ use super::packets::{Kind, Packet};
 use super::rng::Rng;
 use super::strings;
 use ajp13::raw::{
-    ANSWER_WORDS, BUILDING_WORDS, BUSY, CLOSED, CONNECTION_WORDS, FORWARD, IDLE, MAX_BODY,
-    MAX_PACKET, PINGED, SEND_HEADERS,
+    KIND_FORWARD, KIND_SEND_HEADERS, MAX_BODY, MAX_PACKET, SIZE_ANSWER, SIZE_BUILDING,
+    SIZE_CONNECTION, STATE_BUSY, STATE_CLOSED, STATE_IDLE, STATE_PINGED,
 };
 
 /// Any connection, the odd ones too: what counts only in Busy may be set elsewhere.
-pub fn connection(rng: &mut Rng) -> [u32; CONNECTION_WORDS] {
+pub fn connection(rng: &mut Rng) -> [u32; SIZE_CONNECTION] {
     [
-        rng.of(&[IDLE, PINGED, BUSY, BUSY, BUSY, CLOSED]),
+        rng.of(&[
+            STATE_IDLE,
+            STATE_PINGED,
+            STATE_BUSY,
+            STATE_BUSY,
+            STATE_BUSY,
+            STATE_CLOSED,
+        ]),
         left(rng),
         rng.below(2) as u32,
         asked(rng),
@@ -21,25 +28,25 @@ pub fn connection(rng: &mut Rng) -> [u32; CONNECTION_WORDS] {
 }
 
 /// A connection on which a kind of packet is allowed; what does not count is anything.
-pub fn connection_for(rng: &mut Rng, kind: Kind) -> [u32; CONNECTION_WORDS] {
+pub fn connection_for(rng: &mut Rng, kind: Kind) -> [u32; SIZE_CONNECTION] {
     let [_, left, due, asked, headers] = if kind == Kind::Body || rng.one_in(2) {
         connection(rng)
     } else {
-        [0; CONNECTION_WORDS]
+        [0; SIZE_CONNECTION]
     };
     match kind {
-        Kind::CPing | Kind::Forward => [IDLE, left, due, asked, headers],
-        Kind::CPong => [PINGED, left, due, asked, headers],
-        Kind::Body => [BUSY, left, 1, asked, headers],
-        Kind::GetBody => [BUSY, left, 0, asked, headers],
-        Kind::SendHeaders => [BUSY, left, due, asked, 0],
-        Kind::BodyChunk => [BUSY, left, due, asked, 1],
-        Kind::End => [BUSY, left, 0, asked, 1],
+        Kind::CPing | Kind::Forward => [STATE_IDLE, left, due, asked, headers],
+        Kind::CPong => [STATE_PINGED, left, due, asked, headers],
+        Kind::Body => [STATE_BUSY, left, 1, asked, headers],
+        Kind::GetBody => [STATE_BUSY, left, 0, asked, headers],
+        Kind::SendHeaders => [STATE_BUSY, left, due, asked, 0],
+        Kind::BodyChunk => [STATE_BUSY, left, due, asked, 1],
+        Kind::End => [STATE_BUSY, left, 0, asked, 1],
     }
 }
 
 /// A connection on which a kind of packet is allowed, or any.
-pub fn connection_mostly_for(rng: &mut Rng, kind: Kind) -> [u32; CONNECTION_WORDS] {
+pub fn connection_mostly_for(rng: &mut Rng, kind: Kind) -> [u32; SIZE_CONNECTION] {
     if rng.percent(80) {
         connection_for(rng, kind)
     } else {
@@ -69,7 +76,7 @@ fn asked(rng: &mut Rng) -> u32 {
 }
 
 /// The size of a body packet on a connection: mostly one that is allowed, or just not.
-pub fn body_size(rng: &mut Rng, connection: &[u32; CONNECTION_WORDS]) -> usize {
+pub fn body_size(rng: &mut Rng, connection: &[u32; SIZE_CONNECTION]) -> usize {
     let [_, left, _, asked, _] = *connection;
     let most = (left.min(asked) as usize).min(MAX_BODY);
     match rng.below(12) {
@@ -116,7 +123,7 @@ pub fn words(rng: &mut Rng, count: usize) -> Array<u32> {
 
 /// An array for an answer, with any old contents.
 pub fn answer(rng: &mut Rng) -> Array<u32> {
-    words(rng, ANSWER_WORDS)
+    words(rng, SIZE_ANSWER)
 }
 
 /// A string as an argument. Where it is null, its bytes are anything.
@@ -156,11 +163,11 @@ pub fn required_text(rng: &mut Rng, usual: &[u8]) -> Text {
 
 /// The building record of a Forward or a Send Headers that was built up to its end, and the bytes
 /// from the packet's first to that end. Neither its length nor its number of headers is set yet.
-pub fn built(packet: &Packet) -> ([u32; BUILDING_WORDS], Vec<u8>) {
+pub fn built(packet: &Packet) -> ([u32; SIZE_BUILDING], Vec<u8>) {
     let mut bytes = packet.bytes.clone();
-    let mut kind = SEND_HEADERS;
+    let mut kind = KIND_SEND_HEADERS;
     if packet.kind == Kind::Forward {
-        kind = FORWARD;
+        kind = KIND_FORWARD;
         // Closing sets the FF, which a fault may have left out.
         bytes.pop_if(|last| *last == 0xFF);
     }
@@ -177,7 +184,7 @@ pub fn built(packet: &Packet) -> ([u32; BUILDING_WORDS], Vec<u8>) {
 }
 
 /// Any building record that can be told in words, mostly one that is possible in a buffer.
-pub fn building(rng: &mut Rng, buffer: usize) -> [u32; BUILDING_WORDS] {
+pub fn building(rng: &mut Rng, buffer: usize) -> [u32; SIZE_BUILDING] {
     let most = buffer.min(MAX_PACKET);
     let next = match rng.below(8) {
         0 => rng.short().into(),
@@ -197,7 +204,7 @@ pub fn building(rng: &mut Rng, buffer: usize) -> [u32; BUILDING_WORDS] {
         _ => rng.below(101),
     };
     [
-        rng.of(&[FORWARD, SEND_HEADERS]),
+        rng.of(&[KIND_FORWARD, KIND_SEND_HEADERS]),
         next as u32,
         count as u32,
         headers as u32,

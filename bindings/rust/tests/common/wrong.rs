@@ -8,14 +8,14 @@ use super::rng::Rng;
 use super::sending::one_call;
 use super::views::{name_or_code, view};
 use super::words;
-use ajp13::raw::CONNECTION_WORDS;
+use ajp13::raw::SIZE_CONNECTION;
 
 /// Any call of the library, as the other tests make it.
 pub fn any_call(rng: &mut Rng) -> (Call, Lent) {
     match rng.below(12) {
         0 => {
             let lent = Lent {
-                connection: words::words(rng, CONNECTION_WORDS),
+                connection: words::words(rng, SIZE_CONNECTION),
                 ..Lent::default()
             };
             (Call::Fresh, lent)
