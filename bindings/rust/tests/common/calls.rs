@@ -251,6 +251,55 @@ impl Call {
         call_by!(by_plain, self, lent)
     }
 
+    /// Whether the call is given a connection.
+    pub fn has_connection(&self) -> bool {
+        matches!(self, Call::Fresh | Call::LargestBody) || self.has_answer()
+    }
+
+    /// Whether the call is given a building record.
+    pub fn has_building(&self) -> bool {
+        self.begins()
+            || matches!(
+                self,
+                Call::HeaderCoded { .. }
+                    | Call::HeaderSpelled { .. }
+                    | Call::HeaderNamed { .. }
+                    | Call::AttributeText { .. }
+                    | Call::AttributeInteger { .. }
+                    | Call::AttributePair { .. }
+                    | Call::Close
+            )
+    }
+
+    /// Whether the call begins a packet: it only writes the building record.
+    pub fn begins(&self) -> bool {
+        matches!(
+            self,
+            Call::BeginForward { .. } | Call::BeginSendHeaders { .. }
+        )
+    }
+
+    /// Whether the call is lent an answer.
+    pub fn has_answer(&self) -> bool {
+        matches!(
+            self,
+            Call::ReadAtContainer(_)
+                | Call::ReadAtServer(_)
+                | Call::CPing
+                | Call::CPong
+                | Call::Body(_)
+                | Call::BodyChunk(_)
+                | Call::GetBody(_)
+                | Call::End(_)
+                | Call::Close
+        )
+    }
+
+    /// Whether the call is lent a text.
+    pub fn has_text(&self) -> bool {
+        matches!(self, Call::TextAt { .. } | Call::AttributeNameAt { .. })
+    }
+
     /// Whether the call returns a number that was asked for, or an error, and no other status.
     pub fn hands_out_number(&self) -> bool {
         matches!(

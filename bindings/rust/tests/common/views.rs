@@ -72,10 +72,12 @@ fn told_place(rng: &mut Rng, packet: &[u8]) -> usize {
 pub fn name_or_code(rng: &mut Rng) -> (Call, Lent) {
     let list = rng.below(4) as u32;
     let first = [1, 0xA001, 0xA001, 3][list as usize];
-    let code = match rng.below(4) {
-        0 => rng.short().into(),
-        _ => first + rng.below(29) as u32 - 1,
-    };
+    let mut code = first + rng.below(29) as u32 - 1;
+    match rng.below(8) {
+        0 | 1 => code = rng.short().into(),
+        2 => code = words::above_16_bits(rng, code),
+        _ => {}
+    }
     let lent = Lent {
         name: words::buffer(rng, SIZE_NAME),
         ..Lent::default()
