@@ -151,7 +151,7 @@ fn two_ends_and_their_pipes() {
     println!("two ends: AJP13_SEED={seed}");
     let begun = Instant::now();
     let mut ends = TwoEnds::new(Rng::new(seed));
-    while ends.counts.events < limit && deadline.is_none_or(|end| Instant::now() < end) {
+    while ends.counts.events < limit && !deadline.is_some_and(|end| Instant::now() >= end) {
         ends.event();
         ends.check();
     }
@@ -164,6 +164,15 @@ fn not_begun(kind: u32) -> Building {
     let mut building = [0; raw::SIZE_BUILDING];
     building[raw::BUILDING_KIND] = kind;
     building
+}
+
+/// How many bytes the cycle lets the body packet hold that is due.
+fn largest_body(connection: &Connection) -> u32 {
+    if !Kind::Body.is_allowed(connection) {
+        return 0;
+    }
+    let most = connection[raw::CONNECTION_LEFT].min(connection[raw::CONNECTION_ASKED]);
+    most.min(raw::MAX_BODY as u32)
 }
 
 /// Fresh words of a connection.
@@ -266,7 +275,10 @@ impl TwoEnds {
                 raw::get_body(&mut connection, &mut self.buffer, asked, &mut answer)
             }
             Kind::End => {
-                let reuse = u32::from(!self.rng.one_in(8));
+                let mut reuse = u32::from(!self.rng.one_in(8));
+                if !right {
+                    reuse += self.rng.of(&[0, 2, 0x10000]);
+                }
                 raw::end(&mut connection, &mut self.buffer, reuse, &mut answer)
             }
             Kind::Body => {
@@ -348,8 +360,7 @@ impl TwoEnds {
 
     /// How many bytes to send in a body packet: so many as are allowed, or others.
     fn body_size(&mut self, connection: &Connection, right: bool) -> usize {
-        let most = connection[raw::CONNECTION_LEFT].min(connection[raw::CONNECTION_ASKED]);
-        let most = (most as usize).min(raw::MAX_BODY);
+        let most = raw::largest_body(connection) as usize;
         if !right {
             return self.rng.of(&[0, 1, most + 1, raw::MAX_BODY + 1]);
         }
@@ -514,6 +525,9 @@ impl TwoEnds {
             assert!(empty);
             assert_eq!(self.container[raw::CONNECTION_STATE], raw::STATE_IDLE);
         }
+        for connection in [&self.server, &self.container] {
+            assert_eq!(raw::largest_body(connection), largest_body(connection));
+        }
         // The body bytes that are sent and not received are those in the pipe, in order.
         let in_pipe = self.to_container.iter().flat_map(|packet| packet.body());
         assert!(in_pipe.eq(&self.unread));
@@ -577,7 +591,7 @@ impl Counts {
             assert!(self.written[index] > often, "{kind:?} seldom written");
             assert!(self.refused[index] > often, "{kind:?} seldom refused");
         }
-        for number in [2, 13, 14, 15, 16] {
+        for number in [2, 7, 13, 14, 15, 16] {
             let times = self.refusals.get(&number).copied().unwrap_or_default();
             assert!(times > often / 10, "seldom refused by {number}");
         }
