@@ -112,6 +112,32 @@ fn a_body_that_is_too_long() {
     assert!(answer.starts_with(b"413 \n"));
 }
 
+/// The server's loop sends what is asked for, no more than is left, and an empty body packet where that is nothing.
+#[test]
+fn what_is_asked_for() {
+    let (mut end, mut peer) = stream();
+    let answers: [&[u8]; 7] = [
+        b"AB\x00\x01\x09",
+        b"AB\x00\x03\x06\x00\x03",
+        b"AB\x00\x03\x06\x00\x00",
+        b"AB\x00\x03\x06\x1F\xFA",
+        b"AB\x00\x03\x06\xFF\xFF",
+        b"AB\x00\x0A\x04\x00\xC8\x00\x02OK\x00\x00\x00",
+        b"AB\x00\x02\x05\x01",
+    ];
+    peer.write_all(&answers.concat()).unwrap();
+    let body: Vec<u8> = (0..10_000).map(|at| (at * 7 % 251) as u8).collect();
+    server::request(&mut end, Method::POST, b"/", &body, &mut io::sink()).unwrap();
+    drop(end);
+
+    // Behind CPing and Forward come the body packets; each write is one packet.
+    let sent: Vec<Vec<u8>> = peer.came.iter().skip(2).collect();
+    let sizes: Vec<usize> = sent.iter().map(|packet| packet.len()).collect();
+    assert_eq!(sizes, [6 + 8186, 6 + 3, 4, 6 + 1811, 4]);
+    let parts = sent.iter().filter_map(|packet| packet.get(6..));
+    assert!(parts.flatten().eq(&body));
+}
+
 /// How a loop ends against a peer that sends these bytes and then closes.
 fn against(
     bytes: &[u8],
