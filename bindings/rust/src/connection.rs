@@ -156,8 +156,8 @@ impl Connection {
     /// Reads the packet at the start of `bytes`, at the container's end. `table` is lent for the places of headers and
     /// attributes: [`Places`](crate::Places), or any slice.
     ///
-    /// An error says that the bytes are no packet which the connection may get now. More bytes behind them do not mend
-    /// it, and nothing has changed.
+    /// An error says that the bytes are no packet which the connection may get now, or that the table is too short for
+    /// it. Nothing has changed, and more bytes behind these do not mend it.
     #[inline]
     pub fn read_at_container<'a>(
         &mut self,
