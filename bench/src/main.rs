@@ -42,7 +42,7 @@ fn build_by_library<'b>(
             Value::Pair(name, text) => attributes.pair(name, Some(text))?,
         };
     }
-    attributes.close(connection)
+    Ok(attributes.close(connection)?)
 }
 
 /// The same by the plain implementation; its length.
@@ -66,7 +66,7 @@ fn build_by_plain(
         None,
         Some(requests::SERVER_NAME),
         requests::SERVER_PORT,
-        true,
+        1,
     ))?;
     for (name, value) in &request.headers {
         building = next(plain::header_named(building, buffer, name, Some(value)))?;
@@ -169,7 +169,10 @@ fn read_row(
                     plain::End::Container => connection.read_at_container(bytes, &mut places),
                     plain::End::Server => connection.read_at_server(bytes, &mut places),
                 };
-                assert!(matches!(black_box(&received), Received::Accepted { .. }));
+                assert!(matches!(
+                    black_box(&received),
+                    Ok(Received::Accepted { .. })
+                ));
                 black_box(&connection);
             }
         },
@@ -313,7 +316,7 @@ fn main() {
         let packet = packet_of(request);
         let mut places = Places::new();
         let mut connection = Connection::fresh();
-        let Received::Accepted { packet: read, .. } =
+        let Ok(Received::Accepted { packet: read, .. }) =
             connection.read_at_container(&packet, &mut places)
         else {
             panic!("what was built is read");

@@ -1,8 +1,9 @@
 //! Forward Requests and Send Headers, built in pieces.
 
-use std::fmt;
+use core::error::Error;
+use core::fmt;
 
-use crate::connection::{sent, Connection};
+use crate::connection::Connection;
 use crate::names::{attribute, Method};
 use crate::raw;
 use crate::refusal::{done, Refusal};
@@ -12,21 +13,21 @@ use crate::refusal::{done, Refusal};
 #[repr(u32)]
 pub enum BuildingKind {
     /// A Forward Request.
-    Forward = raw::FORWARD,
+    Forward = raw::KIND_FORWARD,
     /// A Send Headers.
-    SendHeaders = raw::SEND_HEADERS,
+    SendHeaders = raw::KIND_SEND_HEADERS,
 }
 
 /// A building record: how far a packet is built in its buffer. The types that build a packet keep it; this is for a
 /// program that looks at it, or that hands a record of its own to the calls of [`raw`].
-#[derive(Clone, PartialEq, Eq)]
+#[derive(Clone, Copy, PartialEq, Eq, Hash)]
 pub struct Building {
-    // Words that can be, always: only the library and `from_fields` write them.
-    words: [u32; raw::BUILDING_WORDS],
+    // Words in range, always: only the library and `from_fields` write them.
+    words: [u32; raw::SIZE_BUILDING],
 }
 
 impl Building {
-    /// A building record with these fields, also one that no call makes. A record that cannot be for its buffer is
+    /// A building record with these fields, also one that no call makes. A record that is impossible for its buffer is
     /// refused by every piece and by closing ([`RecordWrong`](Refusal::RecordWrong)).
     #[inline]
     pub fn from_fields(
@@ -36,22 +37,20 @@ impl Building {
         headers: u16,
         attributes_began: bool,
     ) -> Building {
-        Building {
-            words: [
-                kind as u32,
-                next.into(),
-                count_place.into(),
-                headers.into(),
-                attributes_began.into(),
-            ],
-        }
+        let mut words = [0; raw::SIZE_BUILDING];
+        words[raw::BUILDING_KIND] = kind as u32;
+        words[raw::BUILDING_NEXT] = next.into();
+        words[raw::BUILDING_COUNT_PLACE] = count_place.into();
+        words[raw::BUILDING_HEADERS] = headers.into();
+        words[raw::BUILDING_ATTRIBUTES] = attributes_began.into();
+        Building { words }
     }
 
     /// Which packet it is for.
     #[inline]
     pub fn kind(&self) -> BuildingKind {
         match self.words[raw::BUILDING_KIND] {
-            raw::FORWARD => BuildingKind::Forward,
+            raw::KIND_FORWARD => BuildingKind::Forward,
             _ => BuildingKind::SendHeaders,
         }
     }
@@ -59,30 +58,30 @@ impl Building {
     /// The place of the next piece.
     #[inline]
     pub fn next(&self) -> u16 {
-        self.words[raw::NEXT] as u16
+        self.words[raw::BUILDING_NEXT] as u16
     }
 
     /// The place of the number of headers.
     #[inline]
     pub fn count_place(&self) -> u16 {
-        self.words[raw::COUNT_PLACE] as u16
+        self.words[raw::BUILDING_COUNT_PLACE] as u16
     }
 
     /// How many headers there are so far.
     #[inline]
     pub fn headers(&self) -> u16 {
-        self.words[raw::HEADERS_SO_FAR] as u16
+        self.words[raw::BUILDING_HEADERS] as u16
     }
 
     /// Whether there was an attribute.
     #[inline]
     pub fn attributes_began(&self) -> bool {
-        self.words[raw::ATTRIBUTES_BEGAN] != 0
+        self.words[raw::BUILDING_ATTRIBUTES] != 0
     }
 
     /// The record as the five words of [`raw`].
     #[inline]
-    pub fn words(&self) -> &[u32; raw::BUILDING_WORDS] {
+    pub fn words(&self) -> &[u32; raw::SIZE_BUILDING] {
         &self.words
     }
 }
@@ -121,7 +120,7 @@ impl<'b> Pieces<'b> {
         buffer: &'b mut [u8],
         call: impl FnOnce(&mut [u32], &mut [u8]) -> u32,
     ) -> Result<Pieces<'b>, Refusal> {
-        let mut words = [0; raw::BUILDING_WORDS];
+        let mut words = [0; raw::SIZE_BUILDING];
         done(call(&mut words, buffer))?;
         Ok(Pieces {
             building: Building { words },
@@ -166,12 +165,23 @@ impl<'b> Pieces<'b> {
         ))
     }
 
+    /// Closes the packet: its bytes, or the refusal and the pieces as they were.
     #[inline]
-    fn close(self, connection: &mut Connection) -> Result<&'b [u8], Refusal> {
-        let building = self.building;
-        sent(self.buffer, |buffer, answer| {
-            raw::close(connection.words_mut(), &building.words, buffer, answer)
-        })
+    fn close(self, connection: &mut Connection) -> Result<&'b [u8], NotClosed<Pieces<'b>>> {
+        let mut answer = [0; raw::SIZE_ANSWER];
+        let status = raw::close(
+            connection.words_mut(),
+            &self.building.words,
+            self.buffer,
+            &mut answer,
+        );
+        match done(status) {
+            Ok(()) => Ok(&self.buffer[..answer[raw::ANSWER_BYTES] as usize]),
+            Err(refusal) => Err(NotClosed {
+                refusal,
+                builder: self,
+            }),
+        }
     }
 }
 
@@ -180,6 +190,102 @@ impl fmt::Debug for Pieces<'_> {
         self.building.fmt(f)
     }
 }
+
+/// A packet that was refused when it was closed: the refusal, and what was being built. Neither the connection nor a
+/// byte of the buffer has changed, so more pieces may be added, and it may be closed again, on this connection or on
+/// another.
+///
+/// ```
+/// use ajp13::{Connection, ForwardHead, Method, Refusal, State};
+///
+/// let mut first = Connection::from_fields(State::Busy, 0, false, 0, false);
+/// let mut second = Connection::fresh();
+/// let mut buffer = [0; ajp13::MAX_PACKET];
+/// let head = ForwardHead {
+///     method: Method::GET,
+///     protocol: b"HTTP/1.1",
+///     req_uri: b"/trees/12",
+///     remote_addr: None,
+///     remote_host: None,
+///     server_name: None,
+///     server_port: 80,
+///     is_ssl: false,
+/// };
+/// let mut headers = head.begin(&mut buffer)?;
+/// headers.header(b"Host", Some(b"orchard.example"))?;
+///
+/// // A request is under way on the first connection, so this one goes out on the second.
+/// let error = headers.close(&mut first).unwrap_err();
+/// assert_eq!(error.refusal(), Refusal::NotNow);
+/// let packet = error.into_builder().close(&mut second)?;
+/// assert_eq!(packet[..2], [0x12, 0x34]);
+/// assert_eq!(second.state(), State::Busy);
+/// # Ok::<(), Refusal>(())
+/// ```
+///
+/// As the second closing shows, `?` makes it its [`Refusal`] in a function over `Refusal`. In a function over another
+/// error, such as `Box<dyn Error>`, write `.map_err(NotClosed::into_refusal)?`, which lets go of the buffer.
+#[derive(Debug)]
+pub struct NotClosed<B> {
+    refusal: Refusal,
+    builder: B,
+}
+
+impl<B> NotClosed<B> {
+    /// Why the packet was refused.
+    #[inline]
+    pub fn refusal(&self) -> Refusal {
+        self.refusal
+    }
+
+    /// What was being built, as it was before closing.
+    #[inline]
+    pub fn builder(&self) -> &B {
+        &self.builder
+    }
+
+    /// What was being built, to go on with.
+    #[inline]
+    pub fn into_builder(self) -> B {
+        self.builder
+    }
+
+    /// The refusal alone.
+    #[inline]
+    pub fn into_refusal(self) -> Refusal {
+        self.refusal
+    }
+
+    /// The refusal, and what was being built.
+    #[inline]
+    pub fn into_parts(self) -> (Refusal, B) {
+        (self.refusal, self.builder)
+    }
+
+    /// The same refusal with another builder around the pieces.
+    #[inline]
+    fn with<C>(self, builder: impl FnOnce(B) -> C) -> NotClosed<C> {
+        NotClosed {
+            refusal: self.refusal,
+            builder: builder(self.builder),
+        }
+    }
+}
+
+impl<B> From<NotClosed<B>> for Refusal {
+    #[inline]
+    fn from(error: NotClosed<B>) -> Refusal {
+        error.refusal
+    }
+}
+
+impl<B> fmt::Display for NotClosed<B> {
+    fn fmt(&self, f: &mut fmt::Formatter<'_>) -> fmt::Result {
+        write!(f, "packet not closed: {}", self.refusal)
+    }
+}
+
+impl<B: fmt::Debug> Error for NotClosed<B> {}
 
 /// The fixed fields of a Forward Request. A string that may be null is an `Option`, and `None` is null.
 ///
@@ -216,7 +322,7 @@ impl fmt::Debug for Pieces<'_> {
 /// assert_eq!(packet[..4], [0x12, 0x34, 0x00, 0x86]);
 /// # Ok::<(), Refusal>(())
 /// ```
-#[derive(Clone, Copy, Debug, PartialEq, Eq)]
+#[derive(Clone, Copy, Debug, PartialEq, Eq, Hash)]
 pub struct ForwardHead<'a> {
     /// The method.
     pub method: Method,
@@ -243,7 +349,7 @@ impl ForwardHead<'_> {
         let (remote_addr, no_remote_addr) = text(self.remote_addr);
         let (remote_host, no_remote_host) = text(self.remote_host);
         let (server_name, no_server_name) = text(self.server_name);
-        let mut fixed = [0; raw::FIXED_WORDS];
+        let mut fixed = [0; raw::SIZE_FIXED];
         fixed[raw::FIXED_METHOD] = self.method.code().into();
         fixed[raw::FIXED_PORT] = self.server_port.into();
         fixed[raw::FIXED_IS_SSL] = self.is_ssl.into();
@@ -304,9 +410,12 @@ impl<'b> ForwardHeaders<'b> {
     }
 
     /// Closes the packet without attributes and sends it: the connection steps, and the packet's bytes are handed out.
+    /// It is judged as the container would judge it, so a second content-length is refused here. With a refusal the
+    /// builder is handed back.
     #[inline]
-    pub fn close(self, connection: &mut Connection) -> Result<&'b [u8], Refusal> {
-        self.pieces.close(connection)
+    pub fn close(self, connection: &mut Connection) -> Result<&'b [u8], NotClosed<Self>> {
+        let closed = self.pieces.close(connection);
+        closed.map_err(|error| error.with(|pieces| ForwardHeaders { pieces }))
     }
 
     /// The building record.
@@ -367,10 +476,12 @@ impl<'b> ForwardAttributes<'b> {
     }
 
     /// Closes the packet and sends it: the connection steps, and the packet's bytes are handed out. It is judged as the
-    /// container would judge it, so a second content-length or an attribute that comes twice is refused here.
+    /// container would judge it, so a second content-length or an attribute that comes twice is refused here. With a
+    /// refusal the builder is handed back.
     #[inline]
-    pub fn close(self, connection: &mut Connection) -> Result<&'b [u8], Refusal> {
-        self.pieces.close(connection)
+    pub fn close(self, connection: &mut Connection) -> Result<&'b [u8], NotClosed<Self>> {
+        let closed = self.pieces.close(connection);
+        closed.map_err(|error| error.with(|pieces| ForwardAttributes { pieces }))
     }
 
     /// The building record.
@@ -396,7 +507,7 @@ impl<'b> ForwardAttributes<'b> {
 /// assert!(container.headers_sent());
 /// # Ok::<(), Refusal>(())
 /// ```
-#[derive(Clone, Copy, Debug, PartialEq, Eq)]
+#[derive(Clone, Copy, Debug, PartialEq, Eq, Hash)]
 pub struct SendHeadersHead<'a> {
     /// The response's status, 100 to 599.
     pub status: u16,
@@ -445,10 +556,12 @@ impl<'b> ResponseHeaders<'b> {
         Ok(self)
     }
 
-    /// Closes the packet and sends it: the connection steps, and the packet's bytes are handed out.
+    /// Closes the packet and sends it: the connection steps, and the packet's bytes are handed out. It is judged as the
+    /// server would judge it. With a refusal the builder is handed back.
     #[inline]
-    pub fn close(self, connection: &mut Connection) -> Result<&'b [u8], Refusal> {
-        self.pieces.close(connection)
+    pub fn close(self, connection: &mut Connection) -> Result<&'b [u8], NotClosed<Self>> {
+        let closed = self.pieces.close(connection);
+        closed.map_err(|error| error.with(|pieces| ResponseHeaders { pieces }))
     }
 
     /// The building record.

@@ -1,23 +1,24 @@
 //! The connection: its record, reading, and the packets that one call sends.
 
-use std::fmt;
+use core::fmt;
 
 use crate::packet::Received;
 use crate::raw;
-use crate::refusal::{done, Refusal};
+use crate::refusal::{done, number, Refusal};
 
 /// The state of a connection.
-#[derive(Clone, Copy, Debug, PartialEq, Eq, Hash)]
+#[derive(Clone, Copy, Debug, Default, PartialEq, Eq, Hash)]
 #[repr(u32)]
 pub enum State {
     /// No request is under way.
-    Idle = raw::IDLE,
+    #[default]
+    Idle = raw::STATE_IDLE,
     /// CPing went; CPong is awaited.
-    Pinged = raw::PINGED,
+    Pinged = raw::STATE_PINGED,
     /// A request is under way.
-    Busy = raw::BUSY,
+    Busy = raw::STATE_BUSY,
     /// The connection is not used again.
-    Closed = raw::CLOSED,
+    Closed = raw::STATE_CLOSED,
 }
 
 /// One end of a connection. Each end keeps its own: a send steps the sender's, an accepted packet the receiver's. A
@@ -40,24 +41,28 @@ pub enum State {
 /// let mut container = Connection::fresh();
 /// let mut places = Places::new();
 /// // Two bytes came so far.
-/// assert_eq!(container.read_at_container(&ping[..2], &mut places), Received::Needs(4));
+/// assert_eq!(container.read_at_container(&ping[..2], &mut places)?, Received::Needs(4));
 /// assert_eq!(container.state(), State::Idle);
 /// // And now all.
-/// let received = container.read_at_container(ping, &mut places);
+/// let received = container.read_at_container(ping, &mut places)?;
 /// assert_eq!(received, Received::Accepted { packet: Packet::CPing, taken: 5 });
 /// assert_eq!(container.state(), State::Pinged);
+/// # Ok::<(), ajp13::Refusal>(())
 /// ```
-#[derive(Clone, PartialEq, Eq)]
+///
+/// Two connections are equal where all their words are, also those that do not count in their state. What the library
+/// steps has 0 there. A connection is not `Copy`, so that no copy is stepped in its place by mistake.
+#[derive(Clone, PartialEq, Eq, Hash)]
 pub struct Connection {
-    // Words that can be, always: only the library and `from_fields` write them.
-    words: [u32; raw::CONNECTION_WORDS],
+    // Words in range, always: only the library and `from_fields` write them.
+    words: [u32; raw::SIZE_CONNECTION],
 }
 
 impl Connection {
     /// A fresh connection: Idle, whichever end holds it.
     #[inline]
     pub fn fresh() -> Connection {
-        let mut words = [0; raw::CONNECTION_WORDS];
+        let mut words = [0; raw::SIZE_CONNECTION];
         let status = raw::fresh(&mut words);
         debug_assert_eq!(status, raw::DONE);
         Connection { words }
@@ -73,77 +78,106 @@ impl Connection {
         asked: u16,
         headers_sent: bool,
     ) -> Connection {
-        Connection {
-            words: [
-                state as u32,
-                left,
-                due.into(),
-                asked.into(),
-                headers_sent.into(),
-            ],
-        }
+        let mut words = [0; raw::SIZE_CONNECTION];
+        words[raw::CONNECTION_STATE] = state as u32;
+        words[raw::CONNECTION_LEFT] = left;
+        words[raw::CONNECTION_DUE] = due.into();
+        words[raw::CONNECTION_ASKED] = asked.into();
+        words[raw::CONNECTION_HEADERS] = headers_sent.into();
+        Connection { words }
     }
 
     /// The state.
     #[inline]
     pub fn state(&self) -> State {
-        match self.words[raw::STATE] {
-            raw::IDLE => State::Idle,
-            raw::PINGED => State::Pinged,
-            raw::BUSY => State::Busy,
+        match self.words[raw::CONNECTION_STATE] {
+            raw::STATE_IDLE => State::Idle,
+            raw::STATE_PINGED => State::Pinged,
+            raw::STATE_BUSY => State::Busy,
             _ => State::Closed,
         }
     }
 
-    /// How many bytes of the request's body are still to come.
+    /// How many bytes of the request's body are still to come. Counts only in `Busy`, as the three below do.
     #[inline]
     pub fn left(&self) -> u32 {
-        self.words[raw::LEFT]
+        self.words[raw::CONNECTION_LEFT]
     }
 
     /// Whether a body packet is due.
     #[inline]
     pub fn is_due(&self) -> bool {
-        self.words[raw::DUE] != 0
+        self.words[raw::CONNECTION_DUE] != 0
     }
 
     /// How many bytes were asked for, where a body packet is due.
     #[inline]
     pub fn asked(&self) -> u16 {
-        self.words[raw::ASKED] as u16
+        self.words[raw::CONNECTION_ASKED] as u16
     }
 
     /// Whether Send Headers went.
     #[inline]
     pub fn headers_sent(&self) -> bool {
-        self.words[raw::HEADERS_SENT] != 0
+        self.words[raw::CONNECTION_HEADERS] != 0
     }
 
-    /// The record as the five words of [`raw`].
+    /// The most bytes that the body packet which is due may hold: the least of what was asked for, of
+    /// [`MAX_BODY`](crate::MAX_BODY) and of what is left. Where this is 0, the body packet has to be empty. It is also
+    /// 0 where none is due.
+    ///
+    /// ```
+    /// use ajp13::{Connection, State};
+    ///
+    /// // Nine bytes are left, and five were asked for.
+    /// let mut server = Connection::from_fields(State::Busy, 9, true, 5, false);
+    /// assert_eq!(server.largest_body(), 5);
+    /// server.body(&mut [0; 16], b"valve")?;
+    /// assert!(!server.is_due());
+    /// assert_eq!(server.largest_body(), 0);
+    /// # Ok::<(), ajp13::Refusal>(())
+    /// ```
     #[inline]
-    pub fn words(&self) -> &[u32; raw::CONNECTION_WORDS] {
+    pub fn largest_body(&self) -> u16 {
+        number(raw::largest_body(&self.words))
+    }
+
+    /// The record as the eight words of [`raw`].
+    #[inline]
+    pub fn words(&self) -> &[u32; raw::SIZE_CONNECTION] {
         &self.words
     }
 
     #[inline]
-    pub(crate) fn words_mut(&mut self) -> &mut [u32; raw::CONNECTION_WORDS] {
+    pub(crate) fn words_mut(&mut self) -> &mut [u32; raw::SIZE_CONNECTION] {
         &mut self.words
     }
 
     /// Reads the packet at the start of `bytes`, at the container's end. `table` is lent for the places of headers and
     /// attributes: [`Places`](crate::Places), or any slice.
+    ///
+    /// An error says that the bytes are no packet which the connection may get now, or that the table is too short for
+    /// it. Nothing has changed, and more bytes behind these do not mend it.
     #[inline]
-    pub fn read_at_container<'a>(&mut self, bytes: &'a [u8], table: &'a mut [u16]) -> Received<'a> {
-        let mut answer = [0; raw::ANSWER_WORDS];
+    pub fn read_at_container<'a>(
+        &mut self,
+        bytes: &'a [u8],
+        table: &'a mut [u16],
+    ) -> Result<Received<'a>, Refusal> {
+        let mut answer = [0; raw::SIZE_ANSWER];
         let status = raw::read_at_container(&mut self.words, bytes, table, &mut answer);
         Received::new(status, &answer, bytes, table)
     }
 
     /// Reads the packet at the start of `bytes`, at the server's end. `table` is lent for the places of headers:
-    /// [`Places`](crate::Places), or any slice.
+    /// [`Places`](crate::Places), or any slice. All else is as in [`read_at_container`](Self::read_at_container).
     #[inline]
-    pub fn read_at_server<'a>(&mut self, bytes: &'a [u8], table: &'a mut [u16]) -> Received<'a> {
-        let mut answer = [0; raw::ANSWER_WORDS];
+    pub fn read_at_server<'a>(
+        &mut self,
+        bytes: &'a [u8],
+        table: &'a mut [u16],
+    ) -> Result<Received<'a>, Refusal> {
+        let mut answer = [0; raw::SIZE_ANSWER];
         let status = raw::read_at_server(&mut self.words, bytes, table, &mut answer);
         Received::new(status, &answer, bytes, table)
     }
@@ -165,8 +199,7 @@ impl Connection {
     }
 
     /// Writes a body packet to the start of `buffer` and hands out its bytes. From the server's end, where one is due.
-    /// It holds at most as many bytes as were asked for, as are left and as a body packet holds; at least one, but where
-    /// one of these is 0, none.
+    /// It holds 1 to [`largest_body`](Self::largest_body) bytes; none where that is 0.
     #[inline]
     pub fn body<'b>(&mut self, buffer: &'b mut [u8], bytes: &[u8]) -> Result<&'b [u8], Refusal> {
         sent(buffer, |buffer, answer| {
@@ -211,9 +244,17 @@ pub(crate) fn sent(
     buffer: &mut [u8],
     call: impl FnOnce(&mut [u8], &mut [u32]) -> u32,
 ) -> Result<&[u8], Refusal> {
-    let mut answer = [0; raw::ANSWER_WORDS];
+    let mut answer = [0; raw::SIZE_ANSWER];
     done(call(buffer, &mut answer))?;
-    Ok(&buffer[..answer[raw::BYTES] as usize])
+    Ok(&buffer[..answer[raw::ANSWER_BYTES] as usize])
+}
+
+impl Default for Connection {
+    /// A fresh connection.
+    #[inline]
+    fn default() -> Connection {
+        Connection::fresh()
+    }
 }
 
 impl fmt::Debug for Connection {

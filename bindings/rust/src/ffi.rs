@@ -10,8 +10,9 @@
 
 mod c {
     extern "C" {
-        pub fn ajp13_fresh(connection: *mut u32, connection_length: usize) -> u32;
-        pub fn ajp13_read_at_container(
+        pub fn ajp13_words_fresh(connection: *mut u32, connection_length: usize) -> u32;
+        pub fn ajp13_words_largest_body(connection: *const u32, connection_length: usize) -> u32;
+        pub fn ajp13_words_read_at_container(
             connection: *mut u32,
             connection_length: usize,
             bytes: *const u8,
@@ -21,7 +22,7 @@ mod c {
             answer: *mut u32,
             answer_length: usize,
         ) -> u32;
-        pub fn ajp13_read_at_server(
+        pub fn ajp13_words_read_at_server(
             connection: *mut u32,
             connection_length: usize,
             bytes: *const u8,
@@ -31,7 +32,7 @@ mod c {
             answer: *mut u32,
             answer_length: usize,
         ) -> u32;
-        pub fn ajp13_cping(
+        pub fn ajp13_words_cping(
             connection: *mut u32,
             connection_length: usize,
             buffer: *mut u8,
@@ -39,7 +40,7 @@ mod c {
             answer: *mut u32,
             answer_length: usize,
         ) -> u32;
-        pub fn ajp13_cpong(
+        pub fn ajp13_words_cpong(
             connection: *mut u32,
             connection_length: usize,
             buffer: *mut u8,
@@ -47,17 +48,7 @@ mod c {
             answer: *mut u32,
             answer_length: usize,
         ) -> u32;
-        pub fn ajp13_body(
-            connection: *mut u32,
-            connection_length: usize,
-            buffer: *mut u8,
-            buffer_length: usize,
-            bytes: *const u8,
-            bytes_length: usize,
-            answer: *mut u32,
-            answer_length: usize,
-        ) -> u32;
-        pub fn ajp13_body_chunk(
+        pub fn ajp13_words_body(
             connection: *mut u32,
             connection_length: usize,
             buffer: *mut u8,
@@ -67,7 +58,17 @@ mod c {
             answer: *mut u32,
             answer_length: usize,
         ) -> u32;
-        pub fn ajp13_get_body(
+        pub fn ajp13_words_body_chunk(
+            connection: *mut u32,
+            connection_length: usize,
+            buffer: *mut u8,
+            buffer_length: usize,
+            bytes: *const u8,
+            bytes_length: usize,
+            answer: *mut u32,
+            answer_length: usize,
+        ) -> u32;
+        pub fn ajp13_words_get_body(
             connection: *mut u32,
             connection_length: usize,
             buffer: *mut u8,
@@ -76,7 +77,7 @@ mod c {
             answer: *mut u32,
             answer_length: usize,
         ) -> u32;
-        pub fn ajp13_end(
+        pub fn ajp13_words_end(
             connection: *mut u32,
             connection_length: usize,
             buffer: *mut u8,
@@ -85,7 +86,7 @@ mod c {
             answer: *mut u32,
             answer_length: usize,
         ) -> u32;
-        pub fn ajp13_begin_forward(
+        pub fn ajp13_words_begin_forward(
             building: *mut u32,
             building_length: usize,
             buffer: *mut u8,
@@ -103,7 +104,7 @@ mod c {
             server_name: *const u8,
             server_name_length: usize,
         ) -> u32;
-        pub fn ajp13_begin_send_headers(
+        pub fn ajp13_words_begin_send_headers(
             building: *mut u32,
             building_length: usize,
             buffer: *mut u8,
@@ -113,7 +114,7 @@ mod c {
             message_length: usize,
             null: u32,
         ) -> u32;
-        pub fn ajp13_header_coded(
+        pub fn ajp13_words_header_coded(
             building: *mut u32,
             building_length: usize,
             buffer: *mut u8,
@@ -123,7 +124,7 @@ mod c {
             value_length: usize,
             null: u32,
         ) -> u32;
-        pub fn ajp13_header_spelled(
+        pub fn ajp13_words_header_spelled(
             building: *mut u32,
             building_length: usize,
             buffer: *mut u8,
@@ -135,7 +136,7 @@ mod c {
             value_length: usize,
             novalue: u32,
         ) -> u32;
-        pub fn ajp13_header_named(
+        pub fn ajp13_words_header_named(
             building: *mut u32,
             building_length: usize,
             buffer: *mut u8,
@@ -146,7 +147,7 @@ mod c {
             value_length: usize,
             null: u32,
         ) -> u32;
-        pub fn ajp13_attribute_text(
+        pub fn ajp13_words_attribute_text(
             building: *mut u32,
             building_length: usize,
             buffer: *mut u8,
@@ -156,7 +157,7 @@ mod c {
             value_length: usize,
             null: u32,
         ) -> u32;
-        pub fn ajp13_attribute_integer(
+        pub fn ajp13_words_attribute_integer(
             building: *mut u32,
             building_length: usize,
             buffer: *mut u8,
@@ -164,7 +165,7 @@ mod c {
             code: u32,
             value: u32,
         ) -> u32;
-        pub fn ajp13_attribute_pair(
+        pub fn ajp13_words_attribute_pair(
             building: *mut u32,
             building_length: usize,
             buffer: *mut u8,
@@ -177,7 +178,7 @@ mod c {
             value_length: usize,
             novalue: u32,
         ) -> u32;
-        pub fn ajp13_close(
+        pub fn ajp13_words_close(
             connection: *mut u32,
             connection_length: usize,
             building: *const u32,
@@ -187,14 +188,14 @@ mod c {
             answer: *mut u32,
             answer_length: usize,
         ) -> u32;
-        pub fn ajp13_text_at(
+        pub fn ajp13_words_text_at(
             packet: *const u8,
             packet_length: usize,
             place: u32,
             text: *mut u32,
             text_length: usize,
         ) -> u32;
-        pub fn ajp13_attribute_name_at(
+        pub fn ajp13_words_attribute_name_at(
             packet: *const u8,
             packet_length: usize,
             place: u32,
@@ -210,14 +211,22 @@ mod c {
     }
 }
 
-/// `ajp13_fresh`: makes a connection fresh. Its old words do not matter.
+/// `ajp13_words_fresh`: makes a connection fresh. Its old words do not matter.
 #[inline]
 pub fn fresh(connection: &mut [u32]) -> u32 {
     // SAFETY: as said at the head of this module.
-    unsafe { c::ajp13_fresh(connection.as_mut_ptr(), connection.len()) }
+    unsafe { c::ajp13_words_fresh(connection.as_mut_ptr(), connection.len()) }
 }
 
-/// `ajp13_read_at_container`: reads the packet at the start of `bytes` at the container's end.
+/// `ajp13_words_largest_body`: the most bytes that the body packet which is due may hold; 0 where it has to be empty,
+/// and where none is due.
+#[inline]
+pub fn largest_body(connection: &[u32]) -> u32 {
+    // SAFETY: as said at the head of this module.
+    unsafe { c::ajp13_words_largest_body(connection.as_ptr(), connection.len()) }
+}
+
+/// `ajp13_words_read_at_container`: reads the packet at the start of `bytes` at the container's end.
 #[inline]
 pub fn read_at_container(
     connection: &mut [u32],
@@ -227,7 +236,7 @@ pub fn read_at_container(
 ) -> u32 {
     // SAFETY: as said at the head of this module.
     unsafe {
-        c::ajp13_read_at_container(
+        c::ajp13_words_read_at_container(
             connection.as_mut_ptr(),
             connection.len(),
             bytes.as_ptr(),
@@ -240,7 +249,7 @@ pub fn read_at_container(
     }
 }
 
-/// `ajp13_read_at_server`: reads the packet at the start of `bytes` at the server's end.
+/// `ajp13_words_read_at_server`: reads the packet at the start of `bytes` at the server's end.
 #[inline]
 pub fn read_at_server(
     connection: &mut [u32],
@@ -250,7 +259,7 @@ pub fn read_at_server(
 ) -> u32 {
     // SAFETY: as said at the head of this module.
     unsafe {
-        c::ajp13_read_at_server(
+        c::ajp13_words_read_at_server(
             connection.as_mut_ptr(),
             connection.len(),
             bytes.as_ptr(),
@@ -263,12 +272,12 @@ pub fn read_at_server(
     }
 }
 
-/// `ajp13_cping`: writes a CPing.
+/// `ajp13_words_cping`: writes a CPing.
 #[inline]
 pub fn cping(connection: &mut [u32], buffer: &mut [u8], answer: &mut [u32]) -> u32 {
     // SAFETY: as said at the head of this module.
     unsafe {
-        c::ajp13_cping(
+        c::ajp13_words_cping(
             connection.as_mut_ptr(),
             connection.len(),
             buffer.as_mut_ptr(),
@@ -279,12 +288,12 @@ pub fn cping(connection: &mut [u32], buffer: &mut [u8], answer: &mut [u32]) -> u
     }
 }
 
-/// `ajp13_cpong`: writes a CPong.
+/// `ajp13_words_cpong`: writes a CPong.
 #[inline]
 pub fn cpong(connection: &mut [u32], buffer: &mut [u8], answer: &mut [u32]) -> u32 {
     // SAFETY: as said at the head of this module.
     unsafe {
-        c::ajp13_cpong(
+        c::ajp13_words_cpong(
             connection.as_mut_ptr(),
             connection.len(),
             buffer.as_mut_ptr(),
@@ -295,12 +304,12 @@ pub fn cpong(connection: &mut [u32], buffer: &mut [u8], answer: &mut [u32]) -> u
     }
 }
 
-/// `ajp13_body`: writes a body packet.
+/// `ajp13_words_body`: writes a body packet.
 #[inline]
 pub fn body(connection: &mut [u32], buffer: &mut [u8], bytes: &[u8], answer: &mut [u32]) -> u32 {
     // SAFETY: as said at the head of this module.
     unsafe {
-        c::ajp13_body(
+        c::ajp13_words_body(
             connection.as_mut_ptr(),
             connection.len(),
             buffer.as_mut_ptr(),
@@ -313,7 +322,7 @@ pub fn body(connection: &mut [u32], buffer: &mut [u8], bytes: &[u8], answer: &mu
     }
 }
 
-/// `ajp13_body_chunk`: writes a Send Body Chunk.
+/// `ajp13_words_body_chunk`: writes a Send Body Chunk.
 #[inline]
 pub fn body_chunk(
     connection: &mut [u32],
@@ -323,7 +332,7 @@ pub fn body_chunk(
 ) -> u32 {
     // SAFETY: as said at the head of this module.
     unsafe {
-        c::ajp13_body_chunk(
+        c::ajp13_words_body_chunk(
             connection.as_mut_ptr(),
             connection.len(),
             buffer.as_mut_ptr(),
@@ -336,12 +345,12 @@ pub fn body_chunk(
     }
 }
 
-/// `ajp13_get_body`: writes a Get Body Chunk that asks for `asked` bytes.
+/// `ajp13_words_get_body`: writes a Get Body Chunk that asks for `asked` bytes.
 #[inline]
 pub fn get_body(connection: &mut [u32], buffer: &mut [u8], asked: u32, answer: &mut [u32]) -> u32 {
     // SAFETY: as said at the head of this module.
     unsafe {
-        c::ajp13_get_body(
+        c::ajp13_words_get_body(
             connection.as_mut_ptr(),
             connection.len(),
             buffer.as_mut_ptr(),
@@ -353,12 +362,12 @@ pub fn get_body(connection: &mut [u32], buffer: &mut [u8], asked: u32, answer: &
     }
 }
 
-/// `ajp13_end`: writes an End Response; `reuse` is 0 or 1.
+/// `ajp13_words_end`: writes an End Response; `reuse` is 0 or 1, else it is refused.
 #[inline]
 pub fn end(connection: &mut [u32], buffer: &mut [u8], reuse: u32, answer: &mut [u32]) -> u32 {
     // SAFETY: as said at the head of this module.
     unsafe {
-        c::ajp13_end(
+        c::ajp13_words_end(
             connection.as_mut_ptr(),
             connection.len(),
             buffer.as_mut_ptr(),
@@ -370,8 +379,8 @@ pub fn end(connection: &mut [u32], buffer: &mut [u8], reuse: u32, answer: &mut [
     }
 }
 
-/// `ajp13_begin_forward`: writes the fixed fields of a Forward Request and its building record, whose old words do not
-/// matter. `fixed` has the numbers, and a flag for each string that is null.
+/// `ajp13_words_begin_forward`: writes the fixed fields of a Forward Request and its building record, whose old words
+/// do not matter. `fixed` has the numbers, and a flag for each string that is null.
 #[inline]
 pub fn begin_forward(
     building: &mut [u32],
@@ -385,7 +394,7 @@ pub fn begin_forward(
 ) -> u32 {
     // SAFETY: as said at the head of this module.
     unsafe {
-        c::ajp13_begin_forward(
+        c::ajp13_words_begin_forward(
             building.as_mut_ptr(),
             building.len(),
             buffer.as_mut_ptr(),
@@ -406,8 +415,8 @@ pub fn begin_forward(
     }
 }
 
-/// `ajp13_begin_send_headers`: writes the fixed fields of a Send Headers and its building record, whose old words do
-/// not matter. `null` is 1 where the message is null.
+/// `ajp13_words_begin_send_headers`: writes the fixed fields of a Send Headers and its building record, whose old words
+/// do not matter. `null` is 1 where the message is null.
 #[inline]
 pub fn begin_send_headers(
     building: &mut [u32],
@@ -418,7 +427,7 @@ pub fn begin_send_headers(
 ) -> u32 {
     // SAFETY: as said at the head of this module.
     unsafe {
-        c::ajp13_begin_send_headers(
+        c::ajp13_words_begin_send_headers(
             building.as_mut_ptr(),
             building.len(),
             buffer.as_mut_ptr(),
@@ -431,7 +440,7 @@ pub fn begin_send_headers(
     }
 }
 
-/// `ajp13_header_coded`: adds a header with a code for its name. `null` is 1 where the value is null.
+/// `ajp13_words_header_coded`: adds a header with a code for its name. `null` is 1 where the value is null.
 #[inline]
 pub fn header_coded(
     building: &mut [u32],
@@ -442,7 +451,7 @@ pub fn header_coded(
 ) -> u32 {
     // SAFETY: as said at the head of this module.
     unsafe {
-        c::ajp13_header_coded(
+        c::ajp13_words_header_coded(
             building.as_mut_ptr(),
             building.len(),
             buffer.as_mut_ptr(),
@@ -455,7 +464,7 @@ pub fn header_coded(
     }
 }
 
-/// `ajp13_header_spelled`: adds a header with a name that is spelled out. `noname` and `novalue` are 1 where that
+/// `ajp13_words_header_spelled`: adds a header with a name that is spelled out. `noname` and `novalue` are 1 where that
 /// string is null.
 #[inline]
 pub fn header_spelled(
@@ -468,7 +477,7 @@ pub fn header_spelled(
 ) -> u32 {
     // SAFETY: as said at the head of this module.
     unsafe {
-        c::ajp13_header_spelled(
+        c::ajp13_words_header_spelled(
             building.as_mut_ptr(),
             building.len(),
             buffer.as_mut_ptr(),
@@ -483,7 +492,7 @@ pub fn header_spelled(
     }
 }
 
-/// `ajp13_header_named`: adds a header by its name, with its code where the name is listed. `null` is 1 where the
+/// `ajp13_words_header_named`: adds a header by its name, with its code where the name is listed. `null` is 1 where the
 /// value is null.
 #[inline]
 pub fn header_named(
@@ -495,7 +504,7 @@ pub fn header_named(
 ) -> u32 {
     // SAFETY: as said at the head of this module.
     unsafe {
-        c::ajp13_header_named(
+        c::ajp13_words_header_named(
             building.as_mut_ptr(),
             building.len(),
             buffer.as_mut_ptr(),
@@ -509,7 +518,7 @@ pub fn header_named(
     }
 }
 
-/// `ajp13_attribute_text`: adds an attribute whose value is a string. `null` is 1 where the value is null.
+/// `ajp13_words_attribute_text`: adds an attribute whose value is a string. `null` is 1 where the value is null.
 #[inline]
 pub fn attribute_text(
     building: &mut [u32],
@@ -520,7 +529,7 @@ pub fn attribute_text(
 ) -> u32 {
     // SAFETY: as said at the head of this module.
     unsafe {
-        c::ajp13_attribute_text(
+        c::ajp13_words_attribute_text(
             building.as_mut_ptr(),
             building.len(),
             buffer.as_mut_ptr(),
@@ -533,12 +542,12 @@ pub fn attribute_text(
     }
 }
 
-/// `ajp13_attribute_integer`: adds an attribute whose value is an integer.
+/// `ajp13_words_attribute_integer`: adds an attribute whose value is an integer.
 #[inline]
 pub fn attribute_integer(building: &mut [u32], buffer: &mut [u8], code: u32, value: u32) -> u32 {
     // SAFETY: as said at the head of this module.
     unsafe {
-        c::ajp13_attribute_integer(
+        c::ajp13_words_attribute_integer(
             building.as_mut_ptr(),
             building.len(),
             buffer.as_mut_ptr(),
@@ -549,8 +558,8 @@ pub fn attribute_integer(building: &mut [u32], buffer: &mut [u8], code: u32, val
     }
 }
 
-/// `ajp13_attribute_pair`: adds an attribute that brings its own name with it. `noname` and `novalue` are 1 where that
-/// string is null.
+/// `ajp13_words_attribute_pair`: adds an attribute that brings its own name with it. `noname` and `novalue` are 1 where
+/// that string is null.
 #[inline]
 pub fn attribute_pair(
     building: &mut [u32],
@@ -563,7 +572,7 @@ pub fn attribute_pair(
 ) -> u32 {
     // SAFETY: as said at the head of this module.
     unsafe {
-        c::ajp13_attribute_pair(
+        c::ajp13_words_attribute_pair(
             building.as_mut_ptr(),
             building.len(),
             buffer.as_mut_ptr(),
@@ -579,7 +588,7 @@ pub fn attribute_pair(
     }
 }
 
-/// `ajp13_close`: closes a packet that was built in pieces, and steps the connection.
+/// `ajp13_words_close`: closes a packet that was built in pieces, and steps the connection.
 #[inline]
 pub fn close(
     connection: &mut [u32],
@@ -589,7 +598,7 @@ pub fn close(
 ) -> u32 {
     // SAFETY: as said at the head of this module.
     unsafe {
-        c::ajp13_close(
+        c::ajp13_words_close(
             connection.as_mut_ptr(),
             connection.len(),
             building.as_ptr(),
@@ -602,12 +611,12 @@ pub fn close(
     }
 }
 
-/// `ajp13_text_at`: where the string at a place stands, its length, and whether it is null.
+/// `ajp13_words_text_at`: where the string at a place stands, its length, and whether it is null.
 #[inline]
 pub fn text_at(packet: &[u8], place: u32, text: &mut [u32]) -> u32 {
     // SAFETY: as said at the head of this module.
     unsafe {
-        c::ajp13_text_at(
+        c::ajp13_words_text_at(
             packet.as_ptr(),
             packet.len(),
             place,
@@ -617,12 +626,12 @@ pub fn text_at(packet: &[u8], place: u32, text: &mut [u32]) -> u32 {
     }
 }
 
-/// `ajp13_attribute_name_at`: where the name stands that an attribute 0A brings with it, by its code's place.
+/// `ajp13_words_attribute_name_at`: where the name stands that an attribute 0A brings with it, by its code's place.
 #[inline]
 pub fn attribute_name_at(packet: &[u8], place: u32, text: &mut [u32]) -> u32 {
     // SAFETY: as said at the head of this module.
     unsafe {
-        c::ajp13_attribute_name_at(
+        c::ajp13_words_attribute_name_at(
             packet.as_ptr(),
             packet.len(),
             place,

@@ -1,16 +1,20 @@
 //! Both ends of an AJP13 connection, the protocol between a web server and a servlet container: packets taken out of
 //! lent bytes, checked and viewed, packets built, and the connection's cycle kept. Sockets and HTTP are left to others.
 //!
-//! The work is done by a proved library, written in Rattle, which this crate links and calls through its C entry points.
-//! Nothing here allocates, and nothing is kept between calls but the [`Connection`] that the caller holds.
+//! The work is done by a proved library, written in Rattle, which this crate links and calls through its C entry
+//! points. Nothing here allocates or needs the standard library (`no_std`), and nothing is kept between calls but the
+//! [`Connection`] that the caller holds.
 //!
 //! - **Reading**: [`Connection::read_at_container`] and [`Connection::read_at_server`] take bytes as they came and
-//!   answer a [`Received`]: more is needed, a [`Refusal`], or a [`Packet`], whose fields are views of those bytes.
+//!   answer a [`Refusal`] or a [`Received`]: more is needed, or a [`Packet`], whose fields are views of those bytes.
 //! - **Sending**: [`Connection::cping`], [`cpong`](Connection::cpong), [`body`](Connection::body),
 //!   [`body_chunk`](Connection::body_chunk), [`get_body`](Connection::get_body) and [`end`](Connection::end) each
 //!   write a packet into a lent buffer. A Forward Request and a Send Headers are built in pieces, from a
 //!   [`ForwardHead`] and a [`SendHeadersHead`].
-//! - A refusal changes nothing: not the connection, the table of places, the buffer, nor what is built so far.
+//! - A refusal changes nothing: not the connection, the table of places, the buffer, nor what is built so far. A packet
+//!   that is refused when it is closed is handed back in [`NotClosed`].
+//!
+//! The examples `container` and `server` are the two ends over a stream whose bytes arrive in parts.
 //!
 //! A request with a body and its answer; two lists of bytes stand for the two ways of a socket:
 //!
@@ -48,7 +52,9 @@
 //! let mut body: Vec<u8> = Vec::new();
 //! let mut at = 0;
 //! while at < to_container.len() {
-//!     match container.read_at_container(&to_container[at..], &mut places) {
+//!     match container.read_at_container(&to_container[at..], &mut places)? {
+//!         // A program with a socket would read on until `n` bytes are there.
+//!         Received::Needs(n) => panic!("{n} bytes are needed"),
 //!         Received::Accepted { packet, taken } => {
 //!             at += taken;
 //!             match packet {
@@ -63,8 +69,6 @@
 //!                 other => panic!("not expected: {other:?}"),
 //!             }
 //!         }
-//!         // A program with a socket would read more from it, or close it.
-//!         other => panic!("{other:?}"),
 //!     }
 //! }
 //! assert_eq!(body, b"open!");
@@ -82,8 +86,8 @@
 //! let mut answer: Vec<u8> = Vec::new();
 //! let mut at = 0;
 //! while at < to_server.len() {
-//!     let Received::Accepted { packet, taken } = server.read_at_server(&to_server[at..], &mut places) else {
-//!         panic!("the container's end writes whole packets that the server's end accepts");
+//!     let Received::Accepted { packet, taken } = server.read_at_server(&to_server[at..], &mut places)? else {
+//!         panic!("the container's end writes whole packets");
 //!     };
 //!     at += taken;
 //!     match packet {
@@ -102,6 +106,7 @@
 //! # Ok::<(), ajp13::Refusal>(())
 //! ```
 
+#![no_std]
 #![deny(missing_docs)]
 #![deny(missing_debug_implementations)]
 #![deny(unsafe_op_in_unsafe_fn)]
@@ -118,8 +123,8 @@ pub mod raw;
 mod refusal;
 
 pub use building::{
-    Building, BuildingKind, ForwardAttributes, ForwardHead, ForwardHeaders, ResponseHeaders,
-    SendHeadersHead,
+    Building, BuildingKind, ForwardAttributes, ForwardHead, ForwardHeaders, NotClosed,
+    ResponseHeaders, SendHeadersHead,
 };
 pub use connection::{Connection, State};
 pub use names::{

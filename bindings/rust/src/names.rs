@@ -1,8 +1,8 @@
 //! The listed names of methods, headers and attributes, and their codes.
 
-use std::fmt;
-use std::ops::Deref;
-use std::str;
+use core::fmt;
+use core::ops::Deref;
+use core::str;
 
 use crate::raw;
 use crate::refusal::number;
@@ -19,7 +19,7 @@ use crate::refusal::number;
 #[derive(Clone, Copy, PartialEq, Eq, Hash)]
 pub struct Name {
     // Zeros stand behind the name.
-    bytes: [u8; raw::NAME_BYTES],
+    bytes: [u8; raw::SIZE_NAME],
     length: u8,
 }
 
@@ -83,7 +83,7 @@ impl NameList {
     /// The name that this list has for a code.
     #[inline]
     pub fn name(self, code: u16) -> Option<Name> {
-        let mut bytes = [0; raw::NAME_BYTES];
+        let mut bytes = [0; raw::SIZE_NAME];
         match number(raw::name(self as u32, code.into(), &mut bytes)) {
             0 => None,
             length => Some(Name {
@@ -163,7 +163,7 @@ pub fn attribute_code(name: &[u8]) -> Option<u16> {
 /// // Methods are told apart by case.
 /// assert_eq!(Method::from_name(b"post"), None);
 /// ```
-#[derive(Clone, Copy, PartialEq, Eq, Hash)]
+#[derive(Clone, Copy, PartialEq, Eq, Hash, PartialOrd, Ord)]
 pub struct Method(u16);
 
 impl Method {

@@ -1,9 +1,9 @@
 //! What reading answers: packets, and views of their fields.
 
-use std::fmt;
-use std::iter::FusedIterator;
-use std::ops::{Deref, DerefMut};
-use std::slice::ChunksExact;
+use core::fmt;
+use core::iter::FusedIterator;
+use core::ops::{Deref, DerefMut};
+use core::slice::ChunksExact;
 
 use crate::names::{attribute, Method, Name, NameList};
 use crate::raw;
@@ -22,15 +22,16 @@ use crate::refusal::{impossible, number, Refusal};
 /// let ping = b"\x12\x34\x00\x01\x0A";
 ///
 /// let mut places = Places::new();
-/// let received = connection.read_at_container(ping, &mut places);
+/// let received = connection.read_at_container(ping, &mut places)?;
 /// assert_eq!(received, Received::Accepted { packet: Packet::CPing, taken: 5 });
 ///
 /// // A CPing needs no places at all.
 /// let mut connection = Connection::fresh();
-/// let received = connection.read_at_container(ping, &mut []);
+/// let received = connection.read_at_container(ping, &mut [])?;
 /// assert_eq!(received, Received::Accepted { packet: Packet::CPing, taken: 5 });
+/// # Ok::<(), ajp13::Refusal>(())
 /// ```
-#[derive(Clone, PartialEq, Eq)]
+#[derive(Clone, PartialEq, Eq, Hash)]
 pub struct Places([u16; raw::MAX_PLACES]);
 
 impl Places {
@@ -42,6 +43,8 @@ impl Places {
 }
 
 impl Default for Places {
+    /// A table of 328 places.
+    #[inline]
     fn default() -> Places {
         Places::new()
     }
@@ -69,14 +72,31 @@ impl fmt::Debug for Places {
     }
 }
 
-/// What reading answers.
-#[derive(Clone, Copy, Debug, PartialEq, Eq)]
+/// What reading answers where it refuses nothing. The calls that read answer a `Result` of it, so that a function over
+/// [`Refusal`] goes on with `?`.
+///
+/// ```
+/// use ajp13::{Connection, Packet, Places, Received, Refusal};
+///
+/// /// How many bytes the CPing at the start of `bytes` has; none where it is not whole yet.
+/// fn ping(connection: &mut Connection, bytes: &[u8]) -> Result<Option<usize>, Refusal> {
+///     match connection.read_at_container(bytes, &mut Places::new())? {
+///         Received::Needs(_n) => Ok(None),
+///         Received::Accepted { packet: Packet::CPing, taken } => Ok(Some(taken)),
+///         Received::Accepted { .. } => Err(Refusal::NotNow),
+///     }
+/// }
+///
+/// let mut connection = Connection::fresh();
+/// assert_eq!(ping(&mut connection, b"\x12\x34\x00"), Ok(None));
+/// assert_eq!(ping(&mut connection, b"\x12\x34\x00\x01\x0A"), Ok(Some(5)));
+/// assert_eq!(ping(&mut connection, b"\x41"), Err(Refusal::LeadingWrong));
+/// ```
+#[derive(Clone, Copy, Debug, PartialEq, Eq, Hash)]
 #[must_use]
 pub enum Received<'a> {
     /// The packet is not whole yet: read again when there are this many bytes in all. Nothing has changed.
     Needs(usize),
-    /// The bytes are no packet that the connection may get now. Nothing has changed.
-    Refused(Refusal),
     /// A packet; the connection has stepped.
     Accepted {
         /// The packet: a view of the lent bytes and the lent table.
@@ -91,20 +111,20 @@ impl<'a> Received<'a> {
     #[inline]
     pub(crate) fn new(
         status: u32,
-        answer: &[u32; raw::ANSWER_WORDS],
+        answer: &[u32; raw::SIZE_ANSWER],
         bytes: &'a [u8],
         table: &'a [u16],
-    ) -> Received<'a> {
+    ) -> Result<Received<'a>, Refusal> {
         match status {
             raw::DONE => {
-                let taken = answer[raw::BYTES] as usize;
-                Received::Accepted {
+                let taken = answer[raw::ANSWER_BYTES] as usize;
+                Ok(Received::Accepted {
                     packet: Packet::new(answer, &bytes[..taken], table),
                     taken,
-                }
+                })
             }
-            raw::NEEDS => Received::Needs(answer[raw::BYTES] as usize),
-            _ => Received::Refused(Refusal::from_status(status)),
+            raw::NEEDS => Ok(Received::Needs(answer[raw::ANSWER_BYTES] as usize)),
+            _ => Err(Refusal::from_status(status)),
         }
     }
 }
@@ -112,7 +132,7 @@ impl<'a> Received<'a> {
 /// A packet that was accepted.
 ///
 /// The container's end gets `CPing`, `Forward` and `Body`, the server's end the others.
-#[derive(Clone, Copy, PartialEq, Eq)]
+#[derive(Clone, Copy, PartialEq, Eq, Hash)]
 pub enum Packet<'a> {
     /// CPing.
     CPing,
@@ -137,31 +157,37 @@ pub enum Packet<'a> {
 
 impl<'a> Packet<'a> {
     #[inline]
-    fn new(answer: &[u32; raw::ANSWER_WORDS], packet: &'a [u8], table: &'a [u16]) -> Packet<'a> {
-        match answer[raw::KIND] {
-            raw::CPING => Packet::CPing,
-            raw::CPONG => Packet::CPong,
-            raw::FORWARD => {
-                let entries = answer[raw::HEADERS] + answer[raw::ATTRIBUTES];
+    fn new(answer: &[u32; raw::SIZE_ANSWER], packet: &'a [u8], table: &'a [u16]) -> Packet<'a> {
+        match answer[raw::ANSWER_KIND] {
+            raw::KIND_CPING => Packet::CPing,
+            raw::KIND_CPONG => Packet::CPong,
+            raw::KIND_FORWARD => {
+                let entries = answer[raw::ANSWER_HEADERS] + answer[raw::ANSWER_ATTRIBUTES];
                 Packet::Forward(Forward {
                     packet,
                     places: &table[..2 * entries as usize],
                     answer: *answer,
                 })
             }
-            raw::BODY => Packet::Body(part(packet, answer[raw::START], answer[raw::LEN])),
-            raw::GET_BODY => Packet::GetBody(number(answer[raw::ASKED_FOR])),
-            raw::SEND_HEADERS => Packet::SendHeaders(SendHeaders {
+            raw::KIND_BODY => Packet::Body(part(
                 packet,
-                places: &table[..2 * answer[raw::HEADERS] as usize],
-                status: number(answer[raw::STATUS]),
-                message: number(answer[raw::MESSAGE]),
+                answer[raw::ANSWER_START],
+                answer[raw::ANSWER_LENGTH],
+            )),
+            raw::KIND_GET_BODY => Packet::GetBody(number(answer[raw::ANSWER_ASKED])),
+            raw::KIND_SEND_HEADERS => Packet::SendHeaders(SendHeaders {
+                packet,
+                places: &table[..2 * answer[raw::ANSWER_HEADERS] as usize],
+                status: number(answer[raw::ANSWER_STATUS]),
+                message: number(answer[raw::ANSWER_MESSAGE]),
             }),
-            raw::BODY_CHUNK => {
-                Packet::BodyChunk(part(packet, answer[raw::START], answer[raw::LEN]))
-            }
-            raw::END => Packet::End {
-                reuse: answer[raw::REUSE] != 0,
+            raw::KIND_BODY_CHUNK => Packet::BodyChunk(part(
+                packet,
+                answer[raw::ANSWER_START],
+                answer[raw::ANSWER_LENGTH],
+            )),
+            raw::KIND_END => Packet::End {
+                reuse: answer[raw::ANSWER_REUSE] != 0,
             },
             kind => impossible(kind),
         }
@@ -192,7 +218,7 @@ fn part(packet: &[u8], start: u32, length: u32) -> &[u8] {
 
 /// The bytes that a view's answer says; none for null.
 #[inline]
-fn viewed(packet: &[u8], status: u32, text: [u32; raw::TEXT_WORDS]) -> Option<&[u8]> {
+fn viewed(packet: &[u8], status: u32, text: [u32; raw::SIZE_TEXT]) -> Option<&[u8]> {
     if status != raw::DONE {
         impossible(status);
     }
@@ -206,7 +232,7 @@ fn viewed(packet: &[u8], status: u32, text: [u32; raw::TEXT_WORDS]) -> Option<&[
 /// The string at a place.
 #[inline]
 fn text_at(packet: &[u8], place: u32) -> Option<&[u8]> {
-    let mut text = [0; raw::TEXT_WORDS];
+    let mut text = [0; raw::SIZE_TEXT];
     let status = raw::text_at(packet, place, &mut text);
     viewed(packet, status, text)
 }
@@ -220,7 +246,7 @@ fn name_at(packet: &[u8], place: u32) -> &[u8] {
 /// The name of the attribute 0A whose code is at a place.
 #[inline]
 fn attribute_name_at(packet: &[u8], place: u32) -> &[u8] {
-    let mut text = [0; raw::TEXT_WORDS];
+    let mut text = [0; raw::SIZE_TEXT];
     let status = raw::attribute_name_at(packet, place, &mut text);
     viewed(packet, status, text).unwrap_or_default()
 }
@@ -235,7 +261,7 @@ fn attribute_name_at(packet: &[u8], place: u32) -> &[u8] {
 /// let bytes = b"\x12\x34\x00\x28\x02\x02\x00\x08HTTP/1.1\0\x00\x01/\0\xFF\xFF\xFF\xFF\xFF\xFF\x00\x50\
 ///     \x00\x00\x01\xA0\x0B\x00\x01h\0\x06\x00\x01r\0\xFF";
 /// let mut places = Places::new();
-/// let received = Connection::fresh().read_at_container(bytes, &mut places);
+/// let received = Connection::fresh().read_at_container(bytes, &mut places)?;
 /// let Received::Accepted { packet: Packet::Forward(forward), taken: 44 } = received else {
 ///     panic!("{received:?}");
 /// };
@@ -253,74 +279,75 @@ fn attribute_name_at(packet: &[u8], place: u32) -> &[u8] {
 ///
 /// let attribute = forward.attributes().next().unwrap();
 /// assert_eq!(attribute, Attribute::Text { code: 6, value: Some(b"r") });
+/// # Ok::<(), ajp13::Refusal>(())
 /// ```
-#[derive(Clone, Copy, PartialEq, Eq)]
+#[derive(Clone, Copy, PartialEq, Eq, Hash)]
 pub struct Forward<'a> {
     packet: &'a [u8],
     // Two for each header, then two for each attribute.
     places: &'a [u16],
-    answer: [u32; raw::ANSWER_WORDS],
+    answer: [u32; raw::SIZE_ANSWER],
 }
 
 impl<'a> Forward<'a> {
     /// The method.
     #[inline]
     pub fn method(&self) -> Method {
-        Method::from_code(number(self.answer[raw::METHOD]))
+        Method::from_code(number(self.answer[raw::ANSWER_METHOD]))
     }
 
     /// The protocol, such as `HTTP/1.1`. Neither null nor empty.
     #[inline]
     pub fn protocol(&self) -> &'a [u8] {
-        name_at(self.packet, self.answer[raw::PROTOCOL])
+        name_at(self.packet, self.answer[raw::ANSWER_PROTOCOL])
     }
 
     /// The path of what is asked for. Neither null nor empty.
     #[inline]
     pub fn req_uri(&self) -> &'a [u8] {
-        name_at(self.packet, self.answer[raw::REQ_URI])
+        name_at(self.packet, self.answer[raw::ANSWER_REQ_URI])
     }
 
     /// The client's address.
     #[inline]
     pub fn remote_addr(&self) -> Option<&'a [u8]> {
-        text_at(self.packet, self.answer[raw::REMOTE_ADDR])
+        text_at(self.packet, self.answer[raw::ANSWER_REMOTE_ADDR])
     }
 
     /// The client's name.
     #[inline]
     pub fn remote_host(&self) -> Option<&'a [u8]> {
-        text_at(self.packet, self.answer[raw::REMOTE_HOST])
+        text_at(self.packet, self.answer[raw::ANSWER_REMOTE_HOST])
     }
 
     /// The server's name.
     #[inline]
     pub fn server_name(&self) -> Option<&'a [u8]> {
-        text_at(self.packet, self.answer[raw::SERVER_NAME])
+        text_at(self.packet, self.answer[raw::ANSWER_SERVER_NAME])
     }
 
     /// The server's port.
     #[inline]
     pub fn server_port(&self) -> u16 {
-        number(self.answer[raw::SERVER_PORT])
+        number(self.answer[raw::ANSWER_SERVER_PORT])
     }
 
     /// Whether the client's connection is encrypted.
     #[inline]
     pub fn is_ssl(&self) -> bool {
-        self.answer[raw::IS_SSL] != 0
+        self.answer[raw::ANSWER_IS_SSL] != 0
     }
 
     /// How long the request's body is: its content-length, 0 where it has none.
     #[inline]
     pub fn declared_length(&self) -> u32 {
-        self.answer[raw::DECLARED]
+        self.answer[raw::ANSWER_DECLARED]
     }
 
     /// How many of the places are those of headers.
     #[inline]
     fn split(&self) -> usize {
-        2 * self.answer[raw::HEADERS] as usize
+        2 * self.answer[raw::ANSWER_HEADERS] as usize
     }
 
     /// The headers, in the packet's order.
@@ -381,7 +408,7 @@ impl fmt::Debug for Forward<'_> {
 }
 
 /// A Send Headers: a view of the lent bytes and the lent table.
-#[derive(Clone, Copy, PartialEq, Eq)]
+#[derive(Clone, Copy, PartialEq, Eq, Hash)]
 pub struct SendHeaders<'a> {
     packet: &'a [u8],
     // Two for each header.
@@ -438,7 +465,7 @@ impl fmt::Debug for SendHeaders<'_> {
 }
 
 /// A header's name, as it stands in the packet.
-#[derive(Clone, Copy, PartialEq, Eq)]
+#[derive(Clone, Copy, PartialEq, Eq, Hash)]
 pub enum HeaderName<'a> {
     /// A listed name, by its code.
     Code(u16),
@@ -456,7 +483,7 @@ impl fmt::Debug for HeaderName<'_> {
 }
 
 /// A header.
-#[derive(Clone, Copy, PartialEq, Eq)]
+#[derive(Clone, Copy, PartialEq, Eq, Hash)]
 pub struct Header<'a> {
     /// The name, by its code or spelled out; [`Header::name_text`] has its letters either way.
     pub name: HeaderName<'a>,
@@ -501,7 +528,7 @@ impl fmt::Debug for Header<'_> {
 }
 
 /// The letters of a header's or an attribute's name. It can be used as its bytes.
-#[derive(Clone, Copy, PartialEq, Eq)]
+#[derive(Clone, Copy, PartialEq, Eq, Hash)]
 pub enum NameText<'a> {
     /// The name that is listed for a code.
     Listed(Name),
@@ -534,6 +561,13 @@ impl Deref for NameText<'_> {
 
     #[inline]
     fn deref(&self) -> &[u8] {
+        self.as_bytes()
+    }
+}
+
+impl AsRef<[u8]> for NameText<'_> {
+    #[inline]
+    fn as_ref(&self) -> &[u8] {
         self.as_bytes()
     }
 }
@@ -614,7 +648,7 @@ impl fmt::Debug for Headers<'_> {
 }
 
 /// An attribute of a Forward.
-#[derive(Clone, Copy, PartialEq, Eq)]
+#[derive(Clone, Copy, PartialEq, Eq, Hash)]
 pub enum Attribute<'a> {
     /// One whose value is a string.
     Text {

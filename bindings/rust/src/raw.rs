@@ -1,75 +1,81 @@
 //! The C calls, one safe function each, over arrays and slices of any length and any contents.
 //!
 //! The types of this crate are made of these. Use this module where a record comes from elsewhere, or where a call is
-//! to be given what those types rule out: an array of the wrong length, a word that cannot be, a null name. The C
-//! header `ajp13.h` says what each call does, writes and answers; the constants here have its names without `AJP13_`.
+//! to be given what those types rule out: an array of the wrong length, a word out of range, a null name. The C header
+//! `ajp13.h` says what each call does, writes and answers; the constants here have its names without `AJP13_`. The
+//! refusals, methods and attributes of the header are [`Refusal`](crate::Refusal), [`Method`](crate::Method) and
+//! [`attribute`](mod@crate::attribute).
 //!
 //! Every function answers a number: [`DONE`], the number of a [`Refusal`](crate::Refusal), [`NEEDS`], or an error;
-//! [`integer_at`] and those below it answer the number that was asked for, or an error. With a refusal or an error
-//! nothing is written.
+//! [`largest_body`], [`integer_at`], [`header_code_at`], [`attribute_code_at`], [`attribute_kind_at`], [`name`] and
+//! [`code`] answer the number that was asked for, or an error. With a refusal or an error nothing is written.
 //!
 //! ```
 //! use ajp13::raw;
 //!
-//! let mut connection = [7; raw::CONNECTION_WORDS];
+//! let mut connection = [7; raw::SIZE_CONNECTION];
 //! assert_eq!(raw::fresh(&mut connection), raw::DONE);
-//! assert_eq!(connection, [0; raw::CONNECTION_WORDS]);
+//! assert_eq!(connection, [0; raw::SIZE_CONNECTION]);
 //!
-//! // Four words are no connection.
-//! assert_eq!(raw::fresh(&mut connection[..4]), raw::CONNECTION_LENGTH);
+//! // Seven words are no connection.
+//! assert_eq!(raw::fresh(&mut connection[..7]), raw::ERROR_CONNECTION_LENGTH);
 //!
 //! // The table and the answer are lent.
 //! let mut table = [0; raw::MAX_PLACES];
-//! let mut answer = [0; raw::ANSWER_WORDS];
+//! let mut answer = [0; raw::SIZE_ANSWER];
 //! let status = raw::read_at_container(&mut connection, b"\x12\x34\x00", &mut table, &mut answer);
 //! assert_eq!(status, raw::NEEDS);
-//! assert_eq!(answer[raw::BYTES], 4);
+//! assert_eq!(answer[raw::ANSWER_BYTES], 4);
 //! ```
 
 pub use crate::ffi::{
     attribute_code_at, attribute_integer, attribute_kind_at, attribute_name_at, attribute_pair,
     attribute_text, begin_forward, begin_send_headers, body, body_chunk, close, code, cping, cpong,
     end, fresh, get_body, header_code_at, header_coded, header_named, header_spelled, integer_at,
-    name, read_at_container, read_at_server, text_at,
+    largest_body, name, read_at_container, read_at_server, text_at,
 };
 
 // Statuses.
 
 /// Accepted, written or added.
 pub const DONE: u32 = 0;
-/// Reading: the packet is not whole yet; `answer[BYTES]` bytes are needed in all.
+/// Reading: the packet is not whole yet; `answer[ANSWER_BYTES]` bytes are needed in all.
 pub const NEEDS: u32 = 0x10000;
-/// Error: the connection has not [`CONNECTION_WORDS`] words.
-pub const CONNECTION_LENGTH: u32 = 0x10001;
-/// Error: a word of the connection cannot be.
-pub const CONNECTION_WORD: u32 = 0x10002;
-/// Error: the building record has not [`BUILDING_WORDS`] words.
-pub const BUILDING_LENGTH: u32 = 0x10003;
-/// Error: a word of the building record cannot be.
-pub const BUILDING_WORD: u32 = 0x10004;
-/// Error: the fixed numbers of a Forward are not [`FIXED_WORDS`] words.
-pub const FIXED_LENGTH: u32 = 0x10005;
-/// Error: a word of the fixed numbers cannot be.
-pub const FIXED_WORD: u32 = 0x10006;
-/// Error: an array lent for the answer has not its length.
-pub const ANSWER_LENGTH: u32 = 0x10007;
-/// Error: a number argument above 65535, a flag above 1 or a list above 3.
-pub const ARGUMENT: u32 = 0x10008;
+/// Error: the connection has not [`SIZE_CONNECTION`] words.
+pub const ERROR_CONNECTION_LENGTH: u32 = 0x10001;
+/// Error: a word of the connection is out of range: the state above 3, or head, edition or open not 0; and in Busy due
+/// or headers above 1, or asked above 65535 where a body packet is due.
+pub const ERROR_CONNECTION_WORD: u32 = 0x10002;
+/// Error: the building record has not [`SIZE_BUILDING`] words.
+pub const ERROR_BUILDING_LENGTH: u32 = 0x10003;
+/// Error: a word of the building record is out of range: the kind neither [`KIND_FORWARD`] nor [`KIND_SEND_HEADERS`],
+/// or attributes above 1.
+pub const ERROR_BUILDING_WORD: u32 = 0x10004;
+/// Error: the fixed numbers of a Forward are not [`SIZE_FIXED`] words.
+pub const ERROR_FIXED_LENGTH: u32 = 0x10005;
+/// Error: a word of the fixed numbers is out of range: the port above 65535, or a flag that says null above 1.
+pub const ERROR_FIXED_WORD: u32 = 0x10006;
+/// Error: an array lent for the answer has not its length: an answer [`SIZE_ANSWER`], a text [`SIZE_TEXT`], a name
+/// [`SIZE_NAME`].
+pub const ERROR_ANSWER_LENGTH: u32 = 0x10007;
+/// Error: an argument is out of range: what a Get Body asks for, the value of an attribute that is an integer or a
+/// view's place above 65535, a flag that says null above 1, or a list above 3.
+pub const ERROR_ARGUMENT: u32 = 0x10008;
 
 // Sizes.
 
 /// Words of a connection.
-pub const CONNECTION_WORDS: usize = 5;
+pub const SIZE_CONNECTION: usize = 8;
 /// Words of a building record.
-pub const BUILDING_WORDS: usize = 5;
+pub const SIZE_BUILDING: usize = 5;
 /// Words of an answer.
-pub const ANSWER_WORDS: usize = 13;
+pub const SIZE_ANSWER: usize = 16;
 /// Words of a text.
-pub const TEXT_WORDS: usize = 3;
+pub const SIZE_TEXT: usize = 3;
 /// Words of a Forward's fixed numbers.
-pub const FIXED_WORDS: usize = 8;
+pub const SIZE_FIXED: usize = 8;
 /// Bytes lent for a name.
-pub const NAME_BYTES: usize = 17;
+pub const SIZE_NAME: usize = 17;
 /// Bytes of the longest packet: a buffer of this length is never too short.
 pub const MAX_PACKET: usize = 8192;
 /// Places of a table: a table of this length is never too short.
@@ -81,100 +87,106 @@ pub const MAX_CHUNK: usize = 8184;
 
 // Positions in a connection.
 
-/// The state: [`IDLE`] to [`CLOSED`].
-pub const STATE: usize = 0;
-/// Bytes of the request's body still to come.
-pub const LEFT: usize = 1;
-/// 1 where a body packet is due.
-pub const DUE: usize = 2;
-/// How many bytes were asked for, where a body packet is due.
-pub const ASKED: usize = 3;
-/// 1 once Send Headers went.
-pub const HEADERS_SENT: usize = 4;
+/// The state: [`STATE_IDLE`] to [`STATE_CLOSED`].
+pub const CONNECTION_STATE: usize = 0;
+/// In Busy, the bytes of the request's body still to come.
+pub const CONNECTION_LEFT: usize = 1;
+/// In Busy, 1 where a body packet is due.
+pub const CONNECTION_DUE: usize = 2;
+/// In Busy, how many bytes were asked for, where a body packet is due.
+pub const CONNECTION_ASKED: usize = 3;
+/// In Busy, 1 once Send Headers went.
+pub const CONNECTION_HEADERS: usize = 4;
+/// Always 0. A later version gives it a meaning.
+pub const CONNECTION_HEAD: usize = 5;
+/// Always 0. A later version gives it a meaning.
+pub const CONNECTION_EDITION: usize = 6;
+/// Always 0. A later version gives it a meaning.
+pub const CONNECTION_OPEN: usize = 7;
 
 // States.
 
 /// No request is under way.
-pub const IDLE: u32 = 0;
+pub const STATE_IDLE: u32 = 0;
 /// CPing went; CPong is awaited.
-pub const PINGED: u32 = 1;
+pub const STATE_PINGED: u32 = 1;
 /// A request is under way.
-pub const BUSY: u32 = 2;
+pub const STATE_BUSY: u32 = 2;
 /// The connection is not used again.
-pub const CLOSED: u32 = 3;
+pub const STATE_CLOSED: u32 = 3;
 
 // Positions in a building record.
 
-/// [`FORWARD`] or [`SEND_HEADERS`].
+/// [`KIND_FORWARD`] or [`KIND_SEND_HEADERS`].
 pub const BUILDING_KIND: usize = 0;
 /// The place of the next piece.
-pub const NEXT: usize = 1;
+pub const BUILDING_NEXT: usize = 1;
 /// The place of the number of headers.
-pub const COUNT_PLACE: usize = 2;
+pub const BUILDING_COUNT_PLACE: usize = 2;
 /// How many headers there are so far.
-pub const HEADERS_SO_FAR: usize = 3;
+pub const BUILDING_HEADERS: usize = 3;
 /// 1 once there was an attribute.
-pub const ATTRIBUTES_BEGAN: usize = 4;
+pub const BUILDING_ATTRIBUTES: usize = 4;
 
-// Positions in an answer.
+// Positions in an answer. A word that an answer does not use is 0; so are the last three words of every answer.
 
-/// The kind of packet: [`CPING`] to [`END`]; 0 with [`NEEDS`].
-pub const KIND: usize = 0;
+/// The kind of packet: [`KIND_CPING`] to [`KIND_END`]; 0 with [`NEEDS`].
+pub const ANSWER_KIND: usize = 0;
 /// The bytes taken, the bytes needed, or the length of the packet that was written.
-pub const BYTES: usize = 1;
+pub const ANSWER_BYTES: usize = 1;
 /// Forward: the method's code.
-pub const METHOD: usize = 2;
+pub const ANSWER_METHOD: usize = 2;
 /// Forward: the protocol's place.
-pub const PROTOCOL: usize = 3;
+pub const ANSWER_PROTOCOL: usize = 3;
 /// Forward: the req_uri's place.
-pub const REQ_URI: usize = 4;
+pub const ANSWER_REQ_URI: usize = 4;
 /// Forward: the remote_addr's place.
-pub const REMOTE_ADDR: usize = 5;
+pub const ANSWER_REMOTE_ADDR: usize = 5;
 /// Forward: the remote_host's place.
-pub const REMOTE_HOST: usize = 6;
+pub const ANSWER_REMOTE_HOST: usize = 6;
 /// Forward: the server_name's place.
-pub const SERVER_NAME: usize = 7;
+pub const ANSWER_SERVER_NAME: usize = 7;
 /// Forward: the server_port.
-pub const SERVER_PORT: usize = 8;
+pub const ANSWER_SERVER_PORT: usize = 8;
 /// Forward: is_ssl, 0 or 1.
-pub const IS_SSL: usize = 9;
+pub const ANSWER_IS_SSL: usize = 9;
 /// Forward and Send Headers: how many headers.
-pub const HEADERS: usize = 10;
+pub const ANSWER_HEADERS: usize = 10;
 /// Forward: how many attributes.
-pub const ATTRIBUTES: usize = 11;
+pub const ANSWER_ATTRIBUTES: usize = 11;
 /// Forward: the declared length of the body.
-pub const DECLARED: usize = 12;
+pub const ANSWER_DECLARED: usize = 12;
 /// Send Headers: the status.
-pub const STATUS: usize = 2;
+pub const ANSWER_STATUS: usize = 2;
 /// Send Headers: the message's place.
-pub const MESSAGE: usize = 3;
+pub const ANSWER_MESSAGE: usize = 3;
 /// Body packet and chunk: where the bytes start in the packet.
-pub const START: usize = 2;
+pub const ANSWER_START: usize = 2;
 /// Body packet and chunk: how many bytes there are.
-pub const LEN: usize = 3;
+pub const ANSWER_LENGTH: usize = 3;
 /// Get Body Chunk: how many bytes are asked for.
-pub const ASKED_FOR: usize = 2;
+pub const ANSWER_ASKED: usize = 2;
 /// End Response: reuse, 0 or 1.
-pub const REUSE: usize = 2;
+pub const ANSWER_REUSE: usize = 2;
 
 // Kinds of packets.
 
 /// CPing.
-pub const CPING: u32 = 1;
+pub const KIND_CPING: u32 = 1;
 /// CPong.
-pub const CPONG: u32 = 2;
+pub const KIND_CPONG: u32 = 2;
 /// Forward Request.
-pub const FORWARD: u32 = 3;
+pub const KIND_FORWARD: u32 = 3;
 /// Body packet.
-pub const BODY: u32 = 4;
+pub const KIND_BODY: u32 = 4;
 /// Get Body Chunk.
-pub const GET_BODY: u32 = 5;
+pub const KIND_GET_BODY: u32 = 5;
 /// Send Headers.
-pub const SEND_HEADERS: u32 = 6;
+pub const KIND_SEND_HEADERS: u32 = 6;
 /// Send Body Chunk.
-pub const BODY_CHUNK: u32 = 7;
+pub const KIND_BODY_CHUNK: u32 = 7;
 /// End Response.
-pub const END: u32 = 8;
+pub const KIND_END: u32 = 8;
 
 // Positions in a text.
 

@@ -1,7 +1,7 @@
 //! Refusals.
 
-use std::error::Error;
-use std::fmt;
+use core::error::Error;
+use core::fmt;
 
 use crate::raw;
 
@@ -55,7 +55,7 @@ pub enum Refusal {
     BodySizeWrong = 14,
     /// The lent buffer, or the lent table, is too short.
     BufferTooShort = 15,
-    /// A header after an attribute, an attribute on a Send Headers, or a building record that cannot be.
+    /// A header after an attribute, an attribute on a Send Headers, or an impossible building record.
     RecordWrong = 16,
 }
 
@@ -90,7 +90,10 @@ impl Refusal {
     /// The refusal with a number.
     #[inline]
     pub fn from_number(number: u32) -> Option<Refusal> {
-        Self::ALL.iter().copied().find(|refusal| u32::from(refusal.number()) == number)
+        Self::ALL
+            .iter()
+            .copied()
+            .find(|refusal| u32::from(refusal.number()) == number)
     }
 
     /// The refusal that a call of the library answered.
@@ -122,12 +125,12 @@ pub(crate) fn number(answer: u32) -> u16 {
     }
 }
 
-/// The types of this crate give the library only arrays of the right lengths with words that can be, so it answers
-/// them with no error.
+/// The types of this crate give the library only arrays of the right lengths with words in range, so it answers them
+/// with no error.
 #[cold]
 #[inline(never)]
 pub(crate) fn impossible(status: u32) -> ! {
-    panic!("the AJP13 library answered {status:#x}, which it does not for arrays of the right lengths and words in range")
+    panic!("the AJP13 library answered {status:#x}, which is none for arrays of the right lengths and words in range")
 }
 
 impl fmt::Display for Refusal {

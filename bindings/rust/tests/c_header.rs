@@ -1,16 +1,19 @@
-//! The C header and this crate say the same: every number, and what every call takes.
+//! The C headers and this crate say the same: the version, every number, and what every call takes.
 
 use std::collections::BTreeMap;
 
 use ajp13::{attribute, raw, Method, NameList, Refusal};
 
+/// What a C program uses: names, types, inline calls.
 const HEADER: &str = include_str!("../../c/ajp13.h");
+/// The exported calls over arrays of words.
+const WORDS: &str = include_str!("../../c/ajp13_words.h");
 const FFI: &str = include_str!("../src/ffi.rs");
 
-/// The header without its comments.
-fn code() -> String {
+/// A header without its comments.
+fn code(header: &str) -> String {
     let mut code = String::new();
-    let mut rest = HEADER;
+    let mut rest = header;
     while let Some(start) = rest.find("/*") {
         code.push_str(&rest[..start]);
         let end = rest[start..].find("*/").expect("a comment ends");
@@ -20,38 +23,50 @@ fn code() -> String {
     code
 }
 
-/// All `AJP13_NAME = number` of the header, names without `AJP13_`.
+/// All `AJP13_NAME = number` in the enumerations of the header, names without `AJP13_`.
 fn numbers() -> BTreeMap<String, u32> {
     let mut found = BTreeMap::new();
-    for part in code().split(['{', '}', ',']) {
-        let Some((name, number)) = part.trim().split_once(" = ") else {
-            continue;
-        };
-        let Some(name) = name.strip_prefix("AJP13_") else {
-            continue;
-        };
-        let number = match number.strip_prefix("0x") {
-            Some(hex) => u32::from_str_radix(hex, 16),
-            None => number.parse(),
-        };
-        let number = number.expect("a number");
-        assert_eq!(found.insert(name.to_string(), number), None, "{name} twice");
+    for listed in code(HEADER).split("enum {").skip(1) {
+        let (listed, _) = listed.split_once('}').expect("an enumeration ends");
+        for constant in listed.split(',').map(str::trim) {
+            if constant.is_empty() {
+                continue;
+            }
+            let (name, number) = constant.split_once(" = ").expect("a name and a number");
+            let name = name.strip_prefix("AJP13_").expect("a name of the library");
+            let number = match number.strip_prefix("0x") {
+                Some(hex) => u32::from_str_radix(hex, 16),
+                None => number.parse(),
+            };
+            let number = number.expect("a number");
+            assert_eq!(found.insert(name.to_string(), number), None, "{name} twice");
+        }
     }
     found
 }
 
-/// All functions of a text: the name, and each argument's name and type in Rust's words.
+/// What the header defines a name as.
+fn defined(name: &str) -> String {
+    let start = format!("#define {name} ");
+    let line = HEADER.lines().find_map(|line| line.strip_prefix(&start));
+    line.unwrap_or_else(|| panic!("no {name}"))
+        .trim()
+        .to_string()
+}
+
+/// All exported functions of a text: the name, and each argument's name and type in Rust's words.
 fn calls(text: &str, start: &str) -> BTreeMap<String, Vec<(String, String)>> {
     let mut found = BTreeMap::new();
     for declared in text.split(start).skip(1) {
         let (name, rest) = declared.split_once('(').expect("arguments");
-        if !name.starts_with("ajp13_") || name == "ajp13_status_text" {
+        if !name.starts_with("ajp13_") {
             continue;
         }
         let (arguments, _) = rest.split_once(')').expect("the end of the arguments");
         let arguments = arguments.split(',').map(str::trim);
         let arguments = arguments.filter(|argument| !argument.is_empty());
-        found.insert(name.to_string(), arguments.map(argument).collect());
+        let before = found.insert(name.to_string(), arguments.map(argument).collect());
+        assert_eq!(before, None, "{name} twice");
     }
     found
 }
@@ -76,11 +91,33 @@ fn argument(text: &str) -> (String, String) {
 }
 
 #[test]
+fn the_version_is_the_same() {
+    let version = env!("CARGO_PKG_VERSION");
+    assert_eq!(defined("AJP13_VERSION"), format!("{version:?}"));
+    for (name, number) in [
+        ("AJP13_VERSION_MAJOR", env!("CARGO_PKG_VERSION_MAJOR")),
+        ("AJP13_VERSION_MINOR", env!("CARGO_PKG_VERSION_MINOR")),
+        ("AJP13_VERSION_PATCH", env!("CARGO_PKG_VERSION_PATCH")),
+    ] {
+        assert_eq!(defined(name), number);
+    }
+}
+
+#[test]
 fn the_calls_are_the_same() {
-    let header = calls(&code(), "\nuint32_t ");
+    // Those over arrays of words stand in one header, the others in the other or in the same.
+    let words = calls(&code(WORDS), "\nuint32_t ");
+    let mut headers = calls(&code(HEADER), "\nuint32_t ");
+    assert!(headers.keys().all(|name| !name.starts_with("ajp13_words_")));
+    headers.extend(words);
+    assert_eq!(headers.len(), 27);
     let here = calls(FFI, "pub fn ");
-    assert_eq!(header.len(), 26);
-    assert_eq!(header, here);
+    assert_eq!(headers, here);
+    // A call has the prefix where it takes an array of words.
+    for (name, arguments) in here {
+        let takes_words = arguments.iter().any(|(_, kind)| kind.ends_with(" u32"));
+        assert_eq!(name.starts_with("ajp13_words_"), takes_words, "{name}");
+    }
 }
 
 #[test]
@@ -94,15 +131,18 @@ fn the_numbers_are_the_same() {
         ($($name:ident)*) => { $( same(stringify!($name), raw::$name as u32); )* };
     }
     all! {
-        DONE NEEDS CONNECTION_LENGTH CONNECTION_WORD BUILDING_LENGTH BUILDING_WORD FIXED_LENGTH FIXED_WORD
-        ANSWER_LENGTH ARGUMENT
-        CONNECTION_WORDS BUILDING_WORDS ANSWER_WORDS TEXT_WORDS FIXED_WORDS NAME_BYTES
+        DONE NEEDS ERROR_CONNECTION_LENGTH ERROR_CONNECTION_WORD ERROR_BUILDING_LENGTH ERROR_BUILDING_WORD
+        ERROR_FIXED_LENGTH ERROR_FIXED_WORD ERROR_ANSWER_LENGTH ERROR_ARGUMENT
+        SIZE_CONNECTION SIZE_BUILDING SIZE_ANSWER SIZE_TEXT SIZE_FIXED SIZE_NAME
         MAX_PACKET MAX_PLACES MAX_BODY MAX_CHUNK
-        STATE LEFT DUE ASKED HEADERS_SENT IDLE PINGED BUSY CLOSED
-        BUILDING_KIND NEXT COUNT_PLACE HEADERS_SO_FAR ATTRIBUTES_BEGAN
-        KIND BYTES METHOD PROTOCOL REQ_URI REMOTE_ADDR REMOTE_HOST SERVER_NAME SERVER_PORT IS_SSL
-        HEADERS ATTRIBUTES DECLARED STATUS MESSAGE START LEN ASKED_FOR REUSE
-        CPING CPONG FORWARD BODY GET_BODY SEND_HEADERS BODY_CHUNK END
+        CONNECTION_STATE CONNECTION_LEFT CONNECTION_DUE CONNECTION_ASKED CONNECTION_HEADERS CONNECTION_HEAD
+        CONNECTION_EDITION CONNECTION_OPEN
+        STATE_IDLE STATE_PINGED STATE_BUSY STATE_CLOSED
+        BUILDING_KIND BUILDING_NEXT BUILDING_COUNT_PLACE BUILDING_HEADERS BUILDING_ATTRIBUTES
+        ANSWER_KIND ANSWER_BYTES ANSWER_METHOD ANSWER_PROTOCOL ANSWER_REQ_URI ANSWER_REMOTE_ADDR ANSWER_REMOTE_HOST
+        ANSWER_SERVER_NAME ANSWER_SERVER_PORT ANSWER_IS_SSL ANSWER_HEADERS ANSWER_ATTRIBUTES ANSWER_DECLARED
+        ANSWER_STATUS ANSWER_MESSAGE ANSWER_START ANSWER_LENGTH ANSWER_ASKED ANSWER_REUSE
+        KIND_CPING KIND_CPONG KIND_FORWARD KIND_BODY KIND_GET_BODY KIND_SEND_HEADERS KIND_BODY_CHUNK KIND_END
         TEXT_START TEXT_LENGTH TEXT_NULL
         FIXED_METHOD FIXED_PORT FIXED_IS_SSL FIXED_NO_PROTOCOL FIXED_NO_REQ_URI FIXED_NO_REMOTE_ADDR
         FIXED_NO_REMOTE_HOST FIXED_NO_SERVER_NAME

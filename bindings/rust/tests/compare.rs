@@ -4,12 +4,13 @@
 //! The cases follow from a seed. The environment sets the seed (`AJP13_SEED`), how many cases there
 //! are (`AJP13_CASES`) and after how many seconds to stop (`AJP13_SECONDS`). Each test below has a
 //! share of them. `cargo test --release --test compare -- --nocapture` prints how often each status
-//! was seen.
+//! was seen, and how often each wrong length and each word out of range decided one.
 
 mod common {
     pub mod by_plain;
     pub mod calls;
     pub mod damage;
+    pub mod odd;
     pub mod packets;
     pub mod pieces;
     pub mod reading;
@@ -25,11 +26,12 @@ mod common {
 mod plain;
 
 use ajp13::raw::{
-    ANSWER_LENGTH, ARGUMENT, BUILDING_LENGTH, BUILDING_WORD, BUILDING_WORDS, BYTES,
-    CONNECTION_LENGTH, CONNECTION_WORD, DONE, FIXED_LENGTH, FIXED_WORD, MAX_PACKET, MAX_PLACES,
-    NEEDS, NEXT,
+    ANSWER_BYTES, BUILDING_NEXT, DONE, ERROR_ANSWER_LENGTH, ERROR_ARGUMENT, ERROR_BUILDING_LENGTH,
+    ERROR_BUILDING_WORD, ERROR_CONNECTION_LENGTH, ERROR_CONNECTION_WORD, ERROR_FIXED_LENGTH,
+    ERROR_FIXED_WORD, MAX_PACKET, MAX_PLACES, NEEDS, SIZE_BUILDING,
 };
 use common::calls::{Array, Call, Lent};
+use common::odd::{self, Expected, Odd};
 use common::packets::{self, Kind};
 use common::pieces;
 use common::reading::{self, TO_CONTAINER, TO_SERVER};
@@ -44,7 +46,7 @@ use common::wrong;
 /// The container's end reads Forward, CPing and body packets.
 #[test]
 fn reading_at_the_container() {
-    let mut run = Run::new("reading at the container", 24);
+    let mut run = Run::new("reading at the container", 20);
     while let Some(mut rng) = run.next_round() {
         let kind = rng.of(&TO_CONTAINER);
         let (bytes, lent) = reading::reading(&mut rng, kind);
@@ -115,7 +117,7 @@ fn every_prefix() {
     ]);
 }
 
-/// The six packets that one call writes.
+/// The six packets that one call writes, and how many bytes a body packet may hold.
 #[test]
 fn sending_in_one_call() {
     let mut run = Run::new("sending in one call", 12);
@@ -129,7 +131,8 @@ fn sending_in_one_call() {
         ("body", &[DONE, 13, 14, 15]),
         ("body_chunk", &[DONE, 2, 13, 15]),
         ("get_body", &[DONE, 13, 15]),
-        ("end", &[DONE, 13, 15]),
+        ("end", &[DONE, 7, 13, 15]),
+        ("largest_body", &[ZERO, NUMBER]),
     ]);
 }
 
@@ -197,7 +200,7 @@ fn in_pieces(run: &mut Run, rng: &mut Rng) {
     };
     let mut lent = Lent {
         connection: Array::holding(&connection),
-        building: words::words(rng, BUILDING_WORDS),
+        building: words::words(rng, SIZE_BUILDING),
         buffer: words::buffer(rng, length),
         answer: words::answer(rng),
         ..Lent::default()
@@ -223,7 +226,7 @@ fn in_pieces(run: &mut Run, rng: &mut Rng) {
         };
         // At times a value that fills the packet to the brim, or just not.
         if rng.one_in(40) && length >= MAX_PACKET && !many {
-            let room = MAX_PACKET - lent.building.get()[NEXT] as usize;
+            let room = MAX_PACKET - lent.building.get()[BUILDING_NEXT] as usize;
             let room = (room + rng.below(3)).saturating_sub(1 + 2 + 3);
             piece = pieces::long_piece(kind, strings::text_of(rng, room));
         }
@@ -235,7 +238,7 @@ fn in_pieces(run: &mut Run, rng: &mut Rng) {
         return;
     }
     // The other end's connection is the one that the sender's was, and accepts it.
-    let length = after.answer.get()[BYTES] as usize;
+    let length = after.answer.get()[ANSWER_BYTES] as usize;
     let mut bytes = after.buffer.get()[..length].to_vec();
     if rng.one_in(2) {
         bytes.extend(rng.bytes(9));
@@ -247,7 +250,7 @@ fn in_pieces(run: &mut Run, rng: &mut Rng) {
     lent.table = words::table(rng, MAX_PLACES);
     let (status, read) = run.compare(&read, &lent);
     assert_eq!(status, DONE);
-    assert_eq!(read.answer.get()[BYTES] as usize, length);
+    assert_eq!(read.answer.get()[ANSWER_BYTES] as usize, length);
     assert!(read.connection == after.connection);
 }
 
@@ -265,57 +268,219 @@ fn closing() {
     )]);
 }
 
-/// Arrays of a wrong length and words that cannot be: the error that is looked for first is told,
-/// and nothing is written.
+/// Arrays of a wrong length and words out of range: the error that is looked for first is told, or
+/// the refusal, and nothing is written. Words that do not count are ignored.
 #[test]
 fn wrong_arrays_and_words() {
-    let mut run = Run::new("wrong arrays and words", 4);
+    let mut run = Run::new("wrong arrays and words", 8);
+    let mut odd = Odd::default();
     while let Some(mut rng) = run.next_round() {
         let (mut call, mut lent) = wrong::any_call(&mut rng);
         wrong::spoil(&mut rng, &mut call, &mut lent);
-        run.compare(&call, &lent);
+        let (status, _) = run.compare(&call, &lent);
+        odd.count(&call, &lent, status);
     }
-    let of_connection: &[u32] = &[CONNECTION_LENGTH, CONNECTION_WORD, ANSWER_LENGTH];
-    let with_argument: &[u32] = &[CONNECTION_LENGTH, CONNECTION_WORD, ANSWER_LENGTH, ARGUMENT];
-    let of_building: &[u32] = &[BUILDING_LENGTH, BUILDING_WORD, ARGUMENT];
-    let of_both: &[u32] = &[
-        CONNECTION_LENGTH,
-        CONNECTION_WORD,
-        BUILDING_LENGTH,
-        BUILDING_WORD,
-        ANSWER_LENGTH,
+    let is_full = run.is_full();
+    let of_connection: &[u32] = &[
+        ERROR_CONNECTION_LENGTH,
+        ERROR_CONNECTION_WORD,
+        ERROR_ANSWER_LENGTH,
     ];
+    let of_building: &[u32] = &[ERROR_BUILDING_LENGTH, ERROR_BUILDING_WORD, ERROR_ARGUMENT];
     run.finish_errors(&[
-        ("fresh", &[CONNECTION_LENGTH]),
+        ("fresh", &[ERROR_CONNECTION_LENGTH]),
+        (
+            "largest_body",
+            &[ERROR_CONNECTION_LENGTH, ERROR_CONNECTION_WORD],
+        ),
         ("read_at_container", of_connection),
         ("read_at_server", of_connection),
         ("cping", of_connection),
         ("cpong", of_connection),
         ("body", of_connection),
         ("body_chunk", of_connection),
-        ("get_body", with_argument),
-        ("end", with_argument),
+        (
+            "get_body",
+            &[
+                ERROR_CONNECTION_LENGTH,
+                ERROR_CONNECTION_WORD,
+                ERROR_ANSWER_LENGTH,
+                ERROR_ARGUMENT,
+            ],
+        ),
+        ("end", of_connection),
         (
             "begin_forward",
-            &[BUILDING_LENGTH, FIXED_LENGTH, FIXED_WORD],
+            &[ERROR_BUILDING_LENGTH, ERROR_FIXED_LENGTH, ERROR_FIXED_WORD],
         ),
-        ("begin_send_headers", &[BUILDING_LENGTH, ARGUMENT]),
+        (
+            "begin_send_headers",
+            &[ERROR_BUILDING_LENGTH, ERROR_ARGUMENT],
+        ),
         ("header_coded", of_building),
         ("header_spelled", of_building),
         ("header_named", of_building),
         ("attribute_text", of_building),
         ("attribute_integer", of_building),
         ("attribute_pair", of_building),
-        ("close", of_both),
-        ("text_at", &[ANSWER_LENGTH, ARGUMENT]),
-        ("attribute_name_at", &[ANSWER_LENGTH, ARGUMENT]),
-        ("integer_at", &[ARGUMENT]),
-        ("header_code_at", &[ARGUMENT]),
-        ("attribute_code_at", &[ARGUMENT]),
-        ("attribute_kind_at", &[ARGUMENT]),
-        ("name", &[ANSWER_LENGTH, ARGUMENT]),
-        ("code", &[ARGUMENT]),
+        (
+            "close",
+            &[
+                ERROR_CONNECTION_LENGTH,
+                ERROR_CONNECTION_WORD,
+                ERROR_BUILDING_LENGTH,
+                ERROR_BUILDING_WORD,
+                ERROR_ANSWER_LENGTH,
+            ],
+        ),
+        ("text_at", &[ERROR_ANSWER_LENGTH, ERROR_ARGUMENT]),
+        ("attribute_name_at", &[ERROR_ANSWER_LENGTH, ERROR_ARGUMENT]),
+        ("integer_at", &[ERROR_ARGUMENT]),
+        ("header_code_at", &[ERROR_ARGUMENT]),
+        ("attribute_code_at", &[ERROR_ARGUMENT]),
+        ("attribute_kind_at", &[ERROR_ARGUMENT]),
+        ("name", &[ERROR_ANSWER_LENGTH, ERROR_ARGUMENT]),
+        ("code", &[ERROR_ARGUMENT]),
     ]);
+    odd.finish(is_full, &what_is_odd());
+}
+
+/// What has to be seen of wrong lengths and of words out of range, by call.
+fn what_is_odd() -> Vec<(&'static str, Vec<Expected>)> {
+    use Expected::{Before, Ignored, Tells};
+    let lengths = |lengths: odd::Lengths, error: u32| -> Vec<Expected> {
+        let tells = lengths.iter().map(|(_, what)| Tells(what, error));
+        tells.collect()
+    };
+    let of_connection = [
+        lengths(odd::CONNECTION_LENGTHS, ERROR_CONNECTION_LENGTH),
+        vec![
+            Tells("state above 3", ERROR_CONNECTION_WORD),
+            Tells("head not 0", ERROR_CONNECTION_WORD),
+            Tells("edition not 0", ERROR_CONNECTION_WORD),
+            Tells("open not 0", ERROR_CONNECTION_WORD),
+            Tells("due above 1 in Busy", ERROR_CONNECTION_WORD),
+            Tells("headers above 1 in Busy", ERROR_CONNECTION_WORD),
+            Tells("asked above 65535 in Busy, due", ERROR_CONNECTION_WORD),
+            Ignored("asked above 65535 in Busy, none due"),
+            Ignored("due above 1 outside Busy"),
+            Ignored("headers above 1 outside Busy"),
+            Ignored("asked above 65535 outside Busy"),
+        ],
+    ]
+    .concat();
+    let of_building = [
+        lengths(odd::BUILDING_LENGTHS, ERROR_BUILDING_LENGTH),
+        vec![
+            Tells("kind of no packet in pieces", ERROR_BUILDING_WORD),
+            Tells("attributes above 1", ERROR_BUILDING_WORD),
+            Tells("next above 65535", 16),
+            Tells("count_place above 65535", 16),
+            Tells("headers above 65535", 16),
+        ],
+    ]
+    .concat();
+    let of_answer = lengths(odd::ANSWER_LENGTHS, ERROR_ANSWER_LENGTH);
+    let of_text = lengths(odd::TEXT_LENGTHS, ERROR_ANSWER_LENGTH);
+    let place = Tells("place above 65535", ERROR_ARGUMENT);
+    let list = Tells("list above 3", ERROR_ARGUMENT);
+
+    let mut all = vec![
+        (
+            "fresh",
+            lengths(odd::CONNECTION_LENGTHS, ERROR_CONNECTION_LENGTH),
+        ),
+        ("largest_body", of_connection.clone()),
+        (
+            "begin_forward",
+            [
+                lengths(odd::BUILDING_LENGTHS, ERROR_BUILDING_LENGTH),
+                lengths(odd::FIXED_LENGTHS, ERROR_FIXED_LENGTH),
+                vec![
+                    Tells("port above 65535", ERROR_FIXED_WORD),
+                    Tells("no_protocol above 1", ERROR_FIXED_WORD),
+                    Tells("no_req_uri above 1", ERROR_FIXED_WORD),
+                    Tells("no_remote_addr above 1", ERROR_FIXED_WORD),
+                    Tells("no_remote_host above 1", ERROR_FIXED_WORD),
+                    Tells("no_server_name above 1", ERROR_FIXED_WORD),
+                    Before("method above 65535", 7, DONE),
+                    Before("method above 65535", 7, 6),
+                    Before("is_ssl above 1", 7, DONE),
+                    Before("is_ssl above 1", 6, 6),
+                    Before("is_ssl above 1", 7, 2),
+                    Before("is_ssl above 1", 7, 15),
+                ],
+            ]
+            .concat(),
+        ),
+        (
+            "begin_send_headers",
+            [
+                lengths(odd::BUILDING_LENGTHS, ERROR_BUILDING_LENGTH),
+                vec![
+                    Before("status above 65535", 7, DONE),
+                    Tells("null above 1", ERROR_ARGUMENT),
+                ],
+            ]
+            .concat(),
+        ),
+        ("text_at", [&of_text[..], &[place]].concat()),
+        ("attribute_name_at", [&of_text[..], &[place]].concat()),
+        ("integer_at", vec![place]),
+        ("header_code_at", vec![place]),
+        ("attribute_code_at", vec![place]),
+        ("attribute_kind_at", vec![place]),
+        (
+            "name",
+            [
+                lengths(odd::NAME_LENGTHS, ERROR_ANSWER_LENGTH),
+                vec![list, Before("code above 65535", ZERO, NUMBER)],
+            ]
+            .concat(),
+        ),
+        ("code", vec![list]),
+    ];
+    for (call, more) in [
+        ("read_at_container", vec![]),
+        ("read_at_server", vec![]),
+        ("cping", vec![]),
+        ("cpong", vec![]),
+        ("body", vec![]),
+        ("body_chunk", vec![]),
+        ("get_body", vec![Tells("asked above 65535", ERROR_ARGUMENT)]),
+        (
+            "end",
+            vec![
+                Before("reuse above 1", 7, DONE),
+                Before("reuse above 1", 13, 13),
+                Before("reuse above 1", 7, 15),
+            ],
+        ),
+        ("close", of_building.clone()),
+    ] {
+        all.push((
+            call,
+            [of_connection.clone(), of_answer.clone(), more].concat(),
+        ));
+    }
+    let null = Tells("null above 1", ERROR_ARGUMENT);
+    let noname = Tells("noname above 1", ERROR_ARGUMENT);
+    let novalue = Tells("novalue above 1", ERROR_ARGUMENT);
+    let code = |number: u32| Before("code above 65535", number, DONE);
+    for (call, more) in [
+        ("header_coded", vec![code(8), null]),
+        ("header_spelled", vec![noname, novalue]),
+        ("header_named", vec![null]),
+        ("attribute_text", vec![code(9), null]),
+        (
+            "attribute_integer",
+            vec![code(9), Tells("value above 65535", ERROR_ARGUMENT)],
+        ),
+        ("attribute_pair", vec![code(9), noname, novalue]),
+    ] {
+        all.push((call, [of_building.clone(), more].concat()));
+    }
+    all
 }
 
 /// Views at any place of any bytes.

@@ -21,10 +21,10 @@ use std::time::Instant;
 const EVENTS: u64 = 5_000_000;
 
 /// The words of a connection.
-type Connection = [u32; raw::CONNECTION_WORDS];
+type Connection = [u32; raw::SIZE_CONNECTION];
 
 /// The words of a building record.
-type Building = [u32; raw::BUILDING_WORDS];
+type Building = [u32; raw::SIZE_BUILDING];
 
 /// The eight sends, by the kind of their packet; the server's first.
 #[derive(Clone, Copy, Debug, PartialEq, Eq)]
@@ -59,25 +59,25 @@ impl Kind {
     /// The kind's number.
     fn number(self) -> u32 {
         match self {
-            Kind::CPing => raw::CPING,
-            Kind::Body => raw::BODY,
-            Kind::Forward => raw::FORWARD,
-            Kind::CPong => raw::CPONG,
-            Kind::BodyChunk => raw::BODY_CHUNK,
-            Kind::GetBody => raw::GET_BODY,
-            Kind::End => raw::END,
-            Kind::SendHeaders => raw::SEND_HEADERS,
+            Kind::CPing => raw::KIND_CPING,
+            Kind::Body => raw::KIND_BODY,
+            Kind::Forward => raw::KIND_FORWARD,
+            Kind::CPong => raw::KIND_CPONG,
+            Kind::BodyChunk => raw::KIND_BODY_CHUNK,
+            Kind::GetBody => raw::KIND_GET_BODY,
+            Kind::End => raw::KIND_END,
+            Kind::SendHeaders => raw::KIND_SEND_HEADERS,
         }
     }
 
     /// Whether the cycle allows it at an end with this connection.
     fn is_allowed(self, connection: &Connection) -> bool {
-        let busy = connection[raw::STATE] == raw::BUSY;
-        let due = connection[raw::DUE] == 1;
-        let headers_sent = connection[raw::HEADERS_SENT] == 1;
+        let busy = connection[raw::CONNECTION_STATE] == raw::STATE_BUSY;
+        let due = connection[raw::CONNECTION_DUE] == 1;
+        let headers_sent = connection[raw::CONNECTION_HEADERS] == 1;
         match self {
-            Kind::CPing | Kind::Forward => connection[raw::STATE] == raw::IDLE,
-            Kind::CPong => connection[raw::STATE] == raw::PINGED,
+            Kind::CPing | Kind::Forward => connection[raw::CONNECTION_STATE] == raw::STATE_IDLE,
+            Kind::CPong => connection[raw::CONNECTION_STATE] == raw::STATE_PINGED,
             Kind::Body => busy && due,
             Kind::GetBody => busy && !due,
             Kind::SendHeaders => busy && !headers_sent,
@@ -97,7 +97,7 @@ impl Packet {
     /// The bytes of the body that a body packet holds; none in the others.
     fn body(&self) -> &[u8] {
         match self.kind {
-            raw::BODY => self.bytes.get(6..).unwrap_or_default(),
+            raw::KIND_BODY => self.bytes.get(6..).unwrap_or_default(),
             _ => &[],
         }
     }
@@ -151,7 +151,7 @@ fn two_ends_and_their_pipes() {
     println!("two ends: AJP13_SEED={seed}");
     let begun = Instant::now();
     let mut ends = TwoEnds::new(Rng::new(seed));
-    while ends.counts.events < limit && deadline.is_none_or(|end| Instant::now() < end) {
+    while ends.counts.events < limit && !deadline.is_some_and(|end| Instant::now() >= end) {
         ends.event();
         ends.check();
     }
@@ -161,14 +161,23 @@ fn two_ends_and_their_pipes() {
 
 /// A building record of a packet of which nothing is built: closing refuses it.
 fn not_begun(kind: u32) -> Building {
-    let mut building = [0; raw::BUILDING_WORDS];
+    let mut building = [0; raw::SIZE_BUILDING];
     building[raw::BUILDING_KIND] = kind;
     building
 }
 
+/// How many bytes the cycle lets the body packet hold that is due.
+fn largest_body(connection: &Connection) -> u32 {
+    if !Kind::Body.is_allowed(connection) {
+        return 0;
+    }
+    let most = connection[raw::CONNECTION_LEFT].min(connection[raw::CONNECTION_ASKED]);
+    most.min(raw::MAX_BODY as u32)
+}
+
 /// Fresh words of a connection.
 fn fresh() -> Connection {
-    let mut connection = [0; raw::CONNECTION_WORDS];
+    let mut connection = [0; raw::SIZE_CONNECTION];
     assert_eq!(raw::fresh(&mut connection), raw::DONE);
     connection
 }
@@ -222,7 +231,8 @@ impl TwoEnds {
             }
         }
         // An End without reuse has closed both ends: after some events more, a fresh pair begins.
-        let closed = |connection: &Connection| connection[raw::STATE] == raw::CLOSED;
+        let closed =
+            |connection: &Connection| connection[raw::CONNECTION_STATE] == raw::STATE_CLOSED;
         if closed(&self.server) && closed(&self.container) && self.rng.one_in(6) {
             assert!(self.to_container.is_empty() && self.to_server.is_empty());
             self.counts.closed += 1;
@@ -245,7 +255,7 @@ impl TwoEnds {
     fn send(&mut self, kind: Kind) {
         let mut connection = *self.sender(kind);
         let allowed = kind.is_allowed(&connection);
-        let mut answer = [0; raw::ANSWER_WORDS];
+        let mut answer = [0; raw::SIZE_ANSWER];
         // A send that is right in all but perhaps the state, or one with something wrong about it.
         let right = self.rng.percent(85);
         self.lend_buffer(right);
@@ -265,7 +275,10 @@ impl TwoEnds {
                 raw::get_body(&mut connection, &mut self.buffer, asked, &mut answer)
             }
             Kind::End => {
-                let reuse = u32::from(!self.rng.one_in(8));
+                let mut reuse = u32::from(!self.rng.one_in(8));
+                if !right {
+                    reuse += self.rng.of(&[0, 2, 0x10000]);
+                }
                 raw::end(&mut connection, &mut self.buffer, reuse, &mut answer)
             }
             Kind::Body => {
@@ -297,18 +310,21 @@ impl TwoEnds {
         let index = KINDS.iter().position(|other| *other == kind).unwrap_or(0);
         if status != raw::DONE {
             // Neither end, neither pipe nor the buffer has changed.
-            assert!(Refusal::from_number(status).is_some(), "{kind:?} returned {status}");
+            assert!(
+                Refusal::from_number(status).is_some(),
+                "{kind:?} returned {status}"
+            );
             assert_eq!(connection, *self.sender(kind));
             assert!(self.buffer == self.before, "{kind:?} wrote and was refused");
-            assert_eq!(answer, [0; raw::ANSWER_WORDS]);
+            assert_eq!(answer, [0; raw::SIZE_ANSWER]);
             assert!(!(allowed && right), "{kind:?} was refused: {status}");
             self.counts.refused[index] += 1;
             *self.counts.refusals.entry(status).or_default() += 1;
             return;
         }
         assert!(allowed, "{kind:?} was written in another state");
-        assert_eq!(answer[raw::KIND], kind.number());
-        let length = answer[raw::BYTES] as usize;
+        assert_eq!(answer[raw::ANSWER_KIND], kind.number());
+        let length = answer[raw::ANSWER_BYTES] as usize;
         assert!(self.buffer[length..] == self.before[length..]);
         let packet = Packet {
             kind: kind.number(),
@@ -321,7 +337,7 @@ impl TwoEnds {
             self.server = connection;
             if kind == Kind::Forward {
                 // The sender's end knows what its request declared.
-                self.forwarded.push_back(connection[raw::LEFT]);
+                self.forwarded.push_back(connection[raw::CONNECTION_LEFT]);
             }
             self.to_container.push_back(packet);
         } else {
@@ -344,8 +360,7 @@ impl TwoEnds {
 
     /// How many bytes to send in a body packet: so many as are allowed, or others.
     fn body_size(&mut self, connection: &Connection, right: bool) -> usize {
-        let most = connection[raw::LEFT].min(connection[raw::ASKED]);
-        let most = (most as usize).min(raw::MAX_BODY);
+        let most = raw::largest_body(connection) as usize;
         if !right {
             return self.rng.of(&[0, 1, most + 1, raw::MAX_BODY + 1]);
         }
@@ -362,8 +377,8 @@ impl TwoEnds {
     /// Builds a Forward in pieces, up to closing. In a buffer that is too short a piece is refused,
     /// and the building record stays as it was.
     fn build_forward(&mut self) -> Building {
-        let mut building = not_begun(raw::FORWARD);
-        let mut fixed = [0; raw::FIXED_WORDS];
+        let mut building = not_begun(raw::KIND_FORWARD);
+        let mut fixed = [0; raw::SIZE_FIXED];
         fixed[raw::FIXED_METHOD] = self.rng.between(1, 27) as u32;
         fixed[raw::FIXED_PORT] = self.rng.short().into();
         fixed[raw::FIXED_IS_SSL] = self.rng.below(2) as u32;
@@ -406,7 +421,7 @@ impl TwoEnds {
 
     /// Builds a Send Headers in pieces, up to closing, in the same way.
     fn build_send_headers(&mut self) -> Building {
-        let mut building = not_begun(raw::SEND_HEADERS);
+        let mut building = not_begun(raw::KIND_SEND_HEADERS);
         let status = self.rng.between(100, 599) as u32;
         raw::begin_send_headers(&mut building, &mut self.buffer, status, b"OK", 0);
         for _ in 0..self.rng.below(4) {
@@ -425,11 +440,11 @@ impl TwoEnds {
                 let word = self.rng.between(1, 3);
                 building[word] = self.rng.short().into();
             }
-            1 => building[raw::HEADERS_SO_FAR] += 1,
-            2 => building[raw::NEXT] = building[raw::NEXT].saturating_sub(1),
-            3 => building[raw::ATTRIBUTES_BEGAN] ^= 1,
+            1 => building[raw::BUILDING_HEADERS] += 1,
+            2 => building[raw::BUILDING_NEXT] = building[raw::BUILDING_NEXT].saturating_sub(1),
+            3 => building[raw::BUILDING_ATTRIBUTES] ^= 1,
             _ => {
-                let built = (building[raw::NEXT] as usize).min(self.buffer.len());
+                let built = (building[raw::BUILDING_NEXT] as usize).min(self.buffer.len());
                 if built > 0 {
                     let at = self.rng.below(built);
                     self.buffer[at] = self.rng.byte();
@@ -447,21 +462,24 @@ impl TwoEnds {
         };
         let (bytes, kind, length) = lent(&self.to_container, first, alone);
         let mut table = [0; raw::MAX_PLACES];
-        let mut answer = [0; raw::ANSWER_WORDS];
+        let mut answer = [0; raw::SIZE_ANSWER];
         let status = raw::read_at_container(&mut self.container, &bytes, &mut table, &mut answer);
         assert_eq!(status, raw::DONE, "a packet was not accepted: {bytes:02x?}");
-        assert_eq!(answer[raw::BYTES] as usize, length);
-        assert_eq!(answer[raw::KIND], kind);
+        assert_eq!(answer[raw::ANSWER_BYTES] as usize, length);
+        assert_eq!(answer[raw::ANSWER_KIND], kind);
         match kind {
-            raw::FORWARD => {
+            raw::KIND_FORWARD => {
                 self.counts.requests += 1;
-                self.declared = answer[raw::DECLARED].into();
+                self.declared = answer[raw::ANSWER_DECLARED].into();
                 self.got = 0;
-                assert_eq!(self.forwarded.pop_front(), Some(answer[raw::DECLARED]));
+                assert_eq!(
+                    self.forwarded.pop_front(),
+                    Some(answer[raw::ANSWER_DECLARED])
+                );
             }
-            raw::BODY => {
-                let start = answer[raw::START] as usize;
-                let body = &bytes[start..start + answer[raw::LEN] as usize];
+            raw::KIND_BODY => {
+                let start = answer[raw::ANSWER_START] as usize;
+                let body = &bytes[start..start + answer[raw::ANSWER_LENGTH] as usize];
                 // What is received is what was sent, in its order.
                 assert!(body.iter().copied().eq(self.unread.drain(..body.len())));
                 self.got += body.len() as u64;
@@ -485,11 +503,11 @@ impl TwoEnds {
         };
         let (bytes, kind, length) = lent(&self.to_server, first, alone);
         let mut table = [0; raw::MAX_PLACES];
-        let mut answer = [0; raw::ANSWER_WORDS];
+        let mut answer = [0; raw::SIZE_ANSWER];
         let status = raw::read_at_server(&mut self.server, &bytes, &mut table, &mut answer);
         assert_eq!(status, raw::DONE, "a packet was not accepted: {bytes:02x?}");
-        assert_eq!(answer[raw::BYTES] as usize, length);
-        assert_eq!(answer[raw::KIND], kind);
+        assert_eq!(answer[raw::ANSWER_BYTES] as usize, length);
+        assert_eq!(answer[raw::ANSWER_KIND], kind);
         self.counts.delivered_to_server += 1;
         self.counts.delivered_with_others += u64::from(bytes.len() > length);
         self.to_server.pop_front();
@@ -502,10 +520,13 @@ impl TwoEnds {
             self.counts.both_pipes_empty += 1;
             assert_eq!(self.server, self.container);
         }
-        if self.server[raw::STATE] == raw::IDLE {
+        if self.server[raw::CONNECTION_STATE] == raw::STATE_IDLE {
             self.counts.server_idle += 1;
             assert!(empty);
-            assert_eq!(self.container[raw::STATE], raw::IDLE);
+            assert_eq!(self.container[raw::CONNECTION_STATE], raw::STATE_IDLE);
+        }
+        for connection in [&self.server, &self.container] {
+            assert_eq!(raw::largest_body(connection), largest_body(connection));
         }
         // The body bytes that are sent and not received are those in the pipe, in order.
         let in_pipe = self.to_container.iter().flat_map(|packet| packet.body());
@@ -570,7 +591,7 @@ impl Counts {
             assert!(self.written[index] > often, "{kind:?} seldom written");
             assert!(self.refused[index] > often, "{kind:?} seldom refused");
         }
-        for number in [2, 13, 14, 15, 16] {
+        for number in [2, 7, 13, 14, 15, 16] {
             let times = self.refusals.get(&number).copied().unwrap_or_default();
             assert!(times > often / 10, "seldom refused by {number}");
         }

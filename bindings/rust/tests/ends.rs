@@ -1,8 +1,8 @@
 //! The safe types: packets read and built at both ends, refusals, views.
 
 use ajp13::{
-    attribute, Attribute, Building, BuildingKind, Connection, ForwardHead, HeaderName, Method,
-    Packet, Places, Received, Refusal, SendHeadersHead, State,
+    attribute, raw, Attribute, Building, BuildingKind, Connection, ForwardHead, HeaderName, Method,
+    NotClosed, Packet, Places, Received, Refusal, SendHeadersHead, State,
 };
 
 /// GET /, port 80, all else null, no headers, no attributes.
@@ -39,7 +39,7 @@ fn at_container<'a>(
     places: &'a mut Places,
 ) -> Packet<'a> {
     match connection.read_at_container(bytes, places) {
-        Received::Accepted { packet, taken } if taken == bytes.len() => packet,
+        Ok(Received::Accepted { packet, taken }) if taken == bytes.len() => packet,
         other => panic!("{other:?}"),
     }
 }
@@ -91,7 +91,7 @@ fn packets_to_the_server() {
         let taken = bytes.len();
         let received = connection.read_at_server(bytes, &mut places);
         let packet = expected;
-        assert_eq!(received, Received::Accepted { packet, taken });
+        assert_eq!(received, Ok(Received::Accepted { packet, taken }));
         assert_eq!(connection, after);
     };
     let fresh = Connection::fresh;
@@ -131,10 +131,10 @@ fn packets_to_the_server() {
     let mut connection = busy(0, None, false);
     let mut places = Places::new();
     let received = connection.read_at_server(bytes, &mut places);
-    let Received::Accepted {
+    let Ok(Received::Accepted {
         packet: Packet::SendHeaders(headers),
         taken: 14,
-    } = received
+    }) = received
     else {
         panic!("{received:?}");
     };
@@ -151,41 +151,41 @@ fn refusals_and_needs_change_nothing() {
     let mut at_container = |before: Connection, bytes: &[u8]| {
         let mut connection = before.clone();
         let answer = match connection.read_at_container(bytes, &mut places) {
-            Received::Needs(n) => Err(n),
-            Received::Refused(refusal) => Ok(refusal),
-            Received::Accepted { packet, .. } => panic!("{packet:?}"),
+            Ok(Received::Needs(n)) => Ok(n),
+            Ok(Received::Accepted { packet, .. }) => panic!("{packet:?}"),
+            Err(refusal) => Err(refusal),
         };
         assert_eq!(connection, before);
         answer
     };
     let fresh = Connection::fresh;
-    assert_eq!(at_container(fresh(), b""), Err(4));
-    assert_eq!(at_container(fresh(), b"\x12\x34\x1F\xFC"), Err(8192));
+    assert_eq!(at_container(fresh(), b""), Ok(4));
+    assert_eq!(at_container(fresh(), b"\x12\x34\x1F\xFC"), Ok(8192));
     assert_eq!(
         at_container(fresh(), b"\x12\x34\x1F\xFD"),
-        Ok(Refusal::TooLong)
+        Err(Refusal::TooLong)
     );
-    assert_eq!(at_container(fresh(), b"A"), Ok(Refusal::LeadingWrong));
+    assert_eq!(at_container(fresh(), b"A"), Err(Refusal::LeadingWrong));
     assert_eq!(
         at_container(fresh(), b"\x12\x34\x00\x00"),
-        Ok(Refusal::CutShort)
+        Err(Refusal::CutShort)
     );
     assert_eq!(
         at_container(fresh(), b"\x12\x34\x00\x01\x03"),
-        Ok(Refusal::CodeWrong)
+        Err(Refusal::CodeWrong)
     );
     assert_eq!(
         at_container(fresh(), b"\x12\x34\x00\x01\x07"),
-        Ok(Refusal::CodeNotServed)
+        Err(Refusal::CodeNotServed)
     );
     assert_eq!(
         at_container(fresh(), b"\x12\x34\x00\x02\x0A\x0A"),
-        Ok(Refusal::LeftOver)
+        Err(Refusal::LeftOver)
     );
-    assert_eq!(at_container(busy(0, None, true), GET), Ok(Refusal::NotNow));
+    assert_eq!(at_container(busy(0, None, true), GET), Err(Refusal::NotNow));
     assert_eq!(
         at_container(busy(1, Some(8186), true), b"\x12\x34\x00\x04\x00\x02hi"),
-        Ok(Refusal::BodySizeWrong)
+        Err(Refusal::BodySizeWrong)
     );
     assert_eq!(places, Places::new());
 }
@@ -202,15 +202,15 @@ fn a_table_too_short() {
     let mut table = [9; 5];
     let mut container = Connection::fresh();
     let received = container.read_at_container(packet, &mut table[..3]);
-    assert_eq!(received, Received::Refused(Refusal::BufferTooShort));
+    assert_eq!(received, Err(Refusal::BufferTooShort));
     assert_eq!(container, Connection::fresh());
     assert_eq!(table, [9; 5]);
 
     let received = container.read_at_container(packet, &mut table);
-    let Received::Accepted {
+    let Ok(Received::Accepted {
         packet: Packet::Forward(forward),
         ..
-    } = received
+    }) = received
     else {
         panic!("{received:?}");
     };
@@ -370,10 +370,10 @@ fn a_response_comes_back() {
 
     let mut places = Places::new();
     let received = server.read_at_server(packet, &mut places);
-    let Received::Accepted {
+    let Ok(Received::Accepted {
         packet: Packet::SendHeaders(headers),
         ..
-    } = received
+    }) = received
     else {
         panic!("{received:?}");
     };
@@ -415,7 +415,7 @@ fn a_refused_piece_adds_nothing() {
     );
 
     let mut headers = head().begin(&mut buffer).unwrap();
-    let before = headers.building().clone();
+    let before = *headers.building();
     let refused = [
         headers.spelled(b"Host", None).unwrap_err(),
         headers.coded(0xA00F, None).unwrap_err(),
@@ -459,7 +459,8 @@ fn closing_judges_the_packet() {
         .unwrap()
         .header(b"content-length", Some(b"1"))
         .unwrap();
-    assert_eq!(headers.close(&mut server), Err(Refusal::ContentLengthWrong));
+    let error = headers.close(&mut server).unwrap_err();
+    assert_eq!(error.refusal(), Refusal::ContentLengthWrong);
     assert_eq!(server, Connection::fresh());
 
     // An attribute twice.
@@ -469,13 +470,109 @@ fn closing_judges_the_packet() {
         .unwrap()
         .text(attribute::SECRET, Some(b"x"))
         .unwrap();
-    assert_eq!(attributes.close(&mut server), Err(Refusal::AttributeWrong));
+    let error = attributes.close(&mut server).unwrap_err();
+    assert_eq!(error.into_refusal(), Refusal::AttributeWrong);
 
     // Not now.
     let mut server = busy(0, None, false);
     let headers = head().begin(&mut buffer).unwrap();
-    assert_eq!(headers.close(&mut server), Err(Refusal::NotNow));
+    let error = headers.close(&mut server).unwrap_err();
+    assert_eq!(Refusal::from(error), Refusal::NotNow);
     assert_eq!(server, busy(0, None, false));
+}
+
+/// A builder that was refused when it was closed goes on with more pieces and is closed again, on the same connection
+/// or on another, and the packet is the one that was never refused.
+#[test]
+fn a_refused_closing_hands_the_builder_back() {
+    let with_host_and_accept = |buffer: &mut [u8]| {
+        let mut headers = head().begin(buffer).unwrap();
+        headers.header(b"host", Some(b"h")).unwrap();
+        headers.header(b"accept", None).unwrap();
+        headers.close(&mut Connection::fresh()).unwrap().to_vec()
+    };
+    let expected = with_host_and_accept(&mut [0; ajp13::MAX_PACKET]);
+
+    let mut buffer = [0x55; ajp13::MAX_PACKET];
+    let mut closed = Connection::from_fields(State::Closed, 0, false, 0, false);
+    let mut headers = head().begin(&mut buffer).unwrap();
+    headers.header(b"host", Some(b"h")).unwrap();
+    let before = *headers.building();
+    let error = headers.close(&mut closed).unwrap_err();
+    assert_eq!(error.builder().building(), &before);
+    assert_eq!(closed.state(), State::Closed);
+    let (refusal, mut headers) = error.into_parts();
+    assert_eq!(refusal, Refusal::NotNow);
+    headers.header(b"accept", None).unwrap();
+    let mut server = Connection::fresh();
+    assert_eq!(headers.close(&mut server).unwrap(), expected);
+    assert_eq!(server, busy(0, None, false));
+    assert!(buffer[expected.len()..].iter().all(|byte| *byte == 0x55));
+
+    // With attributes; on the same connection, once it is there again.
+    let mut server = Connection::from_fields(State::Pinged, 0, false, 0, false);
+    let mut attributes = head().begin(&mut buffer).unwrap().attributes();
+    attributes.text(attribute::ROUTE, Some(b"r")).unwrap();
+    let error = attributes.close(&mut server).unwrap_err();
+    assert_eq!(error.refusal(), Refusal::NotNow);
+    let mut attributes = error.into_builder();
+    attributes.pair(b"a", Some(b"b")).unwrap();
+    server.cpong(&mut [0; 8]).unwrap();
+    let packet = attributes.close(&mut server).unwrap().to_vec();
+    let mut places = Places::new();
+    let mut container = Connection::fresh();
+    let Packet::Forward(forward) = at_container(&mut container, &packet, &mut places) else {
+        panic!("no Forward");
+    };
+    assert_eq!(forward.attributes().len(), 2);
+
+    // A response: no request is under way, then one is.
+    let head = SendHeadersHead {
+        status: 200,
+        message: None,
+    };
+    let mut container = Connection::fresh();
+    let headers = head.begin(&mut buffer).unwrap();
+    let error = headers.close(&mut container).unwrap_err();
+    let mut headers = error.into_builder();
+    headers.header(b"Status", Some(b"200")).unwrap();
+    container = busy(0, None, false);
+    let packet = headers.close(&mut container).unwrap();
+    assert_eq!(
+        packet,
+        b"AB\x00\x0F\x04\x00\xC8\xFF\xFF\x00\x01\xA0\x0A\x00\x03200\0"
+    );
+    assert!(container.headers_sent());
+}
+
+/// What an error of closing says, and that `?` makes it a refusal.
+#[test]
+fn a_refused_closing_is_an_error() {
+    fn close<'b>(connection: &mut Connection, buffer: &'b mut [u8]) -> Result<&'b [u8], Refusal> {
+        Ok(head().begin(buffer)?.close(connection)?)
+    }
+    let mut buffer = [0; ajp13::MAX_PACKET];
+    let mut server = Connection::fresh();
+    assert_eq!(close(&mut server, &mut buffer), Ok(GET));
+    assert_eq!(close(&mut server, &mut buffer), Err(Refusal::NotNow));
+
+    fn boxed(connection: &mut Connection) -> Result<usize, Box<dyn std::error::Error>> {
+        let mut buffer = [0; ajp13::MAX_PACKET];
+        let headers = head().begin(&mut buffer)?;
+        let packet = headers.close(connection);
+        Ok(packet.map_err(NotClosed::into_refusal)?.len())
+    }
+    assert!(boxed(&mut server).unwrap_err().is::<Refusal>());
+    assert_eq!(boxed(&mut Connection::fresh()).unwrap(), GET.len());
+
+    let headers = head().begin(&mut buffer).unwrap();
+    let error = headers.close(&mut server).unwrap_err();
+    let shown = "packet not closed: refusal 13: not allowed in this state";
+    assert_eq!(error.to_string(), shown);
+    let error: &dyn std::error::Error = &error;
+    assert!(
+        format!("{error:?}").starts_with("NotClosed { refusal: NotNow, builder: ForwardHeaders")
+    );
 }
 
 #[test]
@@ -491,15 +588,21 @@ fn sends() {
     assert_eq!(server.cpong(&mut buffer), Err(Refusal::NotNow));
 
     let mut server = busy(3, Some(2), false);
-    assert_eq!(server.body(&mut buffer, b"abc"), Err(Refusal::BodySizeWrong));
+    assert_eq!(server.largest_body(), 2);
+    assert_eq!(
+        server.body(&mut buffer, b"abc"),
+        Err(Refusal::BodySizeWrong)
+    );
     let packet = server.body(&mut buffer, b"ab").unwrap();
     assert_eq!(packet, b"\x12\x34\x00\x04\x00\x02ab");
     assert_eq!(server, busy(1, None, false));
+    assert_eq!(server.largest_body(), 0);
 
     let mut container = server;
     let packet = container.get_body(&mut buffer, 65535).unwrap();
     assert_eq!(packet, b"\x41\x42\x00\x03\x06\xFF\xFF");
     assert_eq!(container, busy(1, Some(65535), false));
+    assert_eq!(container.largest_body(), 1);
 
     let mut container = busy(0, None, true);
     let packet = container.body_chunk(&mut buffer, b"ok").unwrap();
@@ -523,8 +626,12 @@ fn records_keep_their_fields() {
         assert!(connection.is_due());
         assert_eq!(connection.asked(), 8);
         assert!(connection.headers_sent());
-        assert_eq!(connection.words(), &[state as u32, 7, 1, 8, 1]);
+        assert_eq!(connection.words(), &[state as u32, 7, 1, 8, 1, 0, 0, 0]);
     }
+    assert_eq!(Connection::default(), Connection::fresh());
+    assert_eq!(Connection::fresh().words(), &[0; raw::SIZE_CONNECTION]);
+    assert_eq!(Connection::fresh().state(), State::default());
+    assert_eq!(Places::default().len(), raw::MAX_PLACES);
     for kind in [BuildingKind::Forward, BuildingKind::SendHeaders] {
         let building = Building::from_fields(kind, 1, 2, 3, true);
         assert_eq!(building.kind(), kind);
@@ -537,14 +644,38 @@ fn records_keep_their_fields() {
 }
 
 #[test]
+fn the_largest_body() {
+    assert_eq!(Connection::fresh().largest_body(), 0);
+    assert_eq!(busy(5, None, true).largest_body(), 0);
+    assert_eq!(busy(u32::MAX, Some(65535), false).largest_body(), 8186);
+    // What counts only in Busy is not looked at.
+    let idle = Connection::from_fields(State::Idle, 5, true, 5, false);
+    assert_eq!(idle.largest_body(), 0);
+    // A body packet of just so many bytes is written, and one of more is not.
+    let body = [b'x'; 9000];
+    for (left, asked) in [(1, 1), (9000, 8186), (8186, 65535), (40, 7), (0, 5), (5, 0)] {
+        let mut server = busy(left, Some(asked), false);
+        let most = usize::from(server.largest_body());
+        let mut buffer = [0; ajp13::MAX_PACKET];
+        let refused = server.body(&mut buffer, &body[..most + 1]);
+        assert_eq!(refused, Err(Refusal::BodySizeWrong));
+        server.body(&mut buffer, &body[..most]).unwrap();
+        assert_eq!(server.left(), left - most as u32);
+    }
+}
+
+#[test]
 fn refusals_have_their_numbers() {
     // Each number of document 01's table is there, once and in order; what more there is has a number above them.
-    let numbers: Vec<u32> = Refusal::ALL.iter().map(|refusal| refusal.number().into()).collect();
+    let numbers: Vec<u32> = Refusal::ALL
+        .iter()
+        .map(|refusal| refusal.number().into())
+        .collect();
     assert_eq!(numbers[..16], (1..=16).collect::<Vec<u32>>());
     assert!(numbers.windows(2).all(|two| two[0] < two[1]));
     for number in (0..0x200).chain([0x10000, u32::MAX]) {
         let found = Refusal::from_number(number);
         assert_eq!(found.is_some(), numbers.contains(&number));
-        assert!(found.is_none_or(|refusal| u32::from(refusal.number()) == number));
+        assert!(found.map_or(true, |refusal| u32::from(refusal.number()) == number));
     }
 }

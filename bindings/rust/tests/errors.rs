@@ -1,26 +1,28 @@
-//! The errors of the C calls: arrays of the wrong length, words and numbers that cannot be. Each is told before all
-//! else, and nothing is written.
+//! The errors of the C calls: arrays of the wrong length, words and arguments out of range. Each is told before all
+//! else, and nothing is written. And beside them what is no error: words that do not count, and numbers of any size
+//! that get the refusal of document 01.
 
 use ajp13::raw;
 
-const FRESH: [u32; 5] = [0; 5];
+const FRESH: [u32; raw::SIZE_CONNECTION] = [0; raw::SIZE_CONNECTION];
+
+/// A connection with these five words, and 0 in the others.
+fn connection(words: [u32; 5]) -> [u32; raw::SIZE_CONNECTION] {
+    let [state, left, due, asked, headers] = words;
+    [state, left, due, asked, headers, 0, 0, 0]
+}
 
 /// A Forward with its fixed fields written: GET /, nothing else.
-fn begun(buffer: &mut [u8]) -> [u32; 5] {
-    let mut building = [0; 5];
-    let fixed = [2, 80, 0, 0, 0, 1, 1, 1];
-    let status = raw::begin_forward(
-        &mut building,
-        buffer,
-        &fixed,
-        b"HTTP/1.1",
-        b"/",
-        b"",
-        b"",
-        b"",
-    );
+fn begun(buffer: &mut [u8]) -> [u32; raw::SIZE_BUILDING] {
+    let mut building = [0; raw::SIZE_BUILDING];
+    let status = begin(&mut building, buffer, &[2, 80, 0, 0, 0, 1, 1, 1]);
     assert_eq!(status, raw::DONE);
     building
+}
+
+/// Begins a Forward with these fixed numbers.
+fn begin(building: &mut [u32], buffer: &mut [u8], fixed: &[u32]) -> u32 {
+    raw::begin_forward(building, buffer, fixed, b"HTTP/1.1", b"/", b"", b"", b"")
 }
 
 /// Every call that has a connection, with this one. The words stay.
@@ -31,25 +33,26 @@ fn with_connection(words: &[u32], expected: u32) {
     let b = &mut buffer;
     let mut table = [7; 4];
     let t = &mut table;
-    let mut answer = [7; 13];
+    let mut answer = [7; raw::SIZE_ANSWER];
     let a = &mut answer;
     // All else is wrong too, but is looked for later.
     let calls = [
+        raw::largest_body(c),
         raw::read_at_container(c, b"", t, a),
-        raw::read_at_server(c, b"", t, &mut a[..12]),
-        raw::cping(c, b, &mut a[..12]),
+        raw::read_at_server(c, b"", t, &mut a[..13]),
+        raw::cping(c, b, &mut a[..13]),
         raw::cpong(c, b, a),
-        raw::body(c, b, b"", &mut a[..12]),
+        raw::body(c, b, b"", &mut a[..13]),
         raw::body_chunk(c, b, b"", a),
-        raw::get_body(c, b, 65536, &mut a[..12]),
+        raw::get_body(c, b, 65536, &mut a[..13]),
         raw::end(c, b, 2, a),
         raw::close(c, &[0; 4], b, a),
     ];
-    assert_eq!(calls, [expected; 9], "{words:?}");
+    assert_eq!(calls, [expected; 10], "{words:?}");
     assert_eq!(connection, words);
     assert_eq!(buffer, [7; 64]);
     assert_eq!(table, [7; 4]);
-    assert_eq!(answer, [7; 13]);
+    assert_eq!(answer, [7; raw::SIZE_ANSWER]);
 }
 
 /// Every call that has a building record of which the words are looked at, with this one.
@@ -59,107 +62,234 @@ fn with_building(words: &[u32], expected: u32) {
     let mut buffer = [7; 64];
     let b = &mut buffer;
     let mut connection = FRESH;
-    let mut answer = [7; 13];
+    let mut answer = [7; raw::SIZE_ANSWER];
     let calls = [
-        raw::header_coded(r, b, 65536, b"", 0),
+        raw::header_coded(r, b, 65536, b"", 2),
         raw::header_spelled(r, b, b"a", 2, b"", 0),
         raw::header_named(r, b, b"a", b"", 2),
         raw::attribute_text(r, b, 5, b"", 2),
         raw::attribute_integer(r, b, 0x0B, 65536),
         raw::attribute_pair(r, b, 0x0A, b"a", 0, b"", 2),
-        raw::close(&mut connection, r, b, &mut answer[..12]),
+        raw::close(&mut connection, r, b, &mut answer[..13]),
     ];
     assert_eq!(calls, [expected; 7], "{words:?}");
     assert_eq!(building, words);
     assert_eq!(buffer, [7; 64]);
     assert_eq!(connection, FRESH);
-    assert_eq!(answer, [7; 13]);
+    assert_eq!(answer, [7; raw::SIZE_ANSWER]);
 }
 
 #[test]
-fn connections_that_cannot_be() {
-    for length in [0, 4, 6] {
-        with_connection(&vec![9; length], raw::CONNECTION_LENGTH);
+fn connections_with_an_error() {
+    for length in [0, 5, 7, 9] {
+        with_connection(&vec![9; length], raw::ERROR_CONNECTION_LENGTH);
         let mut words = vec![9; length];
-        assert_eq!(raw::fresh(&mut words), raw::CONNECTION_LENGTH);
+        assert_eq!(raw::fresh(&mut words), raw::ERROR_CONNECTION_LENGTH);
         assert_eq!(words, vec![9; length]);
     }
     for words in [
-        [4, 0, 0, 0, 0],
-        [0, 0, 2, 0, 0],
-        [0, 0, 0, 65536, 0],
-        [0, 0, 0, 0, 2],
-        [u32::MAX; 5],
+        connection([4, 0, 0, 0, 0]),
+        connection([0x10000, 0, 0, 0, 0]),
+        // In Busy.
+        connection([2, 0, 2, 0, 0]),
+        connection([2, 0, 0, 0, 2]),
+        connection([2, 0, 0x10001, 0, 0]),
+        connection([2, 0, 1, 65536, 0]),
+        connection([2, 9, 1, 70_000, 1]),
+        [u32::MAX; raw::SIZE_CONNECTION],
     ] {
-        with_connection(&words, raw::CONNECTION_WORD);
+        with_connection(&words, raw::ERROR_CONNECTION_WORD);
     }
-    let mut words = [u32::MAX; 5];
+    // The last three words are 0 in every state.
+    for state in 0..=3 {
+        for at in [
+            raw::CONNECTION_HEAD,
+            raw::CONNECTION_EDITION,
+            raw::CONNECTION_OPEN,
+        ] {
+            let mut words = connection([state, 0, 0, 0, 0]);
+            words[at] = 1;
+            with_connection(&words, raw::ERROR_CONNECTION_WORD);
+        }
+    }
+    let mut words = [u32::MAX; raw::SIZE_CONNECTION];
     assert_eq!(raw::fresh(&mut words), raw::DONE);
     assert_eq!(words, FRESH);
 }
 
 #[test]
-fn building_records_that_cannot_be() {
-    for length in [0, 4, 6] {
-        let words = vec![9; length];
-        with_building(&words, raw::BUILDING_LENGTH);
+fn words_that_do_not_count() {
+    let mut buffer = [7; 64];
+    let b = &mut buffer;
+    let mut table = [7; 4];
+    let t = &mut table;
+    let mut answer = [7; raw::SIZE_ANSWER];
+    let a = &mut answer;
 
-        let mut building = words.clone();
-        let mut buffer = [7; 64];
-        let status =
-            raw::begin_forward(&mut building, &mut buffer, &[9], b"p", b"u", b"", b"", b"");
-        assert_eq!(status, raw::BUILDING_LENGTH);
-        let status = raw::begin_send_headers(&mut building, &mut buffer, 65536, b"", 2);
-        assert_eq!(status, raw::BUILDING_LENGTH);
-        assert_eq!(building, words);
-        assert_eq!(buffer, [7; 64]);
-    }
-    for words in [
-        [0; 5],
-        [4, 6, 4, 0, 0],
-        [3, 65536, 4, 0, 0],
-        [3, 6, 65536, 0, 0],
-        [6, 6, 4, 65536, 0],
-        [6, 6, 4, 0, 2],
+    // Outside Busy, all but the state.
+    let mut c = connection([0, 5, 2, 70_000, 9]);
+    assert_eq!(raw::largest_body(&c), 0);
+    assert_eq!(raw::end(&mut c, b, 1, a), 13);
+    assert_eq!(c, connection([0, 5, 2, 70_000, 9]));
+    assert_eq!(raw::cping(&mut c, b, a), raw::DONE);
+    assert_eq!(c, connection([1, 0, 0, 0, 0]));
+    let mut c = connection([1, u32::MAX, u32::MAX, u32::MAX, u32::MAX]);
+    assert_eq!(raw::largest_body(&c), 0);
+    let cpong = b"\x41\x42\x00\x01\x09";
+    assert_eq!(raw::read_at_server(&mut c, cpong, t, a), raw::DONE);
+    assert_eq!(c, FRESH);
+    let mut c = connection([3, 1, 2, 65536, 2]);
+    assert_eq!(raw::body(&mut c, b, b"", a), 13);
+
+    // In Busy what was asked for, where no body packet is due.
+    let mut c = connection([2, 5, 0, 70_000, 0]);
+    assert_eq!(raw::largest_body(&c), 0);
+    assert_eq!(raw::get_body(&mut c, b, 3, a), raw::DONE);
+    assert_eq!(c, connection([2, 5, 1, 3, 0]));
+    let mut c = connection([2, 0, 0, u32::MAX, 1]);
+    assert_eq!(raw::body_chunk(&mut c, b, b"ok", a), raw::DONE);
+    assert_eq!(c, connection([2, 0, 0, 0, 1]));
+}
+
+#[test]
+fn the_largest_body() {
+    for (words, largest) in [
+        ([2, 5, 1, 9, 0], 5),
+        ([2, 9, 1, 5, 1], 5),
+        ([2, 0, 1, 5, 0], 0),
+        ([2, 5, 1, 0, 0], 0),
+        ([2, u32::MAX, 1, 65535, 0], 8186),
+        ([2, 8187, 1, 8187, 0], 8186),
+        ([2, 8185, 1, 8186, 0], 8185),
+        // None is due.
+        ([2, 5, 0, 9, 0], 0),
+        ([0, 5, 1, 9, 0], 0),
+        ([1, 5, 1, 9, 0], 0),
+        ([3, 5, 1, 9, 0], 0),
     ] {
-        with_building(&words, raw::BUILDING_WORD);
+        assert_eq!(raw::largest_body(&connection(words)), largest, "{words:?}");
     }
 }
 
 #[test]
-fn fixed_numbers_that_cannot_be() {
+fn building_records_with_an_error() {
+    for length in [0, 4, 6, 8] {
+        let words = vec![9; length];
+        with_building(&words, raw::ERROR_BUILDING_LENGTH);
+
+        let mut building = words.clone();
+        let mut buffer = [7; 64];
+        let status = begin(&mut building, &mut buffer, &[9]);
+        assert_eq!(status, raw::ERROR_BUILDING_LENGTH);
+        let status = raw::begin_send_headers(&mut building, &mut buffer, 65536, b"", 2);
+        assert_eq!(status, raw::ERROR_BUILDING_LENGTH);
+        assert_eq!(building, words);
+        assert_eq!(buffer, [7; 64]);
+    }
+    for words in [
+        [0; raw::SIZE_BUILDING],
+        [4, 6, 4, 0, 0],
+        [0x10003, 6, 4, 0, 0],
+        [6, 6, 4, 0, 2],
+        [3, 65536, 65536, 65536, 0x10001],
+    ] {
+        with_building(&words, raw::ERROR_BUILDING_WORD);
+    }
+}
+
+#[test]
+fn building_records_of_any_size() {
+    let mut buffer = [0; 64];
+    let first = begun(&mut buffer);
+    let before = buffer;
+    let b = &mut buffer;
+    let mut answer = [7; raw::SIZE_ANSWER];
+    for at in [
+        raw::BUILDING_NEXT,
+        raw::BUILDING_COUNT_PLACE,
+        raw::BUILDING_HEADERS,
+    ] {
+        // The last would be possible where its upper half were cut off.
+        for word in [65536, 70_000, u32::MAX, 65536 + first[at]] {
+            let mut building = first;
+            building[at] = word;
+            let given = building;
+            let r = &mut building;
+            let calls = [
+                raw::header_coded(r, b, 0xA001, b"", 0),
+                raw::header_spelled(r, b, b"a", 0, b"", 0),
+                raw::header_named(r, b, b"a", b"", 0),
+                raw::attribute_text(r, b, 5, b"", 0),
+                raw::attribute_integer(r, b, 0x0B, 1),
+                raw::attribute_pair(r, b, 0x0A, b"a", 0, b"", 0),
+                raw::close(&mut FRESH.clone(), r, b, &mut answer),
+            ];
+            assert_eq!(calls, [16; 7], "{given:?}");
+            assert_eq!(building, given);
+        }
+    }
+    assert_eq!(buffer, before);
+    assert_eq!(answer, [7; raw::SIZE_ANSWER]);
+}
+
+#[test]
+fn fixed_numbers() {
     let begin = |fixed: &[u32]| {
         // Old words of the record do not matter.
-        let mut building = [u32::MAX; 5];
+        let mut building = [u32::MAX; raw::SIZE_BUILDING];
         let mut buffer = [7; 64];
-        let status =
-            raw::begin_forward(&mut building, &mut buffer, fixed, b"p", b"u", b"", b"", b"");
+        let status = begin(&mut building, &mut buffer, fixed);
         if status != raw::DONE {
-            assert_eq!(building, [u32::MAX; 5]);
+            assert_eq!(building, [u32::MAX; raw::SIZE_BUILDING]);
             assert_eq!(buffer, [7; 64]);
         }
         status
     };
     for length in [0, 7, 9] {
-        assert_eq!(begin(&vec![u32::MAX; length]), raw::FIXED_LENGTH);
+        assert_eq!(begin(&vec![u32::MAX; length]), raw::ERROR_FIXED_LENGTH);
     }
-    for (at, word) in [
-        (0, 65536),
-        (1, 65536),
-        (2, 2),
-        (3, 2),
-        (4, 2),
-        (5, 2),
-        (6, 2),
-        (7, 2),
-    ] {
-        let mut fixed = [2, 80, 0, 0, 0, 0, 0, 0];
-        assert_eq!(begin(&fixed), raw::DONE);
+    let right = [2, 80, 0, 0, 0, 0, 0, 0];
+    assert_eq!(begin(&right), raw::DONE);
+    for (at, word) in [(1, 65536), (3, 2), (4, 2), (5, 2), (6, 2), (7, 2)] {
+        let mut fixed = right;
         fixed[at] = word;
-        assert_eq!(begin(&fixed), raw::FIXED_WORD);
+        assert_eq!(begin(&fixed), raw::ERROR_FIXED_WORD);
+        // Looked for before the method.
+        fixed[raw::FIXED_METHOD] = 70_000;
+        assert_eq!(begin(&fixed), raw::ERROR_FIXED_WORD);
     }
-    // A string that is null is not looked at; the protocol may not be null, and that is a refusal.
+    // A method and an is_ssl of any size.
+    for (at, word) in [
+        (raw::FIXED_METHOD, 28),
+        (raw::FIXED_METHOD, 70_000),
+        (raw::FIXED_METHOD, 0x10002),
+        (raw::FIXED_IS_SSL, 2),
+        (raw::FIXED_IS_SSL, 0x10001),
+        (raw::FIXED_IS_SSL, u32::MAX),
+    ] {
+        let mut fixed = right;
+        fixed[at] = word;
+        assert_eq!(begin(&fixed), 7);
+    }
+    // A string that is null is not looked at; the protocol may not be null, and that is a refusal. It stands before
+    // is_ssl.
     assert_eq!(begin(&[2, 80, 0, 1, 0, 0, 0, 0]), 6);
+    assert_eq!(begin(&[2, 80, 2, 1, 0, 0, 0, 0]), 6);
+    assert_eq!(begin(&[0x10002, 80, 2, 1, 0, 0, 0, 0]), 7);
+}
+
+#[test]
+fn is_ssl_before_the_length() {
+    let begin = |is_ssl: u32, buffer: &mut [u8], req_uri: &[u8]| {
+        let fixed = [2, 80, is_ssl, 0, 0, 0, 0, 0];
+        let mut building = [0; raw::SIZE_BUILDING];
+        raw::begin_forward(&mut building, buffer, &fixed, b"p", req_uri, b"", b"", b"")
+    };
+    let long = [b'u'; 9000];
+    assert_eq!(begin(0, &mut [0; 64], &long), 2);
+    assert_eq!(begin(2, &mut [0; 64], &long), 7);
+    assert_eq!(begin(0, &mut [0; 8], b"/"), 15);
+    assert_eq!(begin(2, &mut [0; 8], b"/"), 7);
 }
 
 #[test]
@@ -168,7 +298,7 @@ fn answers_of_the_wrong_length() {
     let b = &mut buffer;
     let mut table = [7; 4];
     let building = begun(&mut [0; 64]);
-    for length in [0, 12, 14] {
+    for length in [0, 13, 15, 17] {
         let mut answer = vec![7; length];
         let a = &mut answer[..];
         let mut connection = FRESH;
@@ -184,22 +314,22 @@ fn answers_of_the_wrong_length() {
             raw::end(c, b, 2, a),
             raw::close(c, &building, b, a),
         ];
-        assert_eq!(calls, [raw::ANSWER_LENGTH; 9]);
+        assert_eq!(calls, [raw::ERROR_ANSWER_LENGTH; 9]);
         assert_eq!(connection, FRESH);
         assert_eq!(answer, vec![7; length]);
     }
     for length in [0, 2, 4] {
         let mut text = vec![7; length];
-        assert_eq!(raw::text_at(b"", 65536, &mut text), raw::ANSWER_LENGTH);
-        assert_eq!(
+        let calls = [
+            raw::text_at(b"", 65536, &mut text),
             raw::attribute_name_at(b"", 65536, &mut text),
-            raw::ANSWER_LENGTH
-        );
+        ];
+        assert_eq!(calls, [raw::ERROR_ANSWER_LENGTH; 2]);
         assert_eq!(text, vec![7; length]);
     }
     for length in [0, 16, 18] {
         let mut name = vec![7; length];
-        assert_eq!(raw::name(4, 65536, &mut name), raw::ANSWER_LENGTH);
+        assert_eq!(raw::name(4, 65536, &mut name), raw::ERROR_ANSWER_LENGTH);
         assert_eq!(name, vec![7; length]);
     }
     assert_eq!(buffer, [7; 64]);
@@ -207,7 +337,7 @@ fn answers_of_the_wrong_length() {
 }
 
 #[test]
-fn arguments_that_cannot_be() {
+fn arguments_out_of_range() {
     let mut buffer = [0; 64];
     let first = begun(&mut buffer);
     let before = buffer;
@@ -216,50 +346,94 @@ fn arguments_that_cannot_be() {
     let b = &mut buffer;
     let mut connection = FRESH;
     let c = &mut connection;
-    let mut answer = [7; 13];
+    let mut answer = [7; raw::SIZE_ANSWER];
     let a = &mut answer;
     let calls = [
         raw::get_body(c, b, 65536, a),
-        raw::end(c, b, 2, a),
-        raw::begin_send_headers(r, b, 65536, b"", 0),
         raw::begin_send_headers(r, b, 200, b"", 2),
-        raw::header_coded(r, b, 65536, b"", 0),
         raw::header_coded(r, b, 0xA001, b"", 2),
         raw::header_spelled(r, b, b"a", 2, b"", 0),
         raw::header_spelled(r, b, b"a", 0, b"", 2),
         raw::header_named(r, b, b"a", b"", 2),
-        raw::attribute_text(r, b, 65536, b"", 0),
         raw::attribute_text(r, b, 5, b"", 2),
-        raw::attribute_integer(r, b, 65536, 0),
         raw::attribute_integer(r, b, 0x0B, 65536),
-        raw::attribute_pair(r, b, 65536, b"a", 0, b"", 0),
         raw::attribute_pair(r, b, 0x0A, b"a", 2, b"", 0),
         raw::attribute_pair(r, b, 0x0A, b"a", 0, b"", 2),
+        // Looked for before the refusal of a code.
+        raw::attribute_text(r, b, 65536, b"", 2),
+        raw::attribute_integer(r, b, 65536, 65536),
     ];
-    assert_eq!(calls, [raw::ARGUMENT; 16]);
+    assert_eq!(calls, [raw::ERROR_ARGUMENT; 12]);
+
+    // Numbers of any size that get the refusal of document 01.
+    for word in [65536, 70_000, u32::MAX] {
+        assert_eq!(raw::begin_send_headers(r, b, word, b"", 0), 7);
+        assert_eq!(raw::header_coded(r, b, word, b"", 0), 8);
+        assert_eq!(raw::attribute_text(r, b, word, b"", 0), 9);
+        assert_eq!(raw::attribute_integer(r, b, word, 0), 9);
+        assert_eq!(raw::attribute_pair(r, b, word, b"a", 0, b"", 0), 9);
+        assert_eq!(raw::end(c, b, word, a), 13);
+    }
+    // Those would be right where their upper half were cut off.
+    assert_eq!(raw::begin_send_headers(r, b, 0x100C8, b"", 0), 7);
+    assert_eq!(raw::header_coded(r, b, 0x1A001, b"", 0), 8);
+    assert_eq!(raw::attribute_text(r, b, 0x10005, b"", 0), 9);
+    assert_eq!(raw::attribute_integer(r, b, 0x1000B, 0), 9);
+    assert_eq!(raw::attribute_pair(r, b, 0x1000A, b"a", 0, b"", 0), 9);
     assert_eq!(building, first);
     assert_eq!(buffer, before);
     assert_eq!(connection, FRESH);
-    assert_eq!(answer, [7; 13]);
+    assert_eq!(answer, [7; raw::SIZE_ANSWER]);
 
-    let mut text = [7; 3];
-    assert_eq!(raw::text_at(b"", 65536, &mut text), raw::ARGUMENT);
-    assert_eq!(raw::attribute_name_at(b"", 65536, &mut text), raw::ARGUMENT);
-    assert_eq!(text, [7; 3]);
-    assert_eq!(raw::integer_at(b"", 65536), raw::ARGUMENT);
-    assert_eq!(raw::header_code_at(b"", 65536), raw::ARGUMENT);
-    assert_eq!(raw::attribute_code_at(b"", 65536), raw::ARGUMENT);
-    assert_eq!(raw::attribute_kind_at(b"", 65536), raw::ARGUMENT);
-    let mut name = [7; 17];
-    assert_eq!(raw::name(4, 1, &mut name), raw::ARGUMENT);
-    assert_eq!(raw::name(0, 65536, &mut name), raw::ARGUMENT);
-    assert_eq!(name, [7; 17]);
-    assert_eq!(raw::code(4, b"GET"), raw::ARGUMENT);
+    let mut text = [7; raw::SIZE_TEXT];
+    let calls = [
+        raw::text_at(b"", 65536, &mut text),
+        raw::attribute_name_at(b"", 65536, &mut text),
+        raw::integer_at(b"", 65536),
+        raw::header_code_at(b"", 65536),
+        raw::attribute_code_at(b"", 65536),
+        raw::attribute_kind_at(b"", 65536),
+    ];
+    assert_eq!(calls, [raw::ERROR_ARGUMENT; 6]);
+    assert_eq!(text, [7; raw::SIZE_TEXT]);
+    let mut name = [7; raw::SIZE_NAME];
+    assert_eq!(raw::name(4, 1, &mut name), raw::ERROR_ARGUMENT);
+    assert_eq!(raw::name(0x10000, 1, &mut name), raw::ERROR_ARGUMENT);
+    assert_eq!(raw::code(4, b"GET"), raw::ERROR_ARGUMENT);
+    // A code of any size that is not listed.
+    for code in [65536, 70_000, 0x10002, u32::MAX] {
+        assert_eq!(raw::name(raw::LIST_METHODS, code, &mut name), 0);
+    }
+    assert_eq!(name, [7; raw::SIZE_NAME]);
+}
+
+#[test]
+fn an_end_with_a_reuse_of_any_size() {
+    let ending = connection([2, 0, 0, 0, 1]);
+    let mut answer = [7; raw::SIZE_ANSWER];
+    for reuse in [2, 255, 256, 0x10001, u32::MAX] {
+        for (words, expected) in [
+            (FRESH, 13),
+            (connection([2, 0, 0, 0, 0]), 13),
+            (connection([2, 0, 1, 5, 1]), 13),
+            (ending, 7),
+        ] {
+            let mut c = words;
+            let mut buffer = [7; 8];
+            assert_eq!(raw::end(&mut c, &mut buffer, reuse, &mut answer), expected);
+            assert_eq!(c, words);
+            assert_eq!(buffer, [7; 8]);
+        }
+        // Before a buffer that is too short.
+        let status = raw::end(&mut ending.clone(), &mut [], reuse, &mut answer);
+        assert_eq!(status, 7);
+    }
+    assert_eq!(answer, [7; raw::SIZE_ANSWER]);
 }
 
 #[test]
 fn views_answer_for_any_place() {
-    let mut text = [7; 3];
+    let mut text = [7; raw::SIZE_TEXT];
     // No byte there.
     assert_eq!(raw::text_at(b"", 65535, &mut text), raw::DONE);
     assert_eq!(text, [0, 0, 0]);
@@ -274,9 +448,9 @@ fn views_answer_for_any_place() {
     assert_eq!(raw::text_at(b"\xFF\xFF", 0, &mut text), raw::DONE);
     assert_eq!(text[1..], [0, 1]);
     // A name that no code stands for.
-    let mut name = [7; 17];
+    let mut name = [7; raw::SIZE_NAME];
     assert_eq!(raw::name(raw::LIST_METHODS, 28, &mut name), 0);
-    assert_eq!(name, [7; 17]);
+    assert_eq!(name, [7; raw::SIZE_NAME]);
     assert_eq!(raw::name(raw::LIST_METHODS, 2, &mut name), 3);
     assert_eq!(&name, b"GET\0\0\0\0\0\0\0\0\0\0\0\0\0\0");
     assert_eq!(raw::code(raw::LIST_REQUEST_HEADERS, b"HOST"), 0xA00B);

@@ -106,9 +106,9 @@ fn tsv_files(folder: &Path) -> Vec<PathBuf> {
 fn parse(case: &str) -> (Call, Lent) {
     let words: Vec<&str> = case.split(' ').collect();
     let mut lent = Lent {
-        answer: Array::holding(&[7; raw::ANSWER_WORDS]),
-        building: Array::holding(&[7; raw::BUILDING_WORDS]),
-        name: Array::holding(&[7; raw::NAME_BYTES]),
+        answer: Array::holding(&[7; raw::SIZE_ANSWER]),
+        building: Array::holding(&[7; raw::SIZE_BUILDING]),
+        name: Array::holding(&[7; raw::SIZE_NAME]),
         ..Lent::default()
     };
     let call = match words[..] {
@@ -226,7 +226,7 @@ fn answer(call: &Call, status: u32, lent: &Lent) -> String {
     }
     match status {
         raw::DONE => {}
-        raw::NEEDS => return format!("needs {}", told[raw::BYTES]),
+        raw::NEEDS => return format!("needs {}", told[raw::ANSWER_BYTES]),
         number => return format!("refused {number}"),
     }
     match call {
@@ -234,7 +234,7 @@ fn answer(call: &Call, status: u32, lent: &Lent) -> String {
             let (kind, fields) = packet_text(told);
             format!(
                 "ok {kind} taken={} conn={}{fields} table={}",
-                told[raw::BYTES],
+                told[raw::ANSWER_BYTES],
                 connection_text(lent),
                 places_text(lent.table.get()),
             )
@@ -247,7 +247,7 @@ fn answer(call: &Call, status: u32, lent: &Lent) -> String {
         | Call::End(_)
         | Call::Close => format!(
             "ok len={} conn={} buf={}",
-            told[raw::BYTES],
+            told[raw::ANSWER_BYTES],
             connection_text(lent),
             bytes_text(lent.buffer.get()),
         ),
@@ -261,45 +261,53 @@ fn answer(call: &Call, status: u32, lent: &Lent) -> String {
 
 /// The kind of a packet that was read, and its fields.
 fn packet_text(told: &[u32]) -> (&'static str, String) {
-    match told[raw::KIND] {
-        raw::CPING => ("cping", String::new()),
-        raw::CPONG => ("cpong", String::new()),
-        raw::FORWARD => (
+    match told[raw::ANSWER_KIND] {
+        raw::KIND_CPING => ("cping", String::new()),
+        raw::KIND_CPONG => ("cpong", String::new()),
+        raw::KIND_FORWARD => (
             "forward",
             format!(
                 " method={} protocol={} req_uri={} remote_addr={} remote_host={} server_name={} \
                  port={} ssl={} headers={} attributes={}",
-                told[raw::METHOD],
-                told[raw::PROTOCOL],
-                told[raw::REQ_URI],
-                told[raw::REMOTE_ADDR],
-                told[raw::REMOTE_HOST],
-                told[raw::SERVER_NAME],
-                told[raw::SERVER_PORT],
-                told[raw::IS_SSL],
-                told[raw::HEADERS],
-                told[raw::ATTRIBUTES],
+                told[raw::ANSWER_METHOD],
+                told[raw::ANSWER_PROTOCOL],
+                told[raw::ANSWER_REQ_URI],
+                told[raw::ANSWER_REMOTE_ADDR],
+                told[raw::ANSWER_REMOTE_HOST],
+                told[raw::ANSWER_SERVER_NAME],
+                told[raw::ANSWER_SERVER_PORT],
+                told[raw::ANSWER_IS_SSL],
+                told[raw::ANSWER_HEADERS],
+                told[raw::ANSWER_ATTRIBUTES],
             ),
         ),
-        raw::BODY => (
+        raw::KIND_BODY => (
             "body",
-            format!(" start={} len={}", told[raw::START], told[raw::LEN]),
+            format!(
+                " start={} len={}",
+                told[raw::ANSWER_START],
+                told[raw::ANSWER_LENGTH]
+            ),
         ),
-        raw::GET_BODY => ("get", format!(" asked={}", told[raw::ASKED_FOR])),
-        raw::SEND_HEADERS => (
+        raw::KIND_GET_BODY => ("get", format!(" asked={}", told[raw::ANSWER_ASKED])),
+        raw::KIND_SEND_HEADERS => (
             "sendheaders",
             format!(
                 " status={} message={} headers={}",
-                told[raw::STATUS],
-                told[raw::MESSAGE],
-                told[raw::HEADERS]
+                told[raw::ANSWER_STATUS],
+                told[raw::ANSWER_MESSAGE],
+                told[raw::ANSWER_HEADERS]
             ),
         ),
-        raw::BODY_CHUNK => (
+        raw::KIND_BODY_CHUNK => (
             "chunk",
-            format!(" start={} len={}", told[raw::START], told[raw::LEN]),
+            format!(
+                " start={} len={}",
+                told[raw::ANSWER_START],
+                told[raw::ANSWER_LENGTH]
+            ),
         ),
-        raw::END => ("end", format!(" reuse={}", told[raw::REUSE])),
+        raw::KIND_END => ("end", format!(" reuse={}", told[raw::ANSWER_REUSE])),
         kind => panic!("no kind: {kind}"),
     }
 }
@@ -352,7 +360,9 @@ fn short_connection(text: &str) -> &str {
     let text = text.strip_suffix(",new").unwrap_or(text);
     match text.split(',').count() {
         5 => text,
-        6 => text.strip_suffix(",0").expect("no request for HEAD is known"),
+        6 => text
+            .strip_suffix(",0")
+            .expect("no request for HEAD is known"),
         _ => panic!("no connection: {text}"),
     }
 }
@@ -371,25 +381,30 @@ fn with_short_connections(answer: &str) -> String {
 
 /// A connection from its text.
 fn connection(text: &str) -> Array<u32> {
-    words(
-        short_connection(text),
-        "IPBC",
-        [raw::IDLE, raw::PINGED, raw::BUSY, raw::CLOSED],
-    )
+    let states = [
+        raw::STATE_IDLE,
+        raw::STATE_PINGED,
+        raw::STATE_BUSY,
+        raw::STATE_CLOSED,
+    ];
+    let mut words = words(short_connection(text), "IPBC", states);
+    words.resize(raw::SIZE_CONNECTION, 0);
+    Array::holding(&words)
 }
 
 /// A building record from its text.
 fn building(text: &str) -> Array<u32> {
-    words(text, "FH", [raw::FORWARD, raw::SEND_HEADERS])
+    let kinds = [raw::KIND_FORWARD, raw::KIND_SEND_HEADERS];
+    Array::holding(&words(text, "FH", kinds))
 }
 
 /// Words from their text, whose first one is a letter.
-fn words<const N: usize>(text: &str, letters: &str, meanings: [u32; N]) -> Array<u32> {
+fn words<const N: usize>(text: &str, letters: &str, meanings: [u32; N]) -> Vec<u32> {
     let (letter, numbers) = text.split_at(1);
     let first = letters.find(letter).expect("a letter that is listed");
     let mut words = vec![meanings[first]];
     words.extend(numbers.split(',').skip(1).map(number));
-    Array::holding(&words)
+    words
 }
 
 /// The text of bytes.
@@ -410,8 +425,8 @@ fn places_text(places: &[u16]) -> String {
 
 /// The text of a connection.
 fn connection_text(lent: &Lent) -> String {
-    let &[state, left, due, asked, headers] = lent.connection.get() else {
-        panic!("a connection has five words");
+    let &[state, left, due, asked, headers, 0, 0, 0] = lent.connection.get() else {
+        panic!("a connection has eight words, the last three of them 0");
     };
     let letter = ["I", "P", "B", "C"][state as usize];
     format!("{letter},{left},{due},{asked},{headers}")
@@ -422,6 +437,6 @@ fn building_text(lent: &Lent) -> String {
     let &[kind, next, count, headers, attributes] = lent.building.get() else {
         panic!("a building record has five words");
     };
-    let letter = if kind == raw::FORWARD { "F" } else { "H" };
+    let letter = if kind == raw::KIND_FORWARD { "F" } else { "H" };
     format!("{letter},{next},{count},{headers},{attributes}")
 }

@@ -1,5 +1,5 @@
 //! The library's calls, answered by the plain implementation: the same arguments, the same status,
-//! and the same words written into the lent arrays, as `ajp13.h` tells them.
+//! and the same words written into the lent arrays, as `ajp13.h` and `ajp13_words.h` tell them.
 
 // A Forward's five strings are five slices, as in the library's call.
 #![allow(clippy::too_many_arguments)]
@@ -8,12 +8,13 @@ use crate::plain::{
     self, Added, Building, BuildingKind, Connection, End, Packet, Received, Sent, State,
 };
 use ajp13::raw::{
-    ANSWER_LENGTH, ANSWER_WORDS, ARGUMENT, BODY, BODY_CHUNK, BUILDING_KIND, BUILDING_LENGTH,
-    BUILDING_WORD, BUILDING_WORDS, BUSY, BYTES, CLOSED, CONNECTION_LENGTH, CONNECTION_WORD,
-    CONNECTION_WORDS, CPING, CPONG, DONE, END, FIXED_LENGTH, FIXED_WORD, FORWARD, GET_BODY, IDLE,
-    KIND, LIST_ATTRIBUTES, LIST_METHODS, LIST_REQUEST_HEADERS, LIST_RESPONSE_HEADERS, NAME_BYTES,
-    NEEDS, PINGED, SEND_HEADERS, TEXT_WORDS, VALUE_INTEGER, VALUE_NOT_SERVED, VALUE_PAIR,
-    VALUE_TEXT,
+    ANSWER_BYTES, ANSWER_KIND, BUILDING_KIND, DONE, ERROR_ANSWER_LENGTH, ERROR_ARGUMENT,
+    ERROR_BUILDING_LENGTH, ERROR_BUILDING_WORD, ERROR_CONNECTION_LENGTH, ERROR_CONNECTION_WORD,
+    ERROR_FIXED_LENGTH, ERROR_FIXED_WORD, KIND_BODY, KIND_BODY_CHUNK, KIND_CPING, KIND_CPONG,
+    KIND_END, KIND_FORWARD, KIND_GET_BODY, KIND_SEND_HEADERS, LIST_ATTRIBUTES, LIST_METHODS,
+    LIST_REQUEST_HEADERS, LIST_RESPONSE_HEADERS, NEEDS, SIZE_ANSWER, SIZE_BUILDING,
+    SIZE_CONNECTION, SIZE_NAME, SIZE_TEXT, STATE_BUSY, STATE_CLOSED, STATE_IDLE, STATE_PINGED,
+    VALUE_INTEGER, VALUE_NOT_SERVED, VALUE_PAIR, VALUE_TEXT,
 };
 
 /// A call that came to its end, or the refusal or the error that it returns.
@@ -41,6 +42,12 @@ fn short(word: u32, error: u32) -> Result<u16, u32> {
     u16::try_from(word).map_err(|_| error)
 }
 
+/// A word for a number of 16 bits that has a range of its own: what does not fit is taken as 65535,
+/// which is out of every such range.
+fn ranged(word: u32) -> u16 {
+    u16::try_from(word).unwrap_or(u16::MAX)
+}
+
 /// A word that has to be a flag.
 fn flag(word: u32, error: u32) -> Result<bool, u32> {
     match word {
@@ -61,31 +68,42 @@ fn string(bytes: &[u8], null: u32, error: u32) -> Result<Option<&[u8]>, u32> {
 
 /// The connection that an array holds.
 fn connection_in(words: &[u32]) -> Result<Connection, u32> {
-    let &[state, left, due, asked, headers] = words else {
-        return Err(CONNECTION_LENGTH);
+    let &[state, left, due, asked, headers, head, edition, open] = words else {
+        return Err(ERROR_CONNECTION_LENGTH);
     };
+    check([head, edition, open] == [0; 3], ERROR_CONNECTION_WORD)?;
+    let state = match state {
+        STATE_IDLE => State::Idle,
+        STATE_PINGED => State::Pinged,
+        STATE_BUSY => State::Busy,
+        STATE_CLOSED => State::Closed,
+        _ => return Err(ERROR_CONNECTION_WORD),
+    };
+    // What does not count may be any word.
+    if state != State::Busy {
+        return Ok(Connection {
+            state,
+            ..Connection::fresh()
+        });
+    }
+    let due = flag(due, ERROR_CONNECTION_WORD)?;
+    let asked = if due { asked } else { 0 };
     Ok(Connection {
-        state: match state {
-            IDLE => State::Idle,
-            PINGED => State::Pinged,
-            BUSY => State::Busy,
-            CLOSED => State::Closed,
-            _ => return Err(CONNECTION_WORD),
-        },
+        state,
         left,
-        due: flag(due, CONNECTION_WORD)?,
-        asked: short(asked, CONNECTION_WORD)?,
-        headers: flag(headers, CONNECTION_WORD)?,
+        due,
+        asked: short(asked, ERROR_CONNECTION_WORD)?,
+        headers: flag(headers, ERROR_CONNECTION_WORD)?,
     })
 }
 
 /// The words of a connection.
-fn connection_words(connection: Connection) -> [u32; CONNECTION_WORDS] {
+fn connection_words(connection: Connection) -> [u32; SIZE_CONNECTION] {
     let state = match connection.state {
-        State::Idle => IDLE,
-        State::Pinged => PINGED,
-        State::Busy => BUSY,
-        State::Closed => CLOSED,
+        State::Idle => STATE_IDLE,
+        State::Pinged => STATE_PINGED,
+        State::Busy => STATE_BUSY,
+        State::Closed => STATE_CLOSED,
     };
     [
         state,
@@ -93,32 +111,35 @@ fn connection_words(connection: Connection) -> [u32; CONNECTION_WORDS] {
         connection.due.into(),
         connection.asked.into(),
         connection.headers.into(),
+        0,
+        0,
+        0,
     ]
 }
 
 /// The building record that an array holds.
 fn building_in(words: &[u32]) -> Result<Building, u32> {
     let &[kind, next, count, headers, attributes] = words else {
-        return Err(BUILDING_LENGTH);
+        return Err(ERROR_BUILDING_LENGTH);
     };
     Ok(Building {
         kind: match kind {
-            FORWARD => BuildingKind::Forward,
-            SEND_HEADERS => BuildingKind::SendHeaders,
-            _ => return Err(BUILDING_WORD),
+            KIND_FORWARD => BuildingKind::Forward,
+            KIND_SEND_HEADERS => BuildingKind::SendHeaders,
+            _ => return Err(ERROR_BUILDING_WORD),
         },
-        next: short(next, BUILDING_WORD)?,
-        count: short(count, BUILDING_WORD)?,
-        headers: short(headers, BUILDING_WORD)?,
-        attributes: flag(attributes, BUILDING_WORD)?,
+        next: ranged(next),
+        count: ranged(count),
+        headers: ranged(headers),
+        attributes: flag(attributes, ERROR_BUILDING_WORD)?,
     })
 }
 
 /// The words of a building record.
-fn building_words(building: Building) -> [u32; BUILDING_WORDS] {
+fn building_words(building: Building) -> [u32; SIZE_BUILDING] {
     let kind = match building.kind {
-        BuildingKind::Forward => FORWARD,
-        BuildingKind::SendHeaders => SEND_HEADERS,
+        BuildingKind::Forward => KIND_FORWARD,
+        BuildingKind::SendHeaders => KIND_SEND_HEADERS,
     };
     [
         kind,
@@ -130,19 +151,19 @@ fn building_words(building: Building) -> [u32; BUILDING_WORDS] {
 }
 
 /// The words that tell of a packet that was read.
-fn packet_words(packet: Packet, taken: usize) -> [u32; ANSWER_WORDS] {
+fn packet_words(packet: Packet, taken: usize) -> [u32; SIZE_ANSWER] {
     let taken = taken as u32;
-    let mut words = [0; ANSWER_WORDS];
+    let mut words = [0; SIZE_ANSWER];
     let mut tell = |kind: u32, fields: &[u32]| {
-        words[KIND] = kind;
-        words[BYTES] = taken;
+        words[ANSWER_KIND] = kind;
+        words[ANSWER_BYTES] = taken;
         words[2..2 + fields.len()].copy_from_slice(fields);
     };
     match packet {
-        Packet::CPing => tell(CPING, &[]),
-        Packet::CPong => tell(CPONG, &[]),
+        Packet::CPing => tell(KIND_CPING, &[]),
+        Packet::CPong => tell(KIND_CPONG, &[]),
         Packet::Forward(forward) => tell(
-            FORWARD,
+            KIND_FORWARD,
             &[
                 forward.method.into(),
                 forward.protocol.into(),
@@ -157,8 +178,8 @@ fn packet_words(packet: Packet, taken: usize) -> [u32; ANSWER_WORDS] {
                 forward.declared,
             ],
         ),
-        Packet::Body { start, len } => tell(BODY, &[start.into(), len.into()]),
-        Packet::GetBody { asked } => tell(GET_BODY, &[asked.into()]),
+        Packet::Body { start, len } => tell(KIND_BODY, &[start.into(), len.into()]),
+        Packet::GetBody { asked } => tell(KIND_GET_BODY, &[asked.into()]),
         Packet::SendHeaders {
             status,
             message,
@@ -176,21 +197,29 @@ fn packet_words(packet: Packet, taken: usize) -> [u32; ANSWER_WORDS] {
                 0,
                 headers.into(),
             ];
-            tell(SEND_HEADERS, &fields);
+            tell(KIND_SEND_HEADERS, &fields);
         }
-        Packet::BodyChunk { start, len } => tell(BODY_CHUNK, &[start.into(), len.into()]),
-        Packet::End { reuse } => tell(END, &[reuse.into()]),
+        Packet::BodyChunk { start, len } => tell(KIND_BODY_CHUNK, &[start.into(), len.into()]),
+        Packet::End { reuse } => tell(KIND_END, &[reuse.into()]),
     }
     words
 }
 
 /// Makes a connection fresh.
 pub fn fresh(connection: &mut [u32]) -> u32 {
-    if connection.len() != CONNECTION_WORDS {
-        return CONNECTION_LENGTH;
+    if connection.len() != SIZE_CONNECTION {
+        return ERROR_CONNECTION_LENGTH;
     }
     connection.copy_from_slice(&connection_words(Connection::fresh()));
     DONE
+}
+
+/// The most bytes that the due body packet may hold.
+pub fn largest_body(connection: &[u32]) -> u32 {
+    match connection_in(connection) {
+        Ok(connection) => connection.body_limit(),
+        Err(error) => error,
+    }
 }
 
 /// Reads at the container's end.
@@ -222,11 +251,11 @@ fn read(
     answer: &mut [u32],
 ) -> Outcome {
     let before = connection_in(connection)?;
-    check(answer.len() == ANSWER_WORDS, ANSWER_LENGTH)?;
+    check(answer.len() == SIZE_ANSWER, ERROR_ANSWER_LENGTH)?;
     match plain::read(end, before, bytes, table) {
         Received::Needs(needed) => {
             answer.fill(0);
-            answer[BYTES] = needed as u32;
+            answer[ANSWER_BYTES] = needed as u32;
             Err(NEEDS)
         }
         Received::Refused(number) => Err(number.into()),
@@ -251,7 +280,7 @@ fn send(
 ) -> u32 {
     status((|| {
         let before = connection_in(connection)?;
-        check(answer.len() == ANSWER_WORDS, ANSWER_LENGTH)?;
+        check(answer.len() == SIZE_ANSWER, ERROR_ANSWER_LENGTH)?;
         match call(before)? {
             Sent::Refused(number) => Err(number.into()),
             Sent::Written {
@@ -260,8 +289,8 @@ fn send(
             } => {
                 connection.copy_from_slice(&connection_words(after));
                 answer.fill(0);
-                answer[KIND] = kind;
-                answer[BYTES] = length as u32;
+                answer[ANSWER_KIND] = kind;
+                answer[ANSWER_BYTES] = length as u32;
                 Ok(())
             }
         }
@@ -270,21 +299,21 @@ fn send(
 
 /// Sends a CPing.
 pub fn cping(connection: &mut [u32], buffer: &mut [u8], answer: &mut [u32]) -> u32 {
-    send(CPING, connection, answer, |before| {
+    send(KIND_CPING, connection, answer, |before| {
         Ok(plain::cping(before, buffer))
     })
 }
 
 /// Sends a CPong.
 pub fn cpong(connection: &mut [u32], buffer: &mut [u8], answer: &mut [u32]) -> u32 {
-    send(CPONG, connection, answer, |before| {
+    send(KIND_CPONG, connection, answer, |before| {
         Ok(plain::cpong(before, buffer))
     })
 }
 
 /// Sends a body packet.
 pub fn body(connection: &mut [u32], buffer: &mut [u8], bytes: &[u8], answer: &mut [u32]) -> u32 {
-    send(BODY, connection, answer, |before| {
+    send(KIND_BODY, connection, answer, |before| {
         Ok(plain::body(before, buffer, bytes))
     })
 }
@@ -296,22 +325,26 @@ pub fn body_chunk(
     bytes: &[u8],
     answer: &mut [u32],
 ) -> u32 {
-    send(BODY_CHUNK, connection, answer, |before| {
+    send(KIND_BODY_CHUNK, connection, answer, |before| {
         Ok(plain::body_chunk(before, buffer, bytes))
     })
 }
 
 /// Sends a Get Body Chunk.
 pub fn get_body(connection: &mut [u32], buffer: &mut [u8], asked: u32, answer: &mut [u32]) -> u32 {
-    send(GET_BODY, connection, answer, |before| {
-        Ok(plain::get_body(before, buffer, short(asked, ARGUMENT)?))
+    send(KIND_GET_BODY, connection, answer, |before| {
+        Ok(plain::get_body(
+            before,
+            buffer,
+            short(asked, ERROR_ARGUMENT)?,
+        ))
     })
 }
 
 /// Sends an End Response.
 pub fn end(connection: &mut [u32], buffer: &mut [u8], reuse: u32, answer: &mut [u32]) -> u32 {
-    send(END, connection, answer, |before| {
-        Ok(plain::end(before, buffer, flag(reuse, ARGUMENT)?))
+    send(KIND_END, connection, answer, |before| {
+        Ok(plain::end(before, buffer, ranged(reuse)))
     })
 }
 
@@ -322,8 +355,8 @@ pub fn close(
     buffer: &mut [u8],
     answer: &mut [u32],
 ) -> u32 {
-    // A connection that cannot be is told before a building record that cannot be, and that before
-    // an answer of a wrong length.
+    // An error of the connection is told before one of the building record, and that before an
+    // answer of a wrong length.
     let record = match connection_in(connection).and_then(|_| building_in(building)) {
         Ok(record) => record,
         Err(error) => return error,
@@ -357,21 +390,21 @@ pub fn begin_forward(
     server_name: &[u8],
 ) -> u32 {
     status((|| {
-        check(building.len() == BUILDING_WORDS, BUILDING_LENGTH)?;
+        check(building.len() == SIZE_BUILDING, ERROR_BUILDING_LENGTH)?;
         let &[method, port, is_ssl, no_protocol, no_req_uri, no_addr, no_host, no_name] = fixed
         else {
-            return Err(FIXED_LENGTH);
+            return Err(ERROR_FIXED_LENGTH);
         };
         let answer = plain::begin_forward(
             buffer,
-            short(method, FIXED_WORD)?,
-            string(protocol, no_protocol, FIXED_WORD)?,
-            string(req_uri, no_req_uri, FIXED_WORD)?,
-            string(remote_addr, no_addr, FIXED_WORD)?,
-            string(remote_host, no_host, FIXED_WORD)?,
-            string(server_name, no_name, FIXED_WORD)?,
-            short(port, FIXED_WORD)?,
-            flag(is_ssl, FIXED_WORD)?,
+            ranged(method),
+            string(protocol, no_protocol, ERROR_FIXED_WORD)?,
+            string(req_uri, no_req_uri, ERROR_FIXED_WORD)?,
+            string(remote_addr, no_addr, ERROR_FIXED_WORD)?,
+            string(remote_host, no_host, ERROR_FIXED_WORD)?,
+            string(server_name, no_name, ERROR_FIXED_WORD)?,
+            short(port, ERROR_FIXED_WORD)?,
+            ranged(is_ssl),
         );
         added(building, answer)
     })())
@@ -386,13 +419,10 @@ pub fn begin_send_headers(
     null: u32,
 ) -> u32 {
     status((|| {
-        check(building.len() == BUILDING_WORDS, BUILDING_LENGTH)?;
-        let response_status = short(response_status, ARGUMENT)?;
-        let message = string(message, null, ARGUMENT)?;
-        added(
-            building,
-            plain::begin_send_headers(buffer, response_status, message),
-        )
+        check(building.len() == SIZE_BUILDING, ERROR_BUILDING_LENGTH)?;
+        let message = string(message, null, ERROR_ARGUMENT)?;
+        let answer = plain::begin_send_headers(buffer, ranged(response_status), message);
+        added(building, answer)
     })())
 }
 
@@ -406,9 +436,9 @@ pub fn header_coded(
 ) -> u32 {
     status((|| {
         let record = building_in(building)?;
-        let code = short(code, ARGUMENT)?;
-        let value = string(value, null, ARGUMENT)?;
-        added(building, plain::header_coded(record, buffer, code, value))
+        let value = string(value, null, ERROR_ARGUMENT)?;
+        let answer = plain::header_coded(record, buffer, ranged(code), value);
+        added(building, answer)
     })())
 }
 
@@ -423,8 +453,8 @@ pub fn header_spelled(
 ) -> u32 {
     status((|| {
         let record = building_in(building)?;
-        let name = string(name, noname, ARGUMENT)?;
-        let value = string(value, novalue, ARGUMENT)?;
+        let name = string(name, noname, ERROR_ARGUMENT)?;
+        let value = string(value, novalue, ERROR_ARGUMENT)?;
         added(building, plain::header_spelled(record, buffer, name, value))
     })())
 }
@@ -439,7 +469,7 @@ pub fn header_named(
 ) -> u32 {
     status((|| {
         let record = building_in(building)?;
-        let value = string(value, null, ARGUMENT)?;
+        let value = string(value, null, ERROR_ARGUMENT)?;
         added(building, plain::header_named(record, buffer, name, value))
     })())
 }
@@ -454,9 +484,9 @@ pub fn attribute_text(
 ) -> u32 {
     status((|| {
         let record = building_in(building)?;
-        let code = short(code, ARGUMENT)?;
-        let value = string(value, null, ARGUMENT)?;
-        added(building, plain::attribute_text(record, buffer, code, value))
+        let value = string(value, null, ERROR_ARGUMENT)?;
+        let answer = plain::attribute_text(record, buffer, ranged(code), value);
+        added(building, answer)
     })())
 }
 
@@ -464,9 +494,8 @@ pub fn attribute_text(
 pub fn attribute_integer(building: &mut [u32], buffer: &mut [u8], code: u32, value: u32) -> u32 {
     status((|| {
         let record = building_in(building)?;
-        let code = short(code, ARGUMENT)?;
-        let value = short(value, ARGUMENT)?;
-        let answer = plain::attribute_integer(record, buffer, code, value);
+        let value = short(value, ERROR_ARGUMENT)?;
+        let answer = plain::attribute_integer(record, buffer, ranged(code), value);
         added(building, answer)
     })())
 }
@@ -483,10 +512,9 @@ pub fn attribute_pair(
 ) -> u32 {
     status((|| {
         let record = building_in(building)?;
-        let code = short(code, ARGUMENT)?;
-        let name = string(name, noname, ARGUMENT)?;
-        let value = string(value, novalue, ARGUMENT)?;
-        let answer = plain::attribute_pair(record, buffer, code, name, value);
+        let name = string(name, noname, ERROR_ARGUMENT)?;
+        let value = string(value, novalue, ERROR_ARGUMENT)?;
+        let answer = plain::attribute_pair(record, buffer, ranged(code), name, value);
         added(building, answer)
     })())
 }
@@ -494,8 +522,8 @@ pub fn attribute_pair(
 /// The string at a place.
 pub fn text_at(packet: &[u8], place: u32, text: &mut [u32]) -> u32 {
     status((|| {
-        check(text.len() == TEXT_WORDS, ANSWER_LENGTH)?;
-        let place = short(place, ARGUMENT)?;
+        check(text.len() == SIZE_TEXT, ERROR_ANSWER_LENGTH)?;
+        let place = short(place, ERROR_ARGUMENT)?;
         text.copy_from_slice(&text_words(packet, usize::from(place)));
         Ok(())
     })())
@@ -504,8 +532,8 @@ pub fn text_at(packet: &[u8], place: u32, text: &mut [u32]) -> u32 {
 /// The name that an attribute 0A brings with it: the string right behind the code's place.
 pub fn attribute_name_at(packet: &[u8], place: u32, text: &mut [u32]) -> u32 {
     status((|| {
-        check(text.len() == TEXT_WORDS, ANSWER_LENGTH)?;
-        let place = short(place, ARGUMENT)?;
+        check(text.len() == SIZE_TEXT, ERROR_ANSWER_LENGTH)?;
+        let place = short(place, ERROR_ARGUMENT)?;
         text.copy_from_slice(&text_words(packet, usize::from(place) + 1));
         Ok(())
     })())
@@ -513,7 +541,7 @@ pub fn attribute_name_at(packet: &[u8], place: u32, text: &mut [u32]) -> u32 {
 
 /// The words that tell of the string at an index. Its bytes start behind its length; where the
 /// length is not there, it is empty and starts at the packet's end.
-fn text_words(packet: &[u8], at: usize) -> [u32; TEXT_WORDS] {
+fn text_words(packet: &[u8], at: usize) -> [u32; SIZE_TEXT] {
     let start = at + 2;
     if start > packet.len() {
         return [packet.len() as u32, 0, 0];
@@ -526,7 +554,7 @@ fn text_words(packet: &[u8], at: usize) -> [u32; TEXT_WORDS] {
 
 /// The bytes of a packet from a place on.
 fn from_place(packet: &[u8], place: u32) -> Result<&[u8], u32> {
-    let place = short(place, ARGUMENT)?;
+    let place = short(place, ERROR_ARGUMENT)?;
     Ok(packet.get(usize::from(place)..).unwrap_or_default())
 }
 
@@ -560,7 +588,7 @@ pub fn attribute_code_at(packet: &[u8], place: u32) -> u32 {
 /// What kind of value an attribute has.
 pub fn attribute_kind_at(packet: &[u8], place: u32) -> u32 {
     match attribute_code_at(packet, place) {
-        ARGUMENT => ARGUMENT,
+        ERROR_ARGUMENT => ERROR_ARGUMENT,
         0x0A => VALUE_PAIR,
         0x0B => VALUE_INTEGER,
         code if plain::attribute_name(code as u16).is_some() => VALUE_TEXT,
@@ -570,18 +598,16 @@ pub fn attribute_kind_at(packet: &[u8], place: u32) -> u32 {
 
 /// The name that is listed for a code.
 pub fn name(list: u32, code: u32, name: &mut [u8]) -> u32 {
-    if name.len() != NAME_BYTES {
-        return ANSWER_LENGTH;
+    if name.len() != SIZE_NAME {
+        return ERROR_ANSWER_LENGTH;
     }
-    let Ok(code) = u16::try_from(code) else {
-        return ARGUMENT;
-    };
+    let code = ranged(code);
     let found = match list {
         LIST_METHODS => plain::method_name(code),
         LIST_REQUEST_HEADERS => plain::request_header_name(code),
         LIST_RESPONSE_HEADERS => plain::response_header_name(code),
         LIST_ATTRIBUTES => plain::attribute_name(code),
-        _ => return ARGUMENT,
+        _ => return ERROR_ARGUMENT,
     };
     let Some(found) = found else { return 0 };
     name.fill(0);
@@ -596,7 +622,7 @@ pub fn code(list: u32, text: &[u8]) -> u32 {
         LIST_REQUEST_HEADERS => plain::request_header_code(text),
         LIST_RESPONSE_HEADERS => plain::response_header_code(text),
         LIST_ATTRIBUTES => plain::attribute_code(text),
-        _ => return ARGUMENT,
+        _ => return ERROR_ARGUMENT,
     };
     found.map_or(0, u32::from)
 }

@@ -86,6 +86,7 @@ impl Text {
 #[derive(Clone)]
 pub enum Call {
     Fresh,
+    LargestBody,
     ReadAtContainer(Vec<u8>),
     ReadAtServer(Vec<u8>),
     CPing,
@@ -175,6 +176,7 @@ macro_rules! call_by {
         let buffer = lent.buffer.lend();
         match $call {
             Call::Fresh => $calls::fresh(connection),
+            Call::LargestBody => $calls::largest_body(connection),
             Call::ReadAtContainer(bytes) => {
                 $calls::read_at_container(connection, bytes, table, answer)
             }
@@ -249,11 +251,61 @@ impl Call {
         call_by!(by_plain, self, lent)
     }
 
+    /// Whether the call is given a connection.
+    pub fn has_connection(&self) -> bool {
+        matches!(self, Call::Fresh | Call::LargestBody) || self.has_answer()
+    }
+
+    /// Whether the call is given a building record.
+    pub fn has_building(&self) -> bool {
+        self.begins()
+            || matches!(
+                self,
+                Call::HeaderCoded { .. }
+                    | Call::HeaderSpelled { .. }
+                    | Call::HeaderNamed { .. }
+                    | Call::AttributeText { .. }
+                    | Call::AttributeInteger { .. }
+                    | Call::AttributePair { .. }
+                    | Call::Close
+            )
+    }
+
+    /// Whether the call begins a packet: it only writes the building record.
+    pub fn begins(&self) -> bool {
+        matches!(
+            self,
+            Call::BeginForward { .. } | Call::BeginSendHeaders { .. }
+        )
+    }
+
+    /// Whether the call is lent an answer.
+    pub fn has_answer(&self) -> bool {
+        matches!(
+            self,
+            Call::ReadAtContainer(_)
+                | Call::ReadAtServer(_)
+                | Call::CPing
+                | Call::CPong
+                | Call::Body(_)
+                | Call::BodyChunk(_)
+                | Call::GetBody(_)
+                | Call::End(_)
+                | Call::Close
+        )
+    }
+
+    /// Whether the call is lent a text.
+    pub fn has_text(&self) -> bool {
+        matches!(self, Call::TextAt { .. } | Call::AttributeNameAt { .. })
+    }
+
     /// Whether the call returns a number that was asked for, or an error, and no other status.
     pub fn hands_out_number(&self) -> bool {
         matches!(
             self,
-            Call::IntegerAt { .. }
+            Call::LargestBody
+                | Call::IntegerAt { .. }
                 | Call::HeaderCodeAt { .. }
                 | Call::AttributeCodeAt { .. }
                 | Call::AttributeKindAt { .. }
@@ -266,6 +318,7 @@ impl Call {
     pub fn name(&self) -> &'static str {
         match self {
             Call::Fresh => "fresh",
+            Call::LargestBody => "largest_body",
             Call::ReadAtContainer(_) => "read_at_container",
             Call::ReadAtServer(_) => "read_at_server",
             Call::CPing => "cping",
@@ -316,7 +369,7 @@ impl Display for Call {
     fn fmt(&self, f: &mut Formatter) -> fmt::Result {
         f.write_str(self.name())?;
         match self {
-            Call::Fresh | Call::CPing | Call::CPong | Call::Close => Ok(()),
+            Call::Fresh | Call::LargestBody | Call::CPing | Call::CPong | Call::Close => Ok(()),
             Call::ReadAtContainer(bytes)
             | Call::ReadAtServer(bytes)
             | Call::Body(bytes)

@@ -5,7 +5,7 @@ use super::packets::{self, Kind};
 use super::rng::Rng;
 use super::strings;
 use super::words;
-use ajp13::raw::{ATTRIBUTES_BEGAN, BUILDING_KIND, BUILDING_WORDS, FORWARD};
+use ajp13::raw::{BUILDING_ATTRIBUTES, BUILDING_KIND, KIND_FORWARD, SIZE_BUILDING};
 
 /// How a Forward begins.
 pub fn begin_forward(rng: &mut Rng) -> Call {
@@ -16,11 +16,17 @@ pub fn begin_forward(rng: &mut Rng) -> Call {
         words::text(rng),
         words::text(rng),
     ];
-    let method = match rng.below(12) {
-        0 => rng.of(&[0, 28, 255, 256, 257, 65535]),
-        _ => rng.between(1, 27) as u32,
+    let mut method = rng.between(1, 27) as u32;
+    match rng.below(24) {
+        0 => method = rng.of(&[0, 28, 255, 256, 257, 65535]),
+        1 => method = words::above_16_bits(rng, method),
+        _ => {}
+    }
+    let is_ssl = match rng.below(16) {
+        0 => words::above_1(rng),
+        _ => rng.below(2) as u32,
     };
-    let mut fixed = vec![method, rng.short().into(), rng.below(2) as u32];
+    let mut fixed = vec![method, rng.short().into(), is_ssl];
     fixed.extend(strings.iter().map(|string| string.null));
     Call::BeginForward {
         fixed,
@@ -30,10 +36,12 @@ pub fn begin_forward(rng: &mut Rng) -> Call {
 
 /// How a Send Headers begins.
 pub fn begin_send_headers(rng: &mut Rng) -> Call {
-    let status = match rng.below(12) {
-        0 => rng.of(&[0, 99, 600, 65535]),
-        _ => rng.between(100, 599) as u32,
-    };
+    let mut status = rng.between(100, 599) as u32;
+    match rng.below(24) {
+        0 => status = rng.of(&[0, 99, 600, 65535]),
+        1 => status = words::above_16_bits(rng, status),
+        _ => {}
+    }
     let message = words::text(rng);
     Call::BeginSendHeaders { status, message }
 }
@@ -64,11 +72,13 @@ pub fn header(rng: &mut Rng, kind: Kind) -> Call {
             }
         }
         1 => {
-            let code = match rng.below(10) {
-                0 => rng.of(&[0, 1, 0xA000, 0xA00C, 0xA00F, 0xA0FF, 0xA101]),
-                1 => rng.short().into(),
-                _ => strings::header_code(rng, kind).into(),
-            };
+            let mut code = strings::header_code(rng, kind).into();
+            match rng.below(15) {
+                0 => code = rng.of(&[0, 1, 0xA000, 0xA00C, 0xA00F, 0xA0FF, 0xA101]),
+                1 => code = rng.short().into(),
+                2 => code = words::above_16_bits(rng, code),
+                _ => {}
+            }
             Call::HeaderCoded { code, value }
         }
         2 => {
@@ -82,24 +92,27 @@ pub fn header(rng: &mut Rng, kind: Kind) -> Call {
 
 /// An attribute.
 pub fn attribute(rng: &mut Rng) -> Call {
-    let code = match rng.below(12) {
+    let which = rng.below(3);
+    let usual = match which {
+        0 => rng.of(&[3, 4, 5, 6, 7, 8, 9, 12, 13]),
+        1 => 0x0B,
+        _ => 0x0A,
+    };
+    let code = match rng.below(18) {
         0 => rng.of(&[0, 1, 2, 0x0E, 0xFF, 0x103, 0x10A, 0x10B, 65535]),
         1 => rng.between(3, 13) as u32,
-        _ => 0,
+        2 => words::above_16_bits(rng, usual),
+        _ => usual,
     };
-    let code = |usual: u32| if code == 0 { usual } else { code };
     let value = words::text(rng);
-    match rng.below(3) {
-        0 => Call::AttributeText {
-            code: code(rng.of(&[3, 4, 5, 6, 7, 8, 9, 12, 13])),
-            value,
-        },
+    match which {
+        0 => Call::AttributeText { code, value },
         1 => Call::AttributeInteger {
-            code: code(0x0B),
+            code,
             value: rng.short().into(),
         },
         _ => Call::AttributePair {
-            code: code(0x0A),
+            code,
             name: words::required_text(rng, b"name"),
             value,
         },
@@ -183,15 +196,11 @@ pub fn single_piece(rng: &mut Rng) -> (Call, Lent) {
             attribute(rng)
         }
     };
-    let begins = matches!(
-        call,
-        Call::BeginForward { .. } | Call::BeginSendHeaders { .. }
-    );
-    let lent = if begins {
+    let lent = if call.begins() {
         // The building record is only written.
         let length = words::array_length(rng, piece_bytes(&call));
         Lent {
-            building: words::words(rng, BUILDING_WORDS),
+            building: words::words(rng, SIZE_BUILDING),
             buffer: words::buffer(rng, length),
             ..Lent::default()
         }
@@ -213,11 +222,11 @@ fn behind_pieces(rng: &mut Rng, kind: Kind, call: &Call) -> Lent {
         Call::HeaderCoded { .. } | Call::HeaderSpelled { .. } | Call::HeaderNamed { .. }
     );
     if is_header && !rng.one_in(6) {
-        building[ATTRIBUTES_BEGAN] = 0;
+        building[BUILDING_ATTRIBUTES] = 0;
     }
     if rng.one_in(8) {
         let other = words::building(rng, bytes.len());
-        let word = rng.below(BUILDING_WORDS);
+        let word = rng.below(SIZE_BUILDING);
         building[word] = other[word];
     }
     let length = words::array_length(rng, bytes.len() + piece_bytes(call));
@@ -241,7 +250,7 @@ fn any_building(rng: &mut Rng) -> Lent {
     let building = words::building(rng, length);
     let mut bytes = rng.bytes(length);
     if let (Some(code), false) = (bytes.get_mut(4), rng.one_in(8)) {
-        *code = if building[BUILDING_KIND] == FORWARD {
+        *code = if building[BUILDING_KIND] == KIND_FORWARD {
             0x02
         } else {
             0x04
@@ -266,7 +275,7 @@ pub fn to_close(rng: &mut Rng) -> Lent {
     match rng.below(12) {
         0 | 1 => {
             let other = words::building(rng, bytes.len());
-            let word = rng.below(BUILDING_WORDS);
+            let word = rng.below(SIZE_BUILDING);
             building[word] = other[word];
         }
         // A word of the record changed by one.

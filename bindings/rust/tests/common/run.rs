@@ -8,8 +8,8 @@ use super::calls::{Call, Lent};
 use super::rng::Rng;
 use super::settings;
 use ajp13::raw::{
-    ANSWER_LENGTH, ARGUMENT, BUILDING_LENGTH, BUILDING_WORD, CONNECTION_LENGTH, CONNECTION_WORD,
-    DONE, FIXED_LENGTH, FIXED_WORD, NEEDS,
+    DONE, ERROR_ANSWER_LENGTH, ERROR_ARGUMENT, ERROR_BUILDING_LENGTH, ERROR_BUILDING_WORD,
+    ERROR_CONNECTION_LENGTH, ERROR_CONNECTION_WORD, ERROR_FIXED_LENGTH, ERROR_FIXED_WORD, NEEDS,
 };
 use std::collections::BTreeMap;
 use std::time::Instant;
@@ -87,17 +87,18 @@ impl Run {
                 status_name(plain_status),
             );
         }
-        let counted = match (call.hands_out_number(), library_status) {
-            (true, 0) => ZERO,
-            (true, 1..=65535) => NUMBER,
-            _ => library_status,
-        };
+        let counted = counted(call, library_status);
         *self.seen.entry((call.name(), counted)).or_default() += 1;
         // A refusal and an error write nothing, and so does a number but for that of a name.
         if !matches!(counted, DONE | NEEDS | NUMBER) {
             assert!(library == *before, "{}: {call}", self.theme);
         }
         (library_status, library)
+    }
+
+    /// Whether the run has as many cases as it has by default.
+    pub fn is_full(&self) -> bool {
+        self.cases >= self.enough
     }
 
     /// Prints how often each status was seen, and checks that those of each call were seen, and no
@@ -108,9 +109,7 @@ impl Run {
 
     /// The same, where only errors are listed and checked.
     pub fn finish_errors(self, expected: &[(&'static str, &[u32])]) {
-        self.check_seen(expected, |status| {
-            (CONNECTION_LENGTH..=ARGUMENT).contains(&status)
-        });
+        self.check_seen(expected, is_error);
     }
 
     /// Checks the statuses that count. In a short run some of them may be missing.
@@ -127,7 +126,7 @@ impl Run {
             println!("  {call}: {}", seen.join(", "));
             for &status in statuses {
                 assert!(
-                    self.seen.contains_key(&(call, status)) || self.cases < self.enough,
+                    self.seen.contains_key(&(call, status)) || !self.is_full(),
                     "{theme}: {call} never returned {}",
                     status_name(status)
                 );
@@ -142,19 +141,33 @@ impl Run {
     }
 }
 
+/// What a status is counted as: where a call hands out a number and no status, 0 and all others.
+pub fn counted(call: &Call, status: u32) -> u32 {
+    match (call.hands_out_number(), status) {
+        (true, 0) => ZERO,
+        (true, 1..=65535) => NUMBER,
+        _ => status,
+    }
+}
+
+/// Whether a status is an error.
+pub fn is_error(status: u32) -> bool {
+    (ERROR_CONNECTION_LENGTH..=ERROR_ARGUMENT).contains(&status)
+}
+
 /// The name of a status; a refusal is told by its number.
 pub fn status_name(status: u32) -> String {
     let name = match status {
         DONE => "done",
         NEEDS => "needs",
-        CONNECTION_LENGTH => "connection-length",
-        CONNECTION_WORD => "connection-word",
-        BUILDING_LENGTH => "building-length",
-        BUILDING_WORD => "building-word",
-        FIXED_LENGTH => "fixed-length",
-        FIXED_WORD => "fixed-word",
-        ANSWER_LENGTH => "answer-length",
-        ARGUMENT => "argument",
+        ERROR_CONNECTION_LENGTH => "connection-length",
+        ERROR_CONNECTION_WORD => "connection-word",
+        ERROR_BUILDING_LENGTH => "building-length",
+        ERROR_BUILDING_WORD => "building-word",
+        ERROR_FIXED_LENGTH => "fixed-length",
+        ERROR_FIXED_WORD => "fixed-word",
+        ERROR_ANSWER_LENGTH => "answer-length",
+        ERROR_ARGUMENT => "argument",
         ZERO => "0",
         NUMBER => "number",
         number => return format!("({number})"),

@@ -1,12 +1,21 @@
-//! Cases of the six calls that write a whole packet.
+//! Cases of the six calls that write a whole packet, and of how many bytes a body packet may hold.
 
 use super::calls::{Array, Call, Lent};
 use super::packets::Kind;
 use super::rng::Rng;
 use super::words;
 
-/// One of the six calls that write a packet, and what is lent to it.
+/// One of the six calls that write a packet, or the one that tells how many bytes a body packet
+/// may hold, and what is lent to it.
 pub fn one_call(rng: &mut Rng) -> (Call, Lent) {
+    if rng.one_in(9) {
+        let kind = rng.of(&[Kind::Body, Kind::Body, Kind::GetBody, Kind::CPing]);
+        let lent = Lent {
+            connection: Array::holding(&words::connection_mostly_for(rng, kind)),
+            ..Lent::default()
+        };
+        return (Call::LargestBody, lent);
+    }
     let kind = rng.of(&[
         Kind::CPing,
         Kind::CPong,
@@ -37,7 +46,13 @@ pub fn one_call(rng: &mut Rng) -> (Call, Lent) {
             (Call::BodyChunk(rng.bytes(size)), 8 + size)
         }
         Kind::GetBody => (Call::GetBody(rng.short().into()), 7),
-        _ => (Call::End(rng.below(2) as u32), 6),
+        _ => {
+            let reuse = match rng.below(8) {
+                0 => words::above_1(rng),
+                _ => rng.below(2) as u32,
+            };
+            (Call::End(reuse), 6)
+        }
     };
     let length = words::array_length(rng, needed);
     let lent = Lent {

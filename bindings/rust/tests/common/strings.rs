@@ -84,7 +84,7 @@ pub fn other_case(rng: &mut Rng, name: &[u8]) -> Vec<u8> {
     name
 }
 
-/// A spelled name that may not be: no token, listed for this packet, or transfer-encoding.
+/// A spelled name that is refused: no token, listed for this packet, or transfer-encoding.
 pub fn bad_name(rng: &mut Rng, kind: Kind) -> Vec<u8> {
     match rng.below(4) {
         0 => listed_name(rng, kind),
@@ -99,7 +99,7 @@ pub fn bad_name(rng: &mut Rng, kind: Kind) -> Vec<u8> {
     }
 }
 
-/// A content-length that may be.
+/// A content-length that is accepted.
 pub fn content_length(rng: &mut Rng) -> Vec<u8> {
     let number = match rng.below(8) {
         0 => 0,
@@ -114,7 +114,7 @@ pub fn content_length(rng: &mut Rng) -> Vec<u8> {
     }
 }
 
-/// A content-length that may not be.
+/// A content-length that is refused.
 pub fn bad_content_length(rng: &mut Rng) -> Option<Vec<u8>> {
     let text: &[u8] = match rng.below(12) {
         0 => return None,

@@ -7,7 +7,7 @@ use super::rng::Rng;
 use super::strings;
 use super::words;
 use crate::plain;
-use ajp13::raw::{MAX_PLACES, NAME_BYTES, TEXT_WORDS};
+use ajp13::raw::{MAX_PLACES, SIZE_NAME, SIZE_TEXT};
 
 /// A view at a place of bytes: at those that reading told, or at any.
 pub fn view(rng: &mut Rng) -> (Call, Lent) {
@@ -30,7 +30,7 @@ pub fn view(rng: &mut Rng) -> (Call, Lent) {
     };
     let place = place.min(65535) as u32;
     let lent = Lent {
-        text: words::words(rng, TEXT_WORDS),
+        text: words::words(rng, SIZE_TEXT),
         ..Lent::default()
     };
     let call = match rng.below(6) {
@@ -72,12 +72,14 @@ fn told_place(rng: &mut Rng, packet: &[u8]) -> usize {
 pub fn name_or_code(rng: &mut Rng) -> (Call, Lent) {
     let list = rng.below(4) as u32;
     let first = [1, 0xA001, 0xA001, 3][list as usize];
-    let code = match rng.below(4) {
-        0 => rng.short().into(),
-        _ => first + rng.below(29) as u32 - 1,
-    };
+    let mut code = first + rng.below(29) as u32 - 1;
+    match rng.below(8) {
+        0 | 1 => code = rng.short().into(),
+        2 => code = words::above_16_bits(rng, code),
+        _ => {}
+    }
     let lent = Lent {
-        name: words::buffer(rng, NAME_BYTES),
+        name: words::buffer(rng, SIZE_NAME),
         ..Lent::default()
     };
     if rng.one_in(2) {

@@ -5,45 +5,108 @@ use super::packets::{Kind, Packet};
 use super::rng::Rng;
 use super::strings;
 use ajp13::raw::{
-    ANSWER_WORDS, BUILDING_WORDS, BUSY, CLOSED, CONNECTION_WORDS, FORWARD, IDLE, MAX_BODY,
-    MAX_PACKET, PINGED, SEND_HEADERS,
+    BUILDING_COUNT_PLACE, BUILDING_HEADERS, BUILDING_NEXT, CONNECTION_ASKED, CONNECTION_DUE,
+    CONNECTION_HEADERS, CONNECTION_LEFT, CONNECTION_STATE, KIND_FORWARD, KIND_SEND_HEADERS,
+    MAX_BODY, MAX_PACKET, SIZE_ANSWER, SIZE_BUILDING, SIZE_CONNECTION, STATE_BUSY, STATE_CLOSED,
+    STATE_IDLE, STATE_PINGED,
 };
 
-/// Any connection, the odd ones too: what counts only in Busy may be set elsewhere.
-pub fn connection(rng: &mut Rng) -> [u32; CONNECTION_WORDS] {
-    [
-        rng.of(&[IDLE, PINGED, BUSY, BUSY, BUSY, CLOSED]),
-        left(rng),
-        rng.below(2) as u32,
-        asked(rng),
-        rng.below(2) as u32,
-    ]
+/// The words of a connection.
+pub type Connection = [u32; SIZE_CONNECTION];
+
+/// Any connection without an error. What does not count in its state may be any word.
+pub fn connection(rng: &mut Rng) -> Connection {
+    let state = rng.of(&[
+        STATE_IDLE,
+        STATE_PINGED,
+        STATE_BUSY,
+        STATE_BUSY,
+        STATE_BUSY,
+        STATE_CLOSED,
+    ]);
+    let (due, headers) = (rng.one_in(2), rng.one_in(2));
+    connection_in(rng, state, due, headers)
+}
+
+/// A connection in a state: in Busy with a body packet due or not, and with headers sent or not.
+pub fn connection_in(rng: &mut Rng, state: u32, due: bool, headers: bool) -> Connection {
+    let busy = state == STATE_BUSY;
+    let mut words = [0; SIZE_CONNECTION];
+    words[CONNECTION_STATE] = state;
+    // At times nothing but what counts.
+    let bare = rng.one_in(3);
+    if (busy && due) || !bare {
+        words[CONNECTION_LEFT] = left(rng);
+    }
+    for (at, counts, word) in [
+        (CONNECTION_DUE, busy, due.into()),
+        (CONNECTION_ASKED, busy && due, asked(rng)),
+        (CONNECTION_HEADERS, busy, headers.into()),
+    ] {
+        words[at] = match counts {
+            true => word,
+            false if bare => 0,
+            false => uncounted(rng),
+        };
+    }
+    words
 }
 
 /// A connection on which a kind of packet is allowed; what does not count is anything.
-pub fn connection_for(rng: &mut Rng, kind: Kind) -> [u32; CONNECTION_WORDS] {
-    let [_, left, due, asked, headers] = if kind == Kind::Body || rng.one_in(2) {
-        connection(rng)
-    } else {
-        [0; CONNECTION_WORDS]
-    };
+pub fn connection_for(rng: &mut Rng, kind: Kind) -> Connection {
+    let (due, headers) = (rng.one_in(2), rng.one_in(2));
     match kind {
-        Kind::CPing | Kind::Forward => [IDLE, left, due, asked, headers],
-        Kind::CPong => [PINGED, left, due, asked, headers],
-        Kind::Body => [BUSY, left, 1, asked, headers],
-        Kind::GetBody => [BUSY, left, 0, asked, headers],
-        Kind::SendHeaders => [BUSY, left, due, asked, 0],
-        Kind::BodyChunk => [BUSY, left, due, asked, 1],
-        Kind::End => [BUSY, left, 0, asked, 1],
+        Kind::CPing | Kind::Forward => connection_in(rng, STATE_IDLE, due, headers),
+        Kind::CPong => connection_in(rng, STATE_PINGED, due, headers),
+        Kind::Body => connection_in(rng, STATE_BUSY, true, headers),
+        Kind::GetBody => connection_in(rng, STATE_BUSY, false, headers),
+        Kind::SendHeaders => connection_in(rng, STATE_BUSY, due, false),
+        Kind::BodyChunk => connection_in(rng, STATE_BUSY, due, true),
+        Kind::End => connection_in(rng, STATE_BUSY, false, true),
     }
 }
 
 /// A connection on which a kind of packet is allowed, or any.
-pub fn connection_mostly_for(rng: &mut Rng, kind: Kind) -> [u32; CONNECTION_WORDS] {
+pub fn connection_mostly_for(rng: &mut Rng, kind: Kind) -> Connection {
     if rng.percent(80) {
         connection_for(rng, kind)
     } else {
         connection(rng)
+    }
+}
+
+/// A word that does not count: one that could, or one that would be out of range where it counted.
+fn uncounted(rng: &mut Rng) -> u32 {
+    match rng.below(6) {
+        0 => rng.of(&[0, 1]),
+        1 => rng.of(&[2, 9, 8186, 65535]),
+        2 => rng.word(),
+        3 => asked(rng),
+        _ => {
+            let low = rng.of(&[0, 1, 8186]);
+            above_16_bits(rng, low)
+        }
+    }
+}
+
+/// A word above 65535, at times one whose low half is the given word, so that it would be that one
+/// where its upper half were cut off.
+pub fn above_16_bits(rng: &mut Rng, low: u32) -> u32 {
+    match rng.below(4) {
+        0 => rng.of(&[65536, 70_000, u32::MAX]),
+        1 => rng.word().max(65536),
+        _ => 65536 * rng.of(&[1, 2, 0xFFFF]) + low % 65536,
+    }
+}
+
+/// A word above 1, at times one whose low half is 0 or 1.
+pub fn above_1(rng: &mut Rng) -> u32 {
+    match rng.below(3) {
+        0 => rng.of(&[2, 3, 255, 256, 257, 65535]),
+        _ => {
+            let low = rng.below(2) as u32;
+            above_16_bits(rng, low)
+        }
     }
 }
 
@@ -69,8 +132,9 @@ fn asked(rng: &mut Rng) -> u32 {
 }
 
 /// The size of a body packet on a connection: mostly one that is allowed, or just not.
-pub fn body_size(rng: &mut Rng, connection: &[u32; CONNECTION_WORDS]) -> usize {
-    let [_, left, _, asked, _] = *connection;
+pub fn body_size(rng: &mut Rng, connection: &Connection) -> usize {
+    let left = connection[CONNECTION_LEFT];
+    let asked = connection[CONNECTION_ASKED];
     let most = (left.min(asked) as usize).min(MAX_BODY);
     match rng.below(12) {
         0 => most + 1,
@@ -116,7 +180,7 @@ pub fn words(rng: &mut Rng, count: usize) -> Array<u32> {
 
 /// An array for an answer, with any old contents.
 pub fn answer(rng: &mut Rng) -> Array<u32> {
-    words(rng, ANSWER_WORDS)
+    words(rng, SIZE_ANSWER)
 }
 
 /// A string as an argument. Where it is null, its bytes are anything.
@@ -156,13 +220,15 @@ pub fn required_text(rng: &mut Rng, usual: &[u8]) -> Text {
 
 /// The building record of a Forward or a Send Headers that was built up to its end, and the bytes
 /// from the packet's first to that end. Neither its length nor its number of headers is set yet.
-pub fn built(packet: &Packet) -> ([u32; BUILDING_WORDS], Vec<u8>) {
+pub fn built(packet: &Packet) -> ([u32; SIZE_BUILDING], Vec<u8>) {
     let mut bytes = packet.bytes.clone();
-    let mut kind = SEND_HEADERS;
+    let mut kind = KIND_SEND_HEADERS;
     if packet.kind == Kind::Forward {
-        kind = FORWARD;
+        kind = KIND_FORWARD;
         // Closing sets the FF, which a fault may have left out.
-        bytes.pop_if(|last| *last == 0xFF);
+        if bytes.last() == Some(&0xFF) {
+            bytes.pop();
+        }
     }
     bytes[2..4].fill(0);
     bytes[packet.count_place..packet.count_place + 2].fill(0);
@@ -176,8 +242,8 @@ pub fn built(packet: &Packet) -> ([u32; BUILDING_WORDS], Vec<u8>) {
     (record, bytes)
 }
 
-/// Any building record that can be told in words, mostly one that is possible in a buffer.
-pub fn building(rng: &mut Rng, buffer: usize) -> [u32; BUILDING_WORDS] {
+/// Any building record without an error, mostly one that is possible in a buffer.
+pub fn building(rng: &mut Rng, buffer: usize) -> [u32; SIZE_BUILDING] {
     let most = buffer.min(MAX_PACKET);
     let next = match rng.below(8) {
         0 => rng.short().into(),
@@ -196,11 +262,16 @@ pub fn building(rng: &mut Rng, buffer: usize) -> [u32; BUILDING_WORDS] {
         0 => rng.of(&[99, 100, 101, 65535]),
         _ => rng.below(101),
     };
-    [
-        rng.of(&[FORWARD, SEND_HEADERS]),
+    let mut words = [
+        rng.of(&[KIND_FORWARD, KIND_SEND_HEADERS]),
         next as u32,
         count as u32,
         headers as u32,
         rng.below(2) as u32,
-    ]
+    ];
+    if rng.one_in(8) {
+        let word = rng.of(&[BUILDING_NEXT, BUILDING_COUNT_PLACE, BUILDING_HEADERS]);
+        words[word] = above_16_bits(rng, words[word]);
+    }
+    words
 }

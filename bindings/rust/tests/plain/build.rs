@@ -49,7 +49,7 @@ impl From<Result<Building, Refusal>> for Added {
     }
 }
 
-/// Writes the fixed fields of a Forward Request.
+/// Writes the fixed fields of a Forward Request; is_ssl is 0 or 1.
 #[allow(clippy::too_many_arguments)]
 pub fn begin_forward(
     buffer: &mut [u8],
@@ -60,7 +60,7 @@ pub fn begin_forward(
     remote_host: Option<&[u8]>,
     server_name: Option<&[u8]>,
     server_port: u16,
-    is_ssl: bool,
+    is_ssl: u16,
 ) -> Added {
     let strings = [protocol, req_uri, remote_addr, remote_host, server_name];
     write_forward(buffer, method, strings, server_port, is_ssl).into()
@@ -186,7 +186,7 @@ fn write_forward(
     method: u16,
     strings: [Option<&[u8]>; 5],
     server_port: u16,
-    is_ssl: bool,
+    is_ssl: u16,
 ) -> Result<Building, Refusal> {
     fields::check_method(method)?;
     let [protocol, req_uri, others @ ..] = strings;
@@ -195,6 +195,7 @@ fn write_forward(
     for string in others {
         fields::check_string(string)?;
     }
+    let is_ssl = fields::boolean(is_ssl)?;
 
     let size = 6 + strings.into_iter().map(string_size).sum::<usize>() + 5;
     let mut writer = Writer::new(buffer, 0, size)?;

@@ -61,9 +61,13 @@ impl Connection {
         self.state == State::Busy && self.due
     }
 
-    /// The most bytes that the due body packet may hold; where it is 0 the packet is empty.
-    fn body_limit(&self) -> u32 {
-        u32::from(self.asked.min(MAX_BODY)).min(self.left)
+    /// The most bytes that the due body packet may hold; where it is 0 the packet is empty. 0 also where none is due.
+    pub fn body_limit(&self) -> u32 {
+        if self.body_due() {
+            u32::from(self.asked.min(MAX_BODY)).min(self.left)
+        } else {
+            0
+        }
     }
 
     /// Refuses a due body packet of a size that is not allowed.

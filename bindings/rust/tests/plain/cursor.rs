@@ -1,7 +1,7 @@
 //! Taking the fields of a packet one after the other, of the second implementation of document 01
 //! that is written apart from the library, for comparison and as the benchmark's baseline.
 
-use super::fields::NULL;
+use super::fields::{self, NULL};
 use super::Refusal;
 
 /// A whole packet and the place in it that is read next.
@@ -64,11 +64,7 @@ impl<'a> Cursor<'a> {
 
     /// Takes a boolean.
     pub(super) fn boolean(&mut self) -> Result<bool, Refusal> {
-        match self.u8()? {
-            0 => Ok(false),
-            1 => Ok(true),
-            _ => Err(Refusal::RANGE),
-        }
+        fields::boolean(self.u8()?.into())
     }
 
     /// Takes a string that may be null or empty.

@@ -67,6 +67,15 @@ pub(super) fn check_status(status: u16) -> Result<(), Refusal> {
     }
 }
 
+/// The truth value of a boolean, which is 0 or 1.
+pub(super) fn boolean(number: u16) -> Result<bool, Refusal> {
+    match number {
+        0 => Ok(false),
+        1 => Ok(true),
+        _ => Err(Refusal::RANGE),
+    }
+}
+
 /// The number that a content-length says.
 pub(super) fn content_length(value: Option<&[u8]>) -> Result<u32, Refusal> {
     let digits = value.unwrap_or_default();

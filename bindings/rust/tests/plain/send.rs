@@ -3,7 +3,7 @@
 
 use super::connection::Kind;
 use super::writer::Writer;
-use super::{code, Connection, Packet, Refusal, MAX_CHUNK, TO_CONTAINER, TO_SERVER};
+use super::{code, fields, Connection, Packet, Refusal, MAX_CHUNK, TO_CONTAINER, TO_SERVER};
 
 /// What a call that sends answers.
 #[derive(Clone, Copy, Debug, PartialEq, Eq)]
@@ -49,11 +49,9 @@ pub fn get_body(connection: Connection, buffer: &mut [u8], asked: u16) -> Sent {
     write_fixed(connection, buffer, Kind::GetBody, packet, &bytes).into()
 }
 
-/// Writes an End Response.
-pub fn end(connection: Connection, buffer: &mut [u8], reuse: bool) -> Sent {
-    let [a, b] = TO_SERVER;
-    let bytes = [a, b, 0, 2, code::END, u8::from(reuse)];
-    write_fixed(connection, buffer, Kind::End, Packet::End { reuse }, &bytes).into()
+/// Writes an End Response; reuse is 0 or 1.
+pub fn end(connection: Connection, buffer: &mut [u8], reuse: u16) -> Sent {
+    write_end(connection, buffer, reuse).into()
 }
 
 /// Writes a body packet.
@@ -64,6 +62,19 @@ pub fn body(connection: Connection, buffer: &mut [u8], bytes: &[u8]) -> Sent {
 /// Writes a Send Body Chunk.
 pub fn body_chunk(connection: Connection, buffer: &mut [u8], bytes: &[u8]) -> Sent {
     write_body_chunk(connection, buffer, bytes).into()
+}
+
+/// Checks and writes an End Response.
+fn write_end(
+    connection: Connection,
+    buffer: &mut [u8],
+    reuse: u16,
+) -> Result<(usize, Connection), Refusal> {
+    connection.check_state(Kind::End)?;
+    let reuse = fields::boolean(reuse)?;
+    let [a, b] = TO_SERVER;
+    let bytes = [a, b, 0, 2, code::END, u8::from(reuse)];
+    write_fixed(connection, buffer, Kind::End, Packet::End { reuse }, &bytes)
 }
 
 /// Writes a short packet whose bytes are known, where its kind is allowed.
