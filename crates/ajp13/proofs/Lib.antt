@@ -1,7 +1,5 @@
 pub mod Within
 pub mod Effects
-pub mod Names
-pub mod OutOfRange
 pub mod Pieces
 pub mod Unchanged
 pub mod Statuses

@@ -10,7 +10,7 @@ use lib.Dec.{eqb}
 use lib.ListN.{length}
 use Rattle.wire.specs.Pick.{pick}
 use Rattle.wire.specs.Bytes.{over}
-use Rattle.building.specs.Fault.{orElse, firstFault}
+use Rattle.building.specs.Fault.{firstFault}
 use Rattle.building.specs.Call.{Call, Outcome, refused, done, refusalOf, outcome, bufferAfter}
 use Rattle.building_record.specs.Record.{isPossible}
 use Rattle.building_record.specs.declared.Building.{Building}
@@ -18,9 +18,7 @@ use Rattle.building_record.proofs.Laws.{possible-yes}
 use Rattle.words.specs.BuildingWords.{buildingIn, buildingWords}
 use Rattle.words.proofs.Records.{building-back}
 use Rattle.answers.specs.Told.{PieceEffect, pieceLeaves, afterAdding}
-use Rattle.ajp13.specs.Sending.{withFault}
 use Rattle.ajp13.specs.Piece.{Piece, pieceEffect}
-use Rattle.ajp13.proofs.OutOfRange.{fault-comes, fault-writes}
 
 module _ (piece : Piece) (building buffer : List ℕ) {found : ℕ} (is : found ≡ firstFault (piece .faults)) where
   -- a fault is told, and all is as it was
@@ -38,14 +36,6 @@ module _ (piece : Piece) (building buffer : List ℕ) {found : ℕ} (is : found 
       (tells
       ∙ ap (λ (o : Outcome Building). afterAdding o building left) (comes ∙ ap (λ (k : Call Building). outcome k (length buffer)) same)
       ∙ ap (afterAdding (outcome (piece .call) (length buffer)) building) (writes ∙ ap (λ (k : Call Building). bufferAfter k buffer) same))
-
--- with a word that is out of its range it is the call's own first fault, or this one behind it, and all is as it was
-pub piece-out-of-range : (piece : Piece) (building buffer : List ℕ) {found told : ℕ} → found ≡ firstFault (piece .faults) → found ≡ 0
-    → (call : Call Building) (fault : ℕ) → withFault call fault ≡ piece .call → (fault ≡ 0 → ⊥) → told ≡ orElse (firstFault (call .faults)) fault
-    → pieceLeaves told building buffer ≡ pieceEffect piece building buffer
-piece-out-of-range piece building buffer {found} {told} is h call fault same wrong tells =
-    piece-called piece building buffer is {call = withFault call fault} {came = refused (orElse (firstFault (call .faults)) fault)} h same
-    (fault-comes call fault wrong (length buffer)) (fault-writes call fault wrong buffer) (ap (λ (n : ℕ). pieceLeaves n building buffer) tells)
 
 -- the words of a record that is possible say the record: its numbers fit
 pub possible-back : (r : Building) (buffer : List ℕ) → isPossible r buffer ≡ true → buildingIn (buildingWords r) ≡ r

@@ -40,7 +40,7 @@ use Rattle.answers.specs.Told.{afterReading, afterSending, pieceLeaves, afterAd
 use Rattle.ajp13.specs.Reading.{readEffect}
 use Rattle.ajp13.specs.Sending.{sendEffect, cpingEffect, cpongEffect, bodyEffect, chunkEffect, getEffect, endEffect, reuseFault, endOf, closeFault, closeEffect}
 use Rattle.ajp13.specs.Piece.{Piece, pieceEffect, forwardPiece, sendHeadersPiece, codedPiece, spelledPiece, namedPiece, textPiece, integerPiece, pairPiece}
-use Rattle.ajp13.proofs.OutOfRange.{with-numbered}
+use Rattle.building.proofs.WithFault.{with-numbered}
 
 -- an error is a status, and so is a refusal
 error-status : (n : ℕ) → isErrorOrNone n ≡ true → isStatus n ≡ true

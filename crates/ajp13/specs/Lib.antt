@@ -1,4 +1,3 @@
 pub mod Reading
 pub mod Sending
 pub mod Piece
-pub mod Name

@@ -9,7 +9,7 @@ use lib.ListN.{length}
 use Rattle.wire.specs.Pick.{pick}
 use Rattle.wire.specs.Refusal.{none}
 use Rattle.building.specs.Fault.{firstFault}
-use Rattle.building.specs.Call.{Call, outcome, bufferAfter}
+use Rattle.building.specs.Call.{Call, withFault, outcome, bufferAfter}
 use Rattle.pieces.specs.Fixed.{forwardCall, sendHeadersCall}
 use Rattle.pieces.specs.Header.{codedCall, spelledCall, namedCall}
 use Rattle.pieces.specs.Attribute.{textCall, integerCall, pairCall}
@@ -18,7 +18,6 @@ use Rattle.words.specs.Number.{flagIn, capped, flagFault, numberFault}
 use Rattle.words.specs.BuildingWords.{buildingRoom, buildingFault, buildingIn}
 use Rattle.words.specs.FixedWords.{fixedFault, sslFault, numbersIn, nullsIn}
 use Rattle.answers.specs.Told.{PieceEffect, pieceLeaves, afterAdding}
-use Rattle.ajp13.specs.Sending.{withFault}
 
 -- a piece: the faults that are looked for first, in their order, and then the call that adds it
 pub record Piece : Type 0 where

@@ -1,14 +1,14 @@
 -- What a call that sends a packet leaves: the packets that one call builds, and closing one that was built in pieces.
 -- The C boundary: a refusal writes nothing; the definitions of `writer` and `closing` say all else.
 -- Assumes nothing.
-use mathlib.Core.List.{List, [], _∷_, _++_}
+use mathlib.Core.List.{List, [], _∷_}
 use Prim.Native.Nat.{ℕ}
 use lib.ListN.{length}
 use Rattle.wire.specs.Refusal.{outOfRange}
 use Rattle.connection.specs.declared.Connection.{Connection}
 use Rattle.connection.specs.declared.Kind.{Kind}
 use Rattle.building.specs.Fault.{unless, orElse, firstFault}
-use Rattle.building.specs.Call.{Call, outcome, bufferAfter}
+use Rattle.building.specs.Call.{Call, withFault, outcome, bufferAfter}
 use Rattle.building.specs.Sent.{Written}
 use Rattle.building_record.specs.Record.{builtKind}
 use Rattle.writer.specs.Sending.{cpingCall, cpongCall, bodyCall, chunkCall, getCall, endCall}
@@ -19,15 +19,6 @@ use Rattle.words.specs.BuildingWords.{buildingFault, buildingIn}
 use Rattle.answers.specs.Answer.{answerFault}
 use Rattle.answers.specs.Effect.{Effect, checked, callFault}
 use Rattle.answers.specs.Told.{afterSending}
-
--- a call with one fault more, that of a word which is out of the range of its field: it is looked for behind the call's own and before 2 and 15
-abbrev pub withFault : {A : Type 0} → Call A → ℕ → Call A
-withFault call fault = record {
-  faults = call .faults ++ (fault ∷ []);
-  at = call .at;
-  bytes = call .bytes;
-  answer = call .answer;
-}
 
 -- a packet that one call builds
 abbrev pub sendEffect : ℕ → Kind → Call Written → List ℕ → List ℕ → List ℕ → Effect

@@ -41,14 +41,17 @@ pub extern "C" fn ajp13_words_begin_forward(
     if found != status::DONE {
         return found;
     }
-    let numbers = numbers_in(fixed);
-    let nulls = nulls_in(fixed);
-    let wrong = ssl_fault(fixed);
-    if wrong != status::DONE {
-        let first = forward::fields_fault(numbers, nulls, protocol, uri, addr, host, name);
-        return or_else(first as u32, wrong);
-    }
-    let added = forward::begin(buffer, numbers, nulls, protocol, uri, addr, host, name);
+    let added = forward::begin_with(
+        buffer,
+        numbers_in(fixed),
+        nulls_in(fixed),
+        protocol,
+        uri,
+        addr,
+        host,
+        name,
+        ssl_fault(fixed),
+    );
     put_added(building, added)
 }
 

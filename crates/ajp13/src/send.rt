@@ -1,17 +1,12 @@
 // The packets that one call builds. A packet is written from the buffer's first byte on, and its kind and length are answered; a refusal
 // and an error write nothing.
 ghost use mathlib.Core.Path.{_≡_};
-ghost use Rattle.wire.specs.Refusal.{notNow, outOfRange};
-ghost use Rattle.connection.specs.Cycle.{inState};
-ghost use Rattle.connection.specs.declared.Kind.{Kind};
-ghost use Rattle.building.specs.Fault.{unless, orElse};
 ghost use Rattle.answers.specs.Effect.{leaves};
 ghost use Rattle.ajp13.specs.Sending.{cpingEffect, cpongEffect, bodyEffect, chunkEffect, getEffect, endEffect};
 use answers::answer::call_fault;
+use answers::sent::reuse_refusal;
 use answers::sent::tell_sent;
-use connection::Connection;
 use connection::Kind;
-use wire::refusal;
 use words::connection_words::connection_in;
 use words::number::SET;
 use words::number::flag_in;
@@ -106,16 +101,6 @@ pub extern "C" fn ajp13_words_get_body(
     }
     let sent = writer::get_body(connection_in(connection), buffer, number_in(asked));
     tell_sent(Kind::GetBody, sent, connection, answer)
-}
-
-// The refusal of an End whose reuse is no boolean: 13 where the state does not allow an End, else 7.
-fn reuse_refusal(connection: Connection) -> u32
-    ensures { λ r. ⌜ r ≡ orElse (unless (inState connection Kind.End) notNow) outOfRange ⌝ }
-{
-    if connection.allows(Kind::End) {
-        return refusal::OUT_OF_RANGE as u32;
-    }
-    refusal::NOT_NOW as u32
 }
 
 // An End; `reuse` says whether the connection is used again.

@@ -2,14 +2,20 @@
 ghost use mathlib.Core.Path.{_≡_};
 ghost use mathlib.Core.List.{List};
 ghost use Prim.Native.Nat.{ℕ};
+ghost use Rattle.wire.specs.Refusal.{notNow, outOfRange};
+ghost use Rattle.connection.specs.Cycle.{inState};
+ghost use Rattle.connection.specs.declared.Kind.{Kind};
+ghost use Rattle.building.specs.Fault.{unless, orElse};
 ghost use Rattle.building.specs.Sent.{sentOutcome};
 ghost use Rattle.answers.specs.Effect.{leaves};
 ghost use Rattle.answers.specs.Told.{afterSending};
 ghost use Rattle.answers.specs.Private.{Takes, SentWithin};
 use crate::answer::bytes_word;
 use crate::answer::written_words;
+use connection::Connection;
 use connection::Kind;
 use connection::Sent;
+use wire::refusal;
 use words::connection_words::put_connection;
 use words::number::fill;
 use words::status;
@@ -32,4 +38,14 @@ pub fn tell_sent(kind: Kind, sent: Sent, connection: &mut [u32], answer: &mut [u
             status::DONE
         }
     }
+}
+
+// The refusal of an End whose reuse is no boolean: 13 where the state does not allow an End, else 7.
+pub fn reuse_refusal(connection: Connection) -> u32
+    ensures { λ r. ⌜ r ≡ orElse (unless (inState connection Kind.End) notNow) outOfRange ⌝ }
+{
+    if connection.allows(Kind::End) {
+        return refusal::OUT_OF_RANGE as u32;
+    }
+    refusal::NOT_NOW as u32
 }

@@ -5,3 +5,4 @@ pub mod Answers
 pub mod Judged
 pub mod Faults
 pub mod Refusals
+pub mod WithFault

@@ -4,7 +4,7 @@
 -- Assumes nothing.
 use mathlib.Core.Path.{_≡_}
 use mathlib.Core.Bool.{true}
-use mathlib.Core.List.{List}
+use mathlib.Core.List.{List, [], _∷_, _++_}
 use Prim.Native.Nat.{ℕ, _+_}
 use lib.Dec.{eqb}
 use lib.ListN.{length}
@@ -19,6 +19,15 @@ pub record Call (A : Type 0) : Type 0 where
   pub at : ℕ
   pub bytes : List ℕ
   pub answer : A
+
+-- a call with one fault more, which its caller found: it is looked for behind the call's own, and before 2 and 15
+abbrev pub withFault : {A : Type 0} → Call A → ℕ → Call A
+withFault call fault = record {
+  faults = call .faults ++ (fault ∷ []);
+  at = call .at;
+  bytes = call .bytes;
+  answer = call .answer;
+}
 
 -- what a call comes to: refused with a number, or done with an answer
 pub data Outcome (A : Type 0) : Type 0 where

@@ -7,7 +7,7 @@ ghost use Rattle.wire.specs.Packet.{Fits};
 ghost use Rattle.payload.specs.Forward.{lastMethod};
 ghost use Rattle.building.specs.Fault.{firstFault};
 ghost use Rattle.building.specs.Field.{faultsOf, fieldsBytes, neededAt};
-ghost use Rattle.building.specs.Call.{outcome, bufferAfter};
+ghost use Rattle.building.specs.Call.{withFault, outcome, bufferAfter};
 ghost use Rattle.building_record.specs.declared.BuildingKind.{BuildingKind};
 ghost use Rattle.pieces.specs.Meaning.{addedOutcome};
 ghost use Rattle.pieces.specs.Fixed.{noNulls, fixed, forwardFields, forwardCall};
@@ -83,8 +83,8 @@ pub fn needs(
     size::plus(at, BEHIND_STRINGS)
 }
 
-// The first fault of the fixed fields, 0 for none.
-pub fn fields_fault(
+// The first fault of the fixed fields.
+fn fields_fault(
     numbers: Numbers,
     nulls: Nulls,
     protocol: &[u8],
@@ -161,6 +161,33 @@ fn write(
     tail(buffer, at, numbers);
 }
 
+// Begins a Forward with one fault more, 0 for none, that the caller found in a field: it counts behind the faults of the other fields, and
+// before 2 and 15.
+pub fn begin_with(
+    buffer: &mut [u8],
+    numbers: Numbers,
+    nulls: Nulls,
+    protocol: &[u8],
+    uri: &[u8],
+    addr: &[u8],
+    host: &[u8],
+    name: &[u8],
+    later: u8,
+) -> Added
+    ensures { λ r. ⌜ addedOutcome r ≡ outcome (withFault (forwardCall numbers nulls (now (protocol .entry)) (now (uri .entry)) (now (addr .entry)) (now (host .entry)) (now (name .entry))) later) (length (now (buffer .entry))) ⌝ }
+    ensures { λ _. ⌜ now (buffer .exit) ≡ bufferAfter (withFault (forwardCall numbers nulls (now (protocol .entry)) (now (uri .entry)) (now (addr .entry)) (now (host .entry)) (now (name .entry))) later) (now (buffer .entry)) ⌝ }
+{
+    let end = needs(numbers, nulls, protocol, uri, addr, host, name);
+    let found = fields_fault(numbers, nulls, protocol, uri, addr, host, name);
+    let found = fault::or_else(found, later);
+    let found = fault::or_else(found, fault::fit(end, buffer.len()));
+    if found != refusal::NONE {
+        return Added::Refused(found);
+    }
+    write(buffer, numbers, nulls, protocol, uri, addr, host, name);
+    Added::Next(opened(BuildingKind::Forward, end))
+}
+
 // Begins a Forward: writes its fixed fields at the buffer's start, its length and its count as 0, and answers the building record.
 pub fn begin(
     buffer: &mut [u8],
@@ -175,12 +202,15 @@ pub fn begin(
     ensures { λ r. ⌜ addedOutcome r ≡ outcome (forwardCall numbers nulls (now (protocol .entry)) (now (uri .entry)) (now (addr .entry)) (now (host .entry)) (now (name .entry))) (length (now (buffer .entry))) ⌝ }
     ensures { λ _. ⌜ now (buffer .exit) ≡ bufferAfter (forwardCall numbers nulls (now (protocol .entry)) (now (uri .entry)) (now (addr .entry)) (now (host .entry)) (now (name .entry))) (now (buffer .entry)) ⌝ }
 {
-    let end = needs(numbers, nulls, protocol, uri, addr, host, name);
-    let found = fields_fault(numbers, nulls, protocol, uri, addr, host, name);
-    let found = fault::or_else(found, fault::fit(end, buffer.len()));
-    if found != refusal::NONE {
-        return Added::Refused(found);
-    }
-    write(buffer, numbers, nulls, protocol, uri, addr, host, name);
-    Added::Next(opened(BuildingKind::Forward, end))
+    begin_with(
+        buffer,
+        numbers,
+        nulls,
+        protocol,
+        uri,
+        addr,
+        host,
+        name,
+        refusal::NONE,
+    )
 }

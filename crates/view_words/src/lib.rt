@@ -1,5 +1,5 @@
-// Views of a packet's fields as words: a string as three words, and the number of a kind of value. What a view of `views` hands out as a
-// slice crosses the C boundary as where it starts and how long it is.
+// Views of a packet's fields as words: a string as three words, the number of a kind of value and (`name`) the listed names. What a view of
+// `views` hands out as a slice crosses the C boundary as where it starts and how long it is.
 ghost use mathlib.Core.Path.{_≡_};
 ghost use Prim.Native.Nat.{_+_, _≤_};
 ghost use Rattle.views.specs.View.{integerView, textView};
@@ -17,6 +17,8 @@ use words::number::number_fault;
 use words::status;
 use words::status::or_else;
 use words::status::unless;
+
+pub mod name;
 
 // How many words a string has: where its bytes start, how many they are, whether it is null.
 pub const TEXT_SIZE: usize = 3;

@@ -65,11 +65,10 @@ module _ (words : List ℕ) where
   connection-judged h fine e = rw (eq-eqb (length words) connectionSize h, e)
 
   -- and the words of a connection by their tests; a proof that does not reach a test says `refl`
-  pub connection-by : (known unused busy fine : Bool) → leb (word words statePlace) lastState ≡ known → areUnused words ≡ unused
-      → eqb (word words statePlace) (stateWord State.Busy) ≡ busy → areBusy words ≡ fine
-      → areConnection words ≡ both (both known unused) (pick busy fine true)
+  pub connection-by : (unused busy fine known : Bool) → areUnused words ≡ unused → eqb (word words statePlace) (stateWord State.Busy) ≡ busy
+      → areBusy words ≡ fine → leb (word words statePlace) lastState ≡ known → areConnection words ≡ both unused (pick busy fine known)
   unfolding areConnection
-  connection-by known unused busy fine p q r s = rw (p, q, r, s)
+  connection-by unused busy fine known p q r s = rw (p, q, r, s)
 
   -- of a building record's
   pub building-short : (length words ≡ buildingSize → ⊥) → status.buildingLength ≡ buildingFault words
@@ -228,15 +227,17 @@ building-forth words h p q r =
 -- the tests of a connection's words: the state's, and in Busy those of what counts there
 state-known : (words : List ℕ) → areConnection words ≡ true → word words statePlace ≤ lastState
 unfolding areConnection
-state-known words e =
-    leb-true (word words statePlace) lastState (both-first (leb (word words statePlace) lastState) (areUnused words)
-    (both-first (both (leb (word words statePlace) lastState) (areUnused words)) _ e))
+state-known words e = go (eqb (word words statePlace) (stateWord State.Busy)) refl (both-second (areUnused words) _ e)
+  where
+    go : (t : Bool) → eqb (word words statePlace) (stateWord State.Busy) ≡ t
+        → pick t (areBusy words) (leb (word words statePlace) lastState) ≡ true → word words statePlace ≤ lastState
+    go true q s = omega (arith, eqb-true (word words statePlace) (stateWord State.Busy) q)
+    go false q s = leb-true (word words statePlace) lastState s
 
 busy-fine : (words : List ℕ) → areConnection words ≡ true → eqb (word words statePlace) (stateWord State.Busy) ≡ true → areBusy words ≡ true
 unfolding areConnection
 busy-fine words e b =
-    let counts : pick (eqb (word words statePlace) (stateWord State.Busy)) (areBusy words) true ≡ true = both-second (both (leb (word words statePlace) lastState) (areUnused words)) (pick (eqb (word words statePlace) (stateWord State.Busy)) (areBusy words) true) e in
-    sym (ap (λ (t : Bool). pick t (areBusy words) true) b) ∙ counts
+    sym (ap (λ (t : Bool). pick t (areBusy words) (leb (word words statePlace) lastState)) b) ∙ both-second (areUnused words) _ e
 
 -- the state that a word says is Busy where the word is Busy's
 busy-word : (n : ℕ) → isBusy (stateIn n) ≡ eqb n (stateWord State.Busy)

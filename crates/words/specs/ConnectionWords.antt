@@ -70,11 +70,11 @@ areBusy words =
     both (both (isFlag (word words duePlace)) (isFlag (word words headersPlace)))
     (pick (flagIn (word words duePlace)) (isNumber (word words askedPlace)) true)
 
--- the words of a connection: a state, the unused ones, and in Busy those that count there
+-- the words of a connection: the unused ones, and Busy with those that count there, or another state
 unfoldable pub areConnection : List ℕ → Bool
 areConnection words =
-    both (both (leb (word words statePlace) lastState) (areUnused words))
-    (pick (eqb (word words statePlace) (stateWord State.Busy)) (areBusy words) true)
+    both (areUnused words)
+    (pick (eqb (word words statePlace) (stateWord State.Busy)) (areBusy words) (leb (word words statePlace) lastState))
 
 -- the fault of an array that is to take a connection, and of the words of one
 unfoldable pub connectionRoom : List ℕ → ℕ

@@ -112,14 +112,11 @@ pub fn connection_fault(words: &[u32]) -> u32
     if words.len() != CONNECTION_SIZE {
         return status::CONNECTION_LENGTH;
     }
-    if CLOSED < words[STATE] {
-        return status::CONNECTION_WORD;
-    }
     if !are_unused(words) {
         return status::CONNECTION_WORD;
     }
     if words[STATE] != BUSY {
-        return status::DONE;
+        return unless(words[STATE] <= CLOSED, status::CONNECTION_WORD);
     }
     unless(are_busy(words), status::CONNECTION_WORD)
 }

@@ -8,6 +8,7 @@ use crate::number::flag_in;
 use crate::number::number_in;
 use crate::status;
 use crate::status::unless;
+use building::fault;
 use pieces::forward::Nulls;
 use pieces::forward::Numbers;
 use wire::refusal;
@@ -48,11 +49,11 @@ pub fn fixed_fault(words: &[u32]) -> u32
 }
 
 // The fault of is_ssl: 7 where it is no flag.
-pub fn ssl_fault(words: &[u32]) -> u32
+pub fn ssl_fault(words: &[u32]) -> u8
     requires { ⌜ length (now words) ≡ fixedSize ⌝ }
     ensures { λ r. ⌜ r ≡ sslFault (now (words .entry)) ⌝ }
 {
-    unless(words[IS_SSL] <= SET, refusal::OUT_OF_RANGE as u32)
+    fault::unless(words[IS_SSL] <= SET, refusal::OUT_OF_RANGE)
 }
 
 // The numbers that they are.

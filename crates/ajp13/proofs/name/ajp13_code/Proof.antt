@@ -3,7 +3,7 @@
 use mathlib.Core.Path.{sym, ap, _∙_}
 use Rattle.names.specs.Names.{codeIn}
 use Rattle.names.specs.declared.NameList.{NameList}
-use Rattle.ajp13.specs.Name.{codeNumber}
+use Rattle.view_words.specs.Name.{codeNumber}
 use Rattle.words.proofs.Found.{fault-told, later-told}
 use borrow.Author.Needs.{needs}
 use Rattle.ajp13.proofs.name.ajp13_code.Statement.{statement}

@@ -1,7 +1,7 @@
 -- `name::ajp13_name` meets its contract: a fault is told and nothing is written, else the name is told.
 -- Assumes nothing.
 use Rattle.words.proofs.Found.{fault-told}
-use Rattle.ajp13.proofs.Names.{fault-leaves, name-fine, name-told}
+use Rattle.view_words.proofs.Names.{fault-leaves, name-fine, name-told}
 use borrow.Author.Needs.{needs}
 use Rattle.ajp13.proofs.name.ajp13_name.Statement.{statement}
 use Rattle.ajp13.proofs.name.ajp13_name.Tie as tie

@@ -21,7 +21,7 @@ use Rattle.answers.specs.Effect.{leaves}
 use Rattle.answers.specs.Private.{Takes, SentWithin}
 use Rattle.answers.proofs.Effects.{call-takes, fault-told}
 use Rattle.ajp13.specs.Sending.{reuseFault, endOf, endEffect}
-use Rattle.ajp13.proofs.OutOfRange.{none-comes, none-writes, fault-comes, fault-writes}
+use Rattle.building.proofs.WithFault.{none-comes, none-writes, fault-comes, fault-writes}
 use Rattle.ajp13.proofs.Within.{sent-within}
 use Rattle.ajp13.proofs.Effects.{send-leaves}
 use borrow.Author.Needs.{needs}

@@ -8,9 +8,6 @@ use Rattle.words.proofs.fixed_words.ssl_fault.Tie as tie
 shared-slice-read-unless : tie.Need-shared-slice-read-unless
 shared-slice-read-unless c = search needs
 
-cast-unless : tie.Need-cast-unless
-cast-unless c = search needs
-
 unless-requires : tie.Need-unless-requires
 unless-requires c κs = search needs
 
@@ -18,4 +15,4 @@ returns : tie.Need-returns
 returns c = c .unless .ensures
 
 pub ssl-fault-spec : {M : Type 1} → statement M
-ssl-fault-spec = tie.close (tie.spec shared-slice-read-unless cast-unless unless-requires returns)
+ssl-fault-spec = tie.close (tie.spec shared-slice-read-unless unless-requires returns)

@@ -7,11 +7,11 @@ use mathlib.Core.Bool.{true, false}
 use Rattle.names.specs.Names.{isListed}
 use Rattle.packet.specs.declared.Name.{Name}
 use Rattle.names.proofs.Codes.{name-length}
-use Rattle.ajp13.proofs.Names.{row-length}
+use Rattle.view_words.proofs.Names.{row-length}
 use lib.ListN.{length}
 use borrow.Author.Needs.{needs}
-use Rattle.ajp13.proofs.name.put_name.Statement.{statement}
-use Rattle.ajp13.proofs.name.put_name.Tie as tie
+use Rattle.view_words.proofs.name.put_name.Statement.{statement}
+use Rattle.view_words.proofs.name.put_name.Tie as tie
 
 name-of-requires : tie.Need-name-of-requires
 name-of-requires c κs = search needs

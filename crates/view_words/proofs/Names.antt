@@ -17,7 +17,7 @@ use Rattle.building.specs.Fault.{unless, orElse}
 use Rattle.building.proofs.Sizes.{unless-none, or-first}
 use Rattle.words.specs.Status as status
 use Rattle.words.specs.Number.{capped}
-use Rattle.ajp13.specs.Name.{listIn, listFault, nameFault, nameAfter}
+use Rattle.view_words.specs.Name.{listIn, listFault, nameFault, nameAfter}
 use Rattle.words.proofs.Lists.{over-all}
 use Rattle.words.proofs.Found.{later-told}
 

@@ -1,4 +1,4 @@
--- `send::reuse_refusal` meets its contract, by whether an End is allowed.
+-- `sent::reuse_refusal` meets its contract, by whether an End is allowed.
 -- Assumes nothing.
 use mathlib.Core.Path.{_≡_, refl, sym, ap, _∙_}
 use mathlib.Core.Bool.{Bool, true, false}
@@ -6,8 +6,8 @@ use Prim.Native.Nat.{ℕ}
 use Rattle.wire.specs.Refusal.{notNow, outOfRange}
 use Rattle.building.specs.Fault.{unless, orElse}
 use borrow.Author.Needs.{needs}
-use Rattle.ajp13.proofs.send.reuse_refusal.Statement.{statement}
-use Rattle.ajp13.proofs.send.reuse_refusal.Tie as tie
+use Rattle.answers.proofs.sent.reuse_refusal.Statement.{statement}
+use Rattle.answers.proofs.sent.reuse_refusal.Tie as tie
 
 -- the refusal by the test
 by : (found : Bool) {allowed : Bool} → found ≡ allowed → {told : Bool} → found ≡ told → orElse (unless told notNow) outOfRange ≡ orElse (unless allowed notNow) outOfRange

@@ -1,10 +1,10 @@
 -- `name::name_fault` meets its contract: the array is looked at before the arguments.
 -- Assumes nothing.
 use mathlib.Core.Path.{_∙_, refl}
-use Rattle.ajp13.specs.Name.{nameFault}
+use Rattle.view_words.specs.Name.{nameFault}
 use borrow.Author.Needs.{needs}
-use Rattle.ajp13.proofs.name.name_fault.Statement.{statement}
-use Rattle.ajp13.proofs.name.name_fault.Tie as tie
+use Rattle.view_words.proofs.name.name_fault.Statement.{statement}
+use Rattle.view_words.proofs.name.name_fault.Tie as tie
 
 unless-requires : tie.Need-unless-requires
 unless-requires c κs = search needs

@@ -10,13 +10,21 @@ use lib.Dec.{eqb}
 use lib.ListN.{length}
 use Rattle.wire.specs.Pick.{pick, either}
 use Rattle.wire.specs.Refusal.{isRefusal, isFault}
 use Rattle.building.specs.Fault.{orElse, firstFault, fitFault}
-use Rattle.building.specs.Call.{Call, Outcome, refused, done, refusalOf, outcome, bufferAfter, Numbered}
-use Rattle.building.proofs.Sizes.{or-none, or-second}
+use Rattle.building.specs.Call.{Call, withFault, Outcome, refused, done, refusalOf, outcome, bufferAfter, Numbered}
+use Rattle.building.proofs.Sizes.{or-none, or-first, or-second}
 use Rattle.building.proofs.Faults.{faults-append}
-use Rattle.ajp13.specs.Sending.{withFault}
 
 module _ {A : Type 0} (call : Call A) where
+  -- the first of its faults
+  pub with-first : (fault : ℕ) {own found : ℕ} → own ≡ firstFault (call .faults) → found ≡ orElse own fault
+      → found ≡ firstFault (withFault call fault .faults)
+  with-first fault p q = q ∙ ap (λ (n : ℕ). orElse n fault) p ∙ sym (faults-append 0 (call .faults) (fault ∷ []))
+
+  -- where that is none, the call has none of its own
+  pub with-own : (fault : ℕ) → firstFault (withFault call fault .faults) ≡ 0 → firstFault (call .faults) ≡ 0
+  with-own fault h = or-first (firstFault (call .faults)) fault (sym (faults-append 0 (call .faults) (fault ∷ [])) ∙ h)
+
   -- the refusal, with the fault behind the call's own
   with-refusal : (fault room : ℕ) → refusalOf (withFault call fault) room
       ≡ orElse (orElse (firstFault (call .faults)) fault) (fitFault (call .at + length (call .bytes)) room)

@@ -2,9 +2,9 @@
 -- Assumes nothing.
 use borrow.Author.Tests.{ne-eqb}
 use mathlib.Core.Path.{sym, ap}
-use Rattle.ajp13.specs.Name.{listIn}
-use Rattle.ajp13.proofs.name.list_in.Statement.{statement}
-use Rattle.ajp13.proofs.name.list_in.Tie as tie
+use Rattle.view_words.specs.Name.{listIn}
+use Rattle.view_words.proofs.name.list_in.Statement.{statement}
+use Rattle.view_words.proofs.name.list_in.Tie as tie
 
 returns : tie.Need-returns
 unfolding listIn
