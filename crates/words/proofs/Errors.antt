@@ -10,7 +10,7 @@ use Rattle.wire.specs.Pick.{pick}
 use Rattle.building.specs.Fault.{unless, orElse}
 use Rattle.words.specs.Status as status
 use Rattle.words.specs.Number.{lastFlag, lastNumber, flagFault, numberFault}
-use Rattle.words.specs.ConnectionWords.{connectionSize, areConnection, connectionRoom, connectionFault}
+use Rattle.words.specs.ConnectionWords.{connectionSize, areConnection, connectionFault}
 use Rattle.words.specs.BuildingWords.{buildingSize, areBuilding, buildingRoom, buildingFault}
 use Rattle.words.specs.FixedWords.{fixedSize, areFixed, fixedFault}
 

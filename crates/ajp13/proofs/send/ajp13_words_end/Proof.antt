@@ -4,7 +4,6 @@ use native.Mathlib.Omega.{arith}
 use borrow.Author.Tests.{le-leb, lt-leb}
 use mathlib.Core.Path.{_≡_, refl, sym, ap, subst, _∙_}
 use mathlib.Core.Bool.{Bool, true, false}
-use mathlib.Core.List.{List}
 use Prim.Native.Nat.{ℕ, _≤_, _<_}
 use lib.ListN.{length}
 use Rattle.wire.specs.Refusal.{notNow, outOfRange}
@@ -13,8 +12,7 @@ use Rattle.connection.specs.declared.Connection.{Connection}
 use Rattle.connection.specs.declared.Kind.{Kind}
 use Rattle.connection.specs.declared.Move.{Move}
 use Rattle.building.specs.Fault.{unless, orElse, firstFault}
-use Rattle.building.specs.Call.{Outcome, refused, outcome, bufferAfter}
-use Rattle.building.specs.Sent.{Written}
+use Rattle.building.specs.Call.{refused, outcome, bufferAfter}
 use Rattle.writer.specs.Sending.{endPayload, endCall}
 use Rattle.words.specs.Number.{lastFlag, flagIn}
 use Rattle.answers.specs.Effect.{leaves}

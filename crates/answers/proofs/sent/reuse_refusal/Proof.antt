@@ -1,8 +1,7 @@
 -- `sent::reuse_refusal` meets its contract, by whether an End is allowed.
 -- Assumes nothing.
-use mathlib.Core.Path.{_≡_, refl, sym, ap, _∙_}
+use mathlib.Core.Path.{_≡_, sym, ap, _∙_}
 use mathlib.Core.Bool.{Bool, true, false}
-use Prim.Native.Nat.{ℕ}
 use Rattle.wire.specs.Refusal.{notNow, outOfRange}
 use Rattle.building.specs.Fault.{unless, orElse}
 use borrow.Author.Needs.{needs}

@@ -1,6 +1,5 @@
 -- `number::number_in` meets its contract, by whether the word is a 16-bit number.
 -- Assumes nothing.
-use native.Mathlib.Omega.{arith}
 use mathlib.Core.Path.{sym}
 use Rattle.words.proofs.Records.{capped-same, capped-great}
 use borrow.Author.Needs.{needs}
