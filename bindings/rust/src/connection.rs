@@ -157,8 +157,8 @@ impl Connection {
     /// attributes: [`Places`](crate::Places), or any slice.
     ///
     /// An error says that the bytes are no packet which the connection may get now, or that the table is too short for
-    /// it. Nothing has changed, and more bytes behind these do not mend it: a program closes its socket then, or lends a
-    /// longer table ([`BufferTooShort`](Refusal::BufferTooShort)).
+    /// it. Nothing has changed, and more bytes behind these do not mend it: a program closes its socket then, or lends
+    /// a longer table ([`BufferTooShort`](Refusal::BufferTooShort)).
     #[inline]
     pub fn read_at_container<'a>(
         &mut self,
