@@ -49,8 +49,9 @@ extern "C" {
  * Done is 0, a refusal is 1 to 65535, AJP13_NEEDS is 65536, an error is above that.
  *
  * A refusal says what is wrong with the packet, or with what was asked: it is an ordinary answer. An error says that
- * the call was given a record or an argument with a number out of range, or an array of the wrong length: it is a fault
- * of the program. Errors are looked for before refusals, in the order of their numbers, and the first one is told.
+ * the call was given an array of the wrong length, or a record or an argument with a number out of range that no
+ * refusal is for: it is a fault of the program. Errors are looked for before refusals, in the order of their numbers,
+ * and the first one is told.
  *
  * The comment above each call names, under "Status" or "Returns", all that it can return.
  */
@@ -192,6 +193,14 @@ enum {
  *
  * Nothing else is allowed (AJP13_NOT_NOW). A body packet holds at least one byte and at most ajp13_largest_body; where
  * that is 0, the body packet is empty (else AJP13_BODY_SIZE_WRONG).
+ *
+ * A Forward declares a body by its header content-length, and none without it. The server sends the first body packet
+ * unasked, right behind the Forward, and each further one when a Get Body Chunk came. The container need not ask for
+ * all of the body before it ends the response.
+ *
+ * A connection does not say which end holds it. A program at the server's end calls ajp13_read_at_server, ajp13_cping,
+ * ajp13_begin_forward and ajp13_body; one at the container's end ajp13_read_at_container, ajp13_cpong,
+ * ajp13_begin_send_headers, ajp13_body_chunk, ajp13_get_body and ajp13_end.
  *
  * Left, due, asked and headers count only in Busy, and asked only where a body packet is due. What does not count is
  * not looked at, and a step sets to 0 what does not count after it.
@@ -360,10 +369,11 @@ static inline uint32_t ajp13_largest_body(const ajp13_connection *connection)
  *   AJP13_DONE                   accepted. The connection has stepped, the table and the answer are written. The packet
  *                                is the first AJP13_ANSWER_BYTES of the bytes; the next packet starts behind it.
  *   AJP13_NEEDS                  the packet is not whole yet: call again when AJP13_ANSWER_BYTES bytes are there in
- *                                all. Only the answer is written.
+ *                                all, which is at most AJP13_MAX_PACKET. Only the answer is written.
  *   a refusal, 1 to 15           nothing is written. The bytes are no packet that this connection may get now, and more
- *                                of them would not change that. With AJP13_BUFFER_TOO_SHORT the packet is good and the
- *                                table too short for it: call again with a longer one.
+ *                                of them would not change that: a program closes its socket then. With
+ *                                AJP13_BUFFER_TOO_SHORT the packet is good and the table too short for it: call again
+ *                                with a longer one.
  *   AJP13_ERROR_CONNECTION_WORD  nothing is written.
  */
 static inline uint32_t ajp13_read_at_container(ajp13_connection *connection,
@@ -377,7 +387,8 @@ static inline uint32_t ajp13_read_at_container(ajp13_connection *connection,
 
 /*
  * Reads the packet at the start of bytes, at the server's end: CPong, Get Body Chunk, Send Headers, Send Body Chunk or
- * End Response. Arguments and status are those of ajp13_read_at_container; connection is the server's.
+ * End Response. Arguments and status are those of ajp13_read_at_container; connection is the server's. Of the refusals,
+ * AJP13_CODE_NOT_SERVED, AJP13_ATTRIBUTE_WRONG, AJP13_CONTENT_LENGTH_WRONG and AJP13_BODY_SIZE_WRONG do not come here.
  */
 static inline uint32_t ajp13_read_at_server(ajp13_connection *connection,
                                             const uint8_t *bytes, size_t bytes_length,
@@ -742,7 +753,8 @@ static inline uint32_t ajp13_attribute_pair(ajp13_building *building, uint8_t *b
  * reader of the other end would refuse. Where it is refused, the buffer is as it was before closing, the connection has
  * not stepped, and more pieces may be added.
  *
- * Status: AJP13_DONE; a refusal; AJP13_ERROR_CONNECTION_WORD, AJP13_ERROR_BUILDING_WORD.
+ * Status: AJP13_DONE; any refusal but AJP13_CODE_NOT_SERVED and AJP13_BODY_SIZE_WRONG; AJP13_ERROR_CONNECTION_WORD,
+ * AJP13_ERROR_BUILDING_WORD.
  */
 static inline uint32_t ajp13_close(ajp13_connection *connection, const ajp13_building *building,
                                    uint8_t *buffer, size_t buffer_length, ajp13_answer *answer)

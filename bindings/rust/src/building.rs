@@ -289,7 +289,8 @@ impl<B: fmt::Debug> Error for NotClosed<B> {}
 
 /// The fixed fields of a Forward Request. A string that may be null is an `Option`, and `None` is null.
 ///
-/// [`begin`](Self::begin) writes them into a buffer; then come headers, then attributes, then closing.
+/// [`begin`](Self::begin) writes them into a buffer; then come headers, then attributes, then closing. A request with a
+/// body declares its length by the header content-length, and its first body packet is due as soon as it is closed.
 ///
 /// ```
 /// use ajp13::{attribute, Connection, ForwardHead, Method, Refusal};

@@ -157,7 +157,8 @@ impl Connection {
     /// attributes: [`Places`](crate::Places), or any slice.
     ///
     /// An error says that the bytes are no packet which the connection may get now, or that the table is too short for
-    /// it. Nothing has changed, and more bytes behind these do not mend it.
+    /// it. Nothing has changed, and more bytes behind these do not mend it: a program closes its socket then, or lends
+    /// a longer table ([`BufferTooShort`](Refusal::BufferTooShort)).
     #[inline]
     pub fn read_at_container<'a>(
         &mut self,
@@ -198,8 +199,9 @@ impl Connection {
         })
     }
 
-    /// Writes a body packet to the start of `buffer` and hands out its bytes. From the server's end, where one is due.
-    /// It holds 1 to [`largest_body`](Self::largest_body) bytes; none where that is 0.
+    /// Writes a body packet to the start of `buffer` and hands out its bytes. From the server's end, where one is due:
+    /// the first behind a Forward that declares a body, each further one when a Get Body Chunk came. It holds 1 to
+    /// [`largest_body`](Self::largest_body) bytes; none where that is 0.
     #[inline]
     pub fn body<'b>(&mut self, buffer: &'b mut [u8], bytes: &[u8]) -> Result<&'b [u8], Refusal> {
         sent(buffer, |buffer, answer| {
