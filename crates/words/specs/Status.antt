@@ -16,21 +16,21 @@ done = 0
 abbrev pub needs : ℕ
 needs = 0x10000
 
--- a connection has not its number of words, or one that cannot be
+-- a connection has not its number of words, or one out of range
 abbrev pub connectionLength : ℕ
 connectionLength = 0x10001
 
 abbrev pub connectionWord : ℕ
 connectionWord = 0x10002
 
--- a building record has not its number of words, or one that cannot be
+-- a building record has not its number of words, or one out of range
 abbrev pub buildingLength : ℕ
 buildingLength = 0x10003
 
 abbrev pub buildingWord : ℕ
 buildingWord = 0x10004
 
--- a Forward's fixed numbers are not as many as they must be, or one cannot be
+-- a Forward's fixed numbers are not as many as they must be, or one is out of range
 abbrev pub fixedLength : ℕ
 fixedLength = 0x10005
 
@@ -41,7 +41,7 @@ fixedWord = 0x10006
 abbrev pub answerLength : ℕ
 answerLength = 0x10007
 
--- an argument that cannot be
+-- an argument out of range
 abbrev pub argument : ℕ
 argument = 0x10008
 

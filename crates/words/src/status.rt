@@ -8,7 +8,7 @@ pub const DONE: u32 = 0;
 // The packet is not whole yet: the answer tells how many bytes are needed in all.
 pub const NEEDS: u32 = 0x10000;
 
-// An array of another length than it must have, or a word of it that cannot be.
+// An array of another length than it must have, or a word of it out of range.
 pub const CONNECTION_LENGTH: u32 = 0x10001;
 
 pub const CONNECTION_WORD: u32 = 0x10002;
@@ -23,7 +23,7 @@ pub const FIXED_WORD: u32 = 0x10006;
 
 pub const ANSWER_LENGTH: u32 = 0x10007;
 
-// A number or a flag that cannot be.
+// An argument out of range.
 pub const ARGUMENT: u32 = 0x10008;
 
 // The fault of a test that does not hold.
