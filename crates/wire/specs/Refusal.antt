@@ -1,4 +1,4 @@
--- The refusal numbers of document 01, each under a name, in the order of its table. `refusal` in src/ has the same list.
+-- The refusal numbers of documents 01 and 02, each under a name, in the order of their tables. `refusal` in src/ has the same list.
 -- Assumes nothing.
 use mathlib.Core.Bool.{Bool}
 use mathlib.Core.List.{List, [], _∷_}
@@ -75,6 +75,14 @@ bufferTooShort = 15
 abbrev pub recordWrong : ℕ
 recordWrong = 16
 
+-- a capture's last packet is not whole
+abbrev pub unfinishedPacket : ℕ
+unfinishedPacket = 17
+
+-- a capture of over 4294967295 bytes, of which those that are judged show no other fault
+abbrev pub captureTooLong : ℕ
+captureTooLong = 18
+
 -- all of them, in the order of the table; a later number joins at the end
 abbrev pub refusals : List ℕ
 refusals =
@@ -94,13 +102,15 @@ refusals =
     ∷ bodySizeWrong
     ∷ bufferTooShort
     ∷ recordWrong
+    ∷ unfinishedPacket
+    ∷ captureTooLong
     ∷ []
 
 -- none and all of them
 abbrev pub faults : List ℕ
 faults = none ∷ refusals
 
--- a number of document 01's table of refusals
+-- a number of the tables of refusals
 abbrev pub isRefusal : ℕ → Bool
 isRefusal n = oneOf refusals n
 

@@ -36,8 +36,12 @@ pub const BUFFER_TOO_SHORT: u8 = 15;
 
 pub const RECORD_WRONG: u8 = 16;
 
+pub const UNFINISHED_PACKET: u8 = 17;
+
+pub const CAPTURE_TOO_LONG: u8 = 18;
+
 // How many there are, none among them.
-const COUNT: usize = 17;
+const COUNT: usize = 19;
 
 // All of them, in the order of the table. A place in the list says nothing of a number: later ones join at the end, and some may be left out.
 pub fn all() -> [u8; COUNT]
@@ -61,5 +65,7 @@ pub fn all() -> [u8; COUNT]
         BODY_SIZE_WRONG,
         BUFFER_TOO_SHORT,
         RECORD_WRONG,
+        UNFINISHED_PACKET,
+        CAPTURE_TOO_LONG,
     ]
 }

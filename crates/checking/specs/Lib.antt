@@ -1,0 +1,3 @@
+pub mod Checking
+pub mod Parts
+pub mod Private
