@@ -9,6 +9,8 @@ use places::MAX_PLACES;
 use reader::Received;
 use wire::leading_bytes;
 
+pub mod window;
+
 // Which way the next packet of the bytes goes, by their first byte.
 pub fn direction_in(bytes: &[u8]) -> Direction
     ensures { λ r. ⌜ r ≡ directionIn (now (bytes .entry)) ⌝ }

@@ -12,7 +12,9 @@ use lib.ListN.{length, take, drop, length-take, length-drop}
 use lib.Seq.{take-nil, drop-nil, drop-append-le, drop-drop, take-all}
 use Rattle.wire.specs.Pick.{pick, both}
 use Rattle.wire.specs.Refusal.{none}
+use Rattle.wire.specs.Bytes.{part}
 use Rattle.wire.specs.Packet.{maxPacket}
+use Rattle.wire.proofs.Bytes.{length-part}
 use Rattle.connection.specs.Connection.{fresh}
 use Rattle.connection.specs.declared.Connection.{Connection}
 use Rattle.capture.specs.Course.{Seen, Course, stopped, allBefore, course, fed, joined, total, oneEach, sizeOf}
@@ -156,6 +158,14 @@ taken-there k s = go (goesOn k) refl
     go false e =
         let same : goneOn k s .place ≡ k .place = ap (λ (r : Checking). r .place) (sym (gone-on-stays k s e)) in
         (omega arith, omega arith)
+
+-- the same of the front of lent bytes
+pub taken-lent : (k r : Checking) (s lent : List ℕ) (there : ℕ) → lent ≡ part s 0 there → there ≤ length s → r ≡ goneOn k lent
+    → (takenBy k r ≤ there) × (k .place ≤ r .place)
+taken-lent k r s lent there l h e =
+    let size : length lent ≡ there = ap length l ∙ length-part s 0 there (omega arith) in
+    subst (λ (x : Checking). (takenBy k x ≤ there) × (k .place ≤ x .place)) (sym e)
+    (subst (λ (n : ℕ). takenBy k (goneOn k lent) ≤ n) size (taken-there k lent .0), taken-there k lent .1)
 
 -- what is kept of bytes that were gone on with
 abbrev feedingOf : Checking → List ℕ → Feeding
