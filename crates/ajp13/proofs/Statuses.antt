@@ -34,6 +34,8 @@ use Rattle.words.specs.ConnectionWords.{connectionFault, connectionIn}
 use Rattle.words.specs.BuildingWords.{buildingRoom, buildingFault, buildingIn}
 use Rattle.words.specs.FixedWords.{sslPlace, fixedFault, sslFault, numbersIn, nullsIn}
 use Rattle.words.proofs.Errors.{unless-error, or-error, flag-error, number-error, room-error, connection-error, building-error, fixed-error}
+use Rattle.checking_words.specs.CheckingWords.{checkingRoom, checkingFault, checkedFault, finishFault}
+use Rattle.checking_words.proofs.Laws.{checking-error, checking-room-error, checked-error, finish-error}
 use Rattle.answers.specs.Answer.{answerSize, answerFault}
 use Rattle.answers.specs.Effect.{Effect, leaves, checked, callFault}
 use Rattle.answers.specs.Told.{afterReading, afterSending, pieceLeaves, afterAdding}
@@ -201,3 +203,16 @@ pieces-status building buffer =
           (or-error (orElse (buildingFault building) (flagFault noname)) (flagFault novalue) (or-error (buildingFault building) (flagFault noname) (building-error building) (flag-error noname)) (flag-error novalue))
           (known .7 r buffer (capped code) (flagIn noname) name (flagIn novalue) value),
     )
+
+-- the checker's calls: done or an error, whatever the verdict is
+pub checks-status : (checking checked : List ℕ)
+    → (isStatus (checkedFault checked) ≡ true)
+    × (isStatus (checkingRoom checking) ≡ true)
+    × (isStatus (checkingFault checking) ≡ true)
+    × (isStatus (finishFault checking checked) ≡ true)
+checks-status checking checked = (
+  error-status (checkedFault checked) (checked-error checked),
+  error-status (checkingRoom checking) (checking-room-error checking),
+  error-status (checkingFault checking) (checking-error checking),
+  error-status (finishFault checking checked) (finish-error checking checked),
+)

@@ -45,9 +45,16 @@ answerLength = 0x10007
 abbrev pub argument : ℕ
 argument = 0x10008
 
+-- a check on the way has not its number of words, or one out of range
+abbrev pub checkingLength : ℕ
+checkingLength = 0x10009
+
+abbrev pub checkingWord : ℕ
+checkingWord = 0x1000A
+
 -- the number of an error
 abbrev pub isError : ℕ → Bool
-isError n = between connectionLength argument n
+isError n = between connectionLength checkingWord n
 
 -- what is found wrong with the arrays and the arguments of a call: nothing, or an error
 abbrev pub isErrorOrNone : ℕ → Bool

@@ -15,7 +15,7 @@ use connection::State;
 use packet::BodyLeft;
 
 // How many words, and where each stands.
-const CONNECTION_SIZE: usize = 8;
+pub const CONNECTION_SIZE: usize = 8;
 
 const STATE: usize = 0;
 
@@ -46,7 +46,7 @@ const BUSY: u32 = 2;
 const CLOSED: u32 = 3;
 
 // The word of a state, and the state that a word is.
-fn state_word(state: State) -> u32
+pub fn state_word(state: State) -> u32
     ensures { λ r. ⌜ r ≡ stateWord state ⌝ }
 {
     match state {
@@ -138,7 +138,7 @@ pub fn connection_in(words: &[u32]) -> Connection
 }
 
 // The words of a connection.
-fn connection_words(connection: Connection) -> [u32; CONNECTION_SIZE]
+pub fn connection_words(connection: Connection) -> [u32; CONNECTION_SIZE]
     ensures { λ r. ⌜ r ≡ connectionWords connection ⌝ }
 {
     let left = connection.left();

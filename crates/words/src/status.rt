@@ -26,6 +26,11 @@ pub const ANSWER_LENGTH: u32 = 0x10007;
 // An argument out of range.
 pub const ARGUMENT: u32 = 0x10008;
 
+// A check on the way with another number of words, or with a word out of range.
+pub const CHECKING_LENGTH: u32 = 0x10009;
+
+pub const CHECKING_WORD: u32 = 0x1000A;
+
 // The fault of a test that does not hold.
 pub fn unless(holds: bool, fault: u32) -> u32
     ensures { λ r. ⌜ r ≡ unless holds fault ⌝ }
