@@ -2,14 +2,14 @@
  * ajp13.h: both ends of an AJP13 connection.
  *
  * AJP13 is the protocol between a web server and a servlet container. The library takes a packet out of lent bytes,
- * checks it, gives views of its fields, builds packets, and keeps the connection's cycle. It opens no sockets,
- * allocates nothing and keeps nothing between calls.
+ * checks it, gives views of its fields, builds packets, and keeps the connection's cycle. It also checks a capture of
+ * what others sent. It opens no sockets, allocates nothing and keeps nothing between calls.
  *
  * What holds for every call:
  *
- * - A connection, a building record, an answer and a text each have a type, an array of words with named positions:
- *   answer.words[AJP13_ANSWER_BYTES]. Bytes, buffers and tables are given as a pointer and a length, which counts
- *   elements. A string to write is an ajp13_string.
+ * - A connection, a building record, an answer, a text, a check on the way and a checker's answer each have a type, an
+ *   array of words with named positions: answer.words[AJP13_ANSWER_BYTES]. Bytes, buffers and tables are given as a
+ *   pointer and a length, which counts elements. A string to write is an ajp13_string.
  * - No pointer may be NULL, also where its length is 0; each must be aligned for its type. The one exception is the
  *   pointer in an ajp13_string.
  * - What is lent for writing (its pointer is not to const) may not overlap anything else that the call is given.
@@ -80,6 +80,11 @@ enum {
     AJP13_RECORD_WRONG = 16,          /* a header after an attribute, an attribute on a Send Headers, or an
                                          impossible building record; see ajp13_building */
 
+    /* Refusals of a capture. They stand in the checker's answer (ajp13_checked), and no call returns them. */
+    AJP13_UNFINISHED_PACKET = 17,     /* the capture's last packet is not whole */
+    AJP13_CAPTURE_TOO_LONG = 18,      /* the capture has over AJP13_MAX_CAPTURE bytes, and those judged show no other
+                                         fault */
+
     /* Only from reading: the packet is not whole yet. See ajp13_read_at_container. */
     AJP13_NEEDS = 0x10000,
 
@@ -92,9 +97,12 @@ enum {
     AJP13_ERROR_FIXED_WORD = 0x10006,        /* a Forward's server_port above 65535, or the null of one of its strings
                                                 above 1 */
     AJP13_ERROR_ANSWER_LENGTH = 0x10007,     /* an array lent for the answer has not its length: answer
-                                                AJP13_SIZE_ANSWER, text AJP13_SIZE_TEXT, name AJP13_SIZE_NAME */
-    AJP13_ERROR_ARGUMENT = 0x10008           /* a place, the integer of an attribute or what a Get Body asks for above
+                                                AJP13_SIZE_ANSWER, text AJP13_SIZE_TEXT, name AJP13_SIZE_NAME, checked
+                                                AJP13_SIZE_CHECKED */
+    AJP13_ERROR_ARGUMENT = 0x10008,          /* a place, the integer of an attribute or what a Get Body asks for above
                                                 65535; the null of a string above 1; a list above 3 */
+    AJP13_ERROR_CHECKING_LENGTH = 0x10009,   /* the check on the way has not AJP13_SIZE_CHECKING words */
+    AJP13_ERROR_CHECKING_WORD = 0x1000A      /* a word of it is out of range; see ajp13_checking */
 };
 
 /* 1 where a status is a refusal, which is a number of the protocol; else 0. */
@@ -109,7 +117,7 @@ static inline int ajp13_is_error(uint32_t status)
     return status > AJP13_NEEDS;
 }
 
-/* A status in words, for messages to people. Never NULL. */
+/* A status, or a refusal of a capture, in words, for messages to people. Never NULL. */
 static inline const char *ajp13_status_text(uint32_t status)
 {
     switch (status) {
@@ -130,6 +138,8 @@ static inline const char *ajp13_status_text(uint32_t status)
     case AJP13_BODY_SIZE_WRONG: return "wrong body size";
     case AJP13_BUFFER_TOO_SHORT: return "lent table or buffer too short";
     case AJP13_RECORD_WRONG: return "building record does not allow this";
+    case AJP13_UNFINISHED_PACKET: return "unfinished packet";
+    case AJP13_CAPTURE_TOO_LONG: return "capture too long";
     case AJP13_NEEDS: return "packet not whole yet";
     case AJP13_ERROR_CONNECTION_LENGTH: return "error: connection of the wrong length";
     case AJP13_ERROR_CONNECTION_WORD: return "error: connection with a word out of range";
@@ -139,6 +149,8 @@ static inline const char *ajp13_status_text(uint32_t status)
     case AJP13_ERROR_FIXED_WORD: return "error: fixed number out of range";
     case AJP13_ERROR_ANSWER_LENGTH: return "error: array for the answer of the wrong length";
     case AJP13_ERROR_ARGUMENT: return "error: argument out of range";
+    case AJP13_ERROR_CHECKING_LENGTH: return "error: check on the way of the wrong length";
+    case AJP13_ERROR_CHECKING_WORD: return "error: check on the way with a word out of range";
     default: return "no such status";
     }
 }
@@ -154,7 +166,9 @@ enum {
     AJP13_SIZE_ANSWER = 16,
     AJP13_SIZE_TEXT = 3,
     AJP13_SIZE_FIXED = 8,
-    AJP13_SIZE_NAME = 17
+    AJP13_SIZE_NAME = 17,
+    AJP13_SIZE_CHECKING = 16,
+    AJP13_SIZE_CHECKED = 8
 };
 
 /* Limits. */
@@ -164,6 +178,9 @@ enum {
     AJP13_MAX_BODY = 8186,   /* bytes of a body in one body packet */
     AJP13_MAX_CHUNK = 8184   /* bytes of one body chunk */
 };
+
+/* Bytes of a capture: of a longer one only so many are judged. An enumeration need not hold so great a number. */
+#define AJP13_MAX_CAPTURE UINT32_C(4294967295)
 
 /* The kinds of packets. */
 enum {
@@ -232,6 +249,18 @@ enum {
     AJP13_STATE_BUSY = 2,
     AJP13_STATE_CLOSED = 3
 };
+
+/* The name of a state, as the checker's figures are printed. Never NULL. */
+static inline const char *ajp13_state_text(uint32_t state)
+{
+    switch (state) {
+    case AJP13_STATE_IDLE: return "idle";
+    case AJP13_STATE_PINGED: return "pinged";
+    case AJP13_STATE_BUSY: return "busy";
+    case AJP13_STATE_CLOSED: return "closed";
+    default: return "no such state";
+    }
+}
 
 /*
  * A building record. It says how far a Forward or a Send Headers is built. The calls that begin a packet make it, the
@@ -305,6 +334,51 @@ enum {
     AJP13_TEXT_START = 0,  /* the place of its first byte */
     AJP13_TEXT_LENGTH = 1, /* how many bytes it has; 0 where it is null */
     AJP13_TEXT_NULL = 2    /* 1: the string is null. A null string is not the same as an empty one */
+};
+
+/*
+ * A check on the way: how far a capture was checked. ajp13_check_begin makes it, ajp13_check_go_on steps it. Its first
+ * AJP13_SIZE_CONNECTION words are the connection after the packets so far, at the positions AJP13_CONNECTION_.. Those
+ * that do not count may be any words; where ajp13_check_go_on takes no packet, it leaves them as they are, but due and
+ * headers that are above 1 become 0, and asked that is above 65535 becomes 65535.
+ *
+ * Words out of range (AJP13_ERROR_CHECKING_WORD): a word of the connection, by the rule of ajp13_connection; packets,
+ * requests or body above place, which no capture has, for no packet is empty; refusal not 0 and no refusal's number;
+ * one of the words behind refusal not 0.
+ */
+typedef struct ajp13_checking {
+    uint32_t words[AJP13_SIZE_CHECKING];
+} ajp13_checking;
+
+enum {
+    AJP13_CHECKING_PACKETS = 8,  /* how many packets were accepted */
+    AJP13_CHECKING_REQUESTS = 9, /* how many of them are Forward Requests */
+    AJP13_CHECKING_BODY = 10,    /* how many bytes of requests' bodies they hold, in body packets */
+    AJP13_CHECKING_PLACE = 11,   /* how many bytes they have: where the next packet starts, or the refused one */
+    AJP13_CHECKING_REFUSAL = 12  /* why the packet at place is refused; 0 where nothing was refused */
+
+    /* Words 13, 14 and 15 are kept for a later version: written as 0, and must be 0. */
+};
+
+/*
+ * The checker's answer. The figures are those of the packets that were accepted. A capture passes where refusal is 0,
+ * in whichever state it ends.
+ */
+typedef struct ajp13_checked {
+    uint32_t words[AJP13_SIZE_CHECKED];
+} ajp13_checked;
+
+enum {
+    AJP13_CHECKED_PACKETS = 0,  /* how many packets were accepted */
+    AJP13_CHECKED_REQUESTS = 1, /* how many of them are Forward Requests */
+    AJP13_CHECKED_BODY = 2,     /* how many bytes of requests' bodies they hold, in body packets */
+    AJP13_CHECKED_STATE = 3,    /* the connection's state after them, AJP13_STATE_.. */
+    AJP13_CHECKED_REFUSAL = 4,  /* the first fault: 0 for none, AJP13_LEADING_WRONG to AJP13_BODY_SIZE_WRONG,
+                                   AJP13_UNFINISHED_PACKET or AJP13_CAPTURE_TOO_LONG */
+    AJP13_CHECKED_PLACE = 5     /* where the refused or unfinished packet starts; the capture's size where it passes;
+                                   AJP13_MAX_CAPTURE with AJP13_CAPTURE_TOO_LONG */
+
+    /* Words 6 and 7 are kept for a later version: written as 0. */
 };
 
 /*
@@ -753,8 +827,8 @@ static inline uint32_t ajp13_attribute_pair(ajp13_building *building, uint8_t *b
  * reader of the other end would refuse. Where it is refused, the buffer is as it was before closing, the connection has
  * not stepped, and more pieces may be added.
  *
- * Status: AJP13_DONE; any refusal but AJP13_CODE_NOT_SERVED and AJP13_BODY_SIZE_WRONG; AJP13_ERROR_CONNECTION_WORD,
- * AJP13_ERROR_BUILDING_WORD.
+ * Status: AJP13_DONE; AJP13_LEADING_WRONG to AJP13_RECORD_WRONG but not AJP13_CODE_NOT_SERVED nor
+ * AJP13_BODY_SIZE_WRONG; AJP13_ERROR_CONNECTION_WORD, AJP13_ERROR_BUILDING_WORD.
  */
 static inline uint32_t ajp13_close(ajp13_connection *connection, const ajp13_building *building,
                                    uint8_t *buffer, size_t buffer_length, ajp13_answer *answer)
@@ -842,6 +916,92 @@ enum {
  * Returns it, AJP13_VALUE_..; or AJP13_ERROR_ARGUMENT.
  */
 uint32_t ajp13_attribute_kind_at(const uint8_t *packet, size_t packet_length, uint32_t place);
+
+/* ---------------------------------------------------------------------------------------------------------------------
+ * Checking a capture: does what others sent keep the rules?
+ *
+ * A capture is what went over one connection: the packets of both directions back to back, in the order in which they
+ * were seen at the server's end. The leading bytes of a packet tell its direction; those of neither direction are
+ * refused with AJP13_LEADING_WRONG. The packets step one connection, which is fresh at first, and each is judged as
+ * the end that it goes to judges it. The checker stops at the first fault.
+ *
+ * A fault is no error of the call: it stands in the answer, and the status is AJP13_DONE.
+ *
+ * A capture has at most AJP13_MAX_CAPTURE bytes. Of a longer one the first AJP13_MAX_CAPTURE are judged. A packet among
+ * them that is refused is its fault; else, also where the last of them are a packet that is not whole, its fault is
+ * AJP13_CAPTURE_TOO_LONG.
+ *
+ * A capture that is in memory as a whole is checked by ajp13_check. Any other is checked in parts, in a window of
+ * AJP13_MAX_PACKET bytes: ajp13_check_begin, then ajp13_check_go_on for each part that comes, then ajp13_check_finish.
+ * However it is cut into parts, the answer is the one of ajp13_check. checker.c is such a program.
+ * ------------------------------------------------------------------------------------------------------------------ */
+
+/*
+ * Checks a whole capture.
+ *
+ *   capture  all its bytes.
+ *   checked  written whole: the figures and the first fault.
+ *
+ * Status: AJP13_DONE, always.
+ */
+static inline uint32_t ajp13_check(const uint8_t *capture, size_t capture_length, ajp13_checked *checked)
+{
+    return ajp13_words_check(capture, capture_length, checked->words, AJP13_SIZE_CHECKED);
+}
+
+/*
+ * Begins a check in parts: a fresh connection, 0 in all else.
+ *
+ *   checking  written whole; what it held does not matter.
+ *
+ * Status: AJP13_DONE, always.
+ */
+static inline uint32_t ajp13_check_begin(ajp13_checking *checking)
+{
+    return ajp13_words_check_begin(checking->words, AJP13_SIZE_CHECKING);
+}
+
+/*
+ * Goes on with bytes of the capture, from the check's place on. It takes whole packets, as many as are there.
+ *
+ *   checking  stepped by the packets that are taken: AJP13_CHECKING_PLACE moves by their bytes. A packet that is
+ *             refused is not taken: its refusal is then at AJP13_CHECKING_REFUSAL, and the program may stop reading.
+ *             Where a refusal stood there before the call, no packet is taken, and the check stays as it is.
+ *   bytes     the bytes of the capture that start at AJP13_CHECKING_PLACE: those that the last call did not take, and
+ *             more behind them. None of them that stands at AJP13_MAX_CAPTURE or behind it is looked at.
+ *   taken     how many of the bytes were taken; written where the status is AJP13_DONE. The others are to be given
+ *             again, with more behind them. They are fewer than AJP13_MAX_PACKET, but where something was refused, and
+ *             where they reach past AJP13_MAX_CAPTURE. So a window of AJP13_MAX_PACKET bytes always has room for more
+ *             until the answer is known.
+ *
+ * Status: AJP13_DONE; AJP13_ERROR_CHECKING_WORD.
+ */
+static inline uint32_t ajp13_check_go_on(ajp13_checking *checking, const uint8_t *bytes, size_t bytes_length,
+                                         size_t *taken)
+{
+    const uint32_t place = checking->words[AJP13_CHECKING_PLACE];
+    const uint32_t status = ajp13_words_check_go_on(checking->words, AJP13_SIZE_CHECKING, bytes, bytes_length);
+
+    if (status == AJP13_DONE)
+        *taken = checking->words[AJP13_CHECKING_PLACE] - place;
+    return status;
+}
+
+/*
+ * The answer of a check in parts, at the capture's end. The check may go on after it.
+ *
+ *   checking  the check on the way, which is only read.
+ *   size      how many bytes the capture has in all: AJP13_CHECKING_PLACE and those that were not taken. Where there
+ *             are more than AJP13_MAX_CAPTURE, any number above it will do; where something was refused, any number.
+ *   checked   written whole. The refusal is that of the check; where it has none, AJP13_CAPTURE_TOO_LONG for a size
+ *             above AJP13_MAX_CAPTURE, 0 for a size that is the check's place, else AJP13_UNFINISHED_PACKET.
+ *
+ * Status: AJP13_DONE; AJP13_ERROR_CHECKING_WORD.
+ */
+static inline uint32_t ajp13_check_finish(const ajp13_checking *checking, uint64_t size, ajp13_checked *checked)
+{
+    return ajp13_words_check_finish(checking->words, AJP13_SIZE_CHECKING, size, checked->words, AJP13_SIZE_CHECKED);
+}
 
 /* ---------------------------------------------------------------------------------------------------------------------
  * Names: of methods, headers and attributes, and their codes

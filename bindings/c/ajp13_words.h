@@ -8,9 +8,9 @@
  * are declared there.
  *
  * - An array is given as a pointer and, right behind it, its length. The length counts elements, not bytes.
- * - These arrays must have exactly so many words: connection 8, building 5, fixed 8, answer 16, text 3. Another length
- *   is an error (AJP13_ERROR_CONNECTION_LENGTH and those like it), and then no array is written. All other arrays may
- *   have any length.
+ * - These arrays must have exactly so many words: connection 8, building 5, fixed 8, answer 16, text 3, checking 16,
+ *   checked 8. Another length is an error (AJP13_ERROR_CONNECTION_LENGTH and those like it), and then no array is
+ *   written. All other arrays may have any length.
  * - No pointer may be NULL, also where its length is 0, and each must be aligned for its type.
  * - An array that is lent for writing (its pointer is not to const) may not overlap any other array of the same call.
  *   Arrays that are only read may overlap one another.
@@ -132,6 +132,20 @@ uint32_t ajp13_words_text_at(const uint8_t *packet, size_t packet_length, uint32
 
 uint32_t ajp13_words_attribute_name_at(const uint8_t *packet, size_t packet_length, uint32_t place,
                                        uint32_t *text, size_t text_length);
+
+/* Checking a capture: whole, or in parts. */
+
+uint32_t ajp13_words_check(const uint8_t *capture, size_t capture_length,
+                           uint32_t *checked, size_t checked_length);
+
+uint32_t ajp13_words_check_begin(uint32_t *checking, size_t checking_length);
+
+uint32_t ajp13_words_check_go_on(uint32_t *checking, size_t checking_length,
+                                 const uint8_t *bytes, size_t bytes_length);
+
+uint32_t ajp13_words_check_finish(const uint32_t *checking, size_t checking_length,
+                                  uint64_t size,
+                                  uint32_t *checked, size_t checked_length);
 
 #ifdef __cplusplus
 }

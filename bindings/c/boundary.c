@@ -1,6 +1,7 @@
 /*
- * What a call answers to numbers out of range, to words that do not count, to impossible building records and to arrays
- * of the wrong length. Every status is looked at, and where a call is not done, that everything lent is as it was.
+ * What a call answers to numbers out of range, to words that do not count, to impossible building records and checks,
+ * to captures that are as long as can be and to arrays of the wrong length. Every status is looked at, and where a call
+ * is not done, that everything lent is as it was.
  *
  * Prints how many calls were looked at, and a line for each that is wrong. It is C and C++ alike.
  */
@@ -15,10 +16,15 @@ static struct lent {
     ajp13_building building;
     ajp13_answer answer;
     ajp13_text text;
+    ajp13_checking checking;
+    ajp13_checked checked;
+    size_t taken;
     uint32_t connection_words[AJP13_SIZE_CONNECTION + 1];
     uint32_t building_words[AJP13_SIZE_BUILDING + 1];
     uint32_t answer_words[AJP13_SIZE_ANSWER + 1];
     uint32_t text_words[AJP13_SIZE_TEXT + 1];
+    uint32_t checking_words[AJP13_SIZE_CHECKING + 1];
+    uint32_t checked_words[AJP13_SIZE_CHECKED + 1];
     uint16_t table[AJP13_MAX_PLACES];
     uint8_t buffer[AJP13_MAX_PACKET];
     uint8_t name[AJP13_SIZE_NAME + 1];
@@ -557,6 +563,244 @@ static void statuses(void)
     IS(ajp13_is_error(AJP13_NEEDS), 0);
     IS(ajp13_is_error(AJP13_ERROR_CONNECTION_LENGTH), 1);
     IS(ajp13_is_error(AJP13_ERROR_ARGUMENT), 1);
+    IS(ajp13_is_refusal(AJP13_CAPTURE_TOO_LONG), 1);
+    IS(ajp13_is_error(AJP13_ERROR_CHECKING_WORD), 1);
+    IS(strcmp(ajp13_status_text(AJP13_UNFINISHED_PACKET), "unfinished packet"), 0);
+    IS(strcmp(ajp13_status_text(AJP13_ERROR_CHECKING_WORD + 1), "no such status"), 0);
+    IS(strcmp(ajp13_state_text(AJP13_STATE_IDLE), "idle"), 0);
+    IS(strcmp(ajp13_state_text(AJP13_STATE_PINGED), "pinged"), 0);
+    IS(strcmp(ajp13_state_text(AJP13_STATE_BUSY), "busy"), 0);
+    IS(strcmp(ajp13_state_text(AJP13_STATE_CLOSED), "closed"), 0);
+    IS(strcmp(ajp13_state_text(AJP13_STATE_CLOSED + 1), "no such state"), 0);
+}
+
+/* ---- Captures ---------------------------------------------------------------------------------------------------- */
+
+/* CPing and CPong. */
+static const uint8_t both[] = {0x12, 0x34, 0, 1, 0x0A, 0x41, 0x42, 0, 1, 0x09};
+
+/* A check on the way with the connection of lent.connection. */
+static void checking(uint32_t packets, uint32_t requests, uint32_t body, uint32_t place, uint32_t refusal)
+{
+    memset(&lent.checking, 0, sizeof lent.checking);
+    memcpy(lent.checking.words, lent.connection.words, sizeof lent.connection.words);
+    lent.checking.words[AJP13_CHECKING_PACKETS] = packets;
+    lent.checking.words[AJP13_CHECKING_REQUESTS] = requests;
+    lent.checking.words[AJP13_CHECKING_BODY] = body;
+    lent.checking.words[AJP13_CHECKING_PLACE] = place;
+    lent.checking.words[AJP13_CHECKING_REFUSAL] = refusal;
+}
+
+static int checking_is(uint32_t state, uint32_t packets, uint32_t place, uint32_t refusal)
+{
+    const uint32_t words[AJP13_SIZE_CHECKING] = {state, 0, 0, 0, 0, 0, 0, 0, packets, 0, 0, place, refusal, 0, 0, 0};
+
+    return memcmp(words, lent.checking.words, sizeof words) == 0;
+}
+
+static int checked_is(uint32_t packets, uint32_t requests, uint32_t body, uint32_t state, uint32_t refusal,
+                      uint32_t place)
+{
+    const uint32_t words[AJP13_SIZE_CHECKED] = {packets, requests, body, state, refusal, place, 0, 0};
+
+    return memcmp(words, lent.checked.words, sizeof words) == 0;
+}
+
+/* A capture as a whole, and in parts of one byte each. */
+static void captures(void)
+{
+    size_t i, there = 0;
+
+    IS(ajp13_check(both, sizeof both, &lent.checked), AJP13_DONE);
+    IS(checked_is(2, 0, 0, AJP13_STATE_IDLE, 0, 10), 1);
+    IS(ajp13_check(both, 9, &lent.checked), AJP13_DONE);
+    IS(checked_is(1, 0, 0, AJP13_STATE_PINGED, AJP13_UNFINISHED_PACKET, 5), 1);
+    IS(ajp13_check(both + 5, 5, &lent.checked), AJP13_DONE);
+    IS(checked_is(0, 0, 0, AJP13_STATE_IDLE, AJP13_NOT_NOW, 0), 1);
+    IS(ajp13_check(BYTES("GET /"), &lent.checked), AJP13_DONE);
+    IS(checked_is(0, 0, 0, AJP13_STATE_IDLE, AJP13_LEADING_WRONG, 0), 1);
+    IS(ajp13_check(both, 0, &lent.checked), AJP13_DONE);
+    IS(checked_is(0, 0, 0, AJP13_STATE_IDLE, 0, 0), 1);
+
+    memset(&lent.checking, 0x5A, sizeof lent.checking);
+    IS(ajp13_check_begin(&lent.checking), AJP13_DONE);
+    IS(checking_is(AJP13_STATE_IDLE, 0, 0, 0), 1);
+    for (i = 0; i < sizeof both; i++) {
+        there++;
+        IS(ajp13_check_go_on(&lent.checking, both + i + 1 - there, there, &lent.taken), AJP13_DONE);
+        IS(lent.taken, there == 5 ? 5 : 0);
+        there -= lent.taken;
+        IS(ajp13_check_finish(&lent.checking, i + 1, &lent.checked), AJP13_DONE);
+        IS(lent.checked.words[AJP13_CHECKED_REFUSAL], there == 0 ? 0 : AJP13_UNFINISHED_PACKET);
+        IS(lent.checked.words[AJP13_CHECKED_PLACE], i + 1 - there);
+    }
+    IS(checking_is(AJP13_STATE_IDLE, 2, 10, 0), 1);
+}
+
+/* A check that has a refusal stays as it is, and the refusal is the answer for any size. */
+static void checks_that_stay(void)
+{
+    static const uint64_t sizes[] = {0, 5, 10, AJP13_MAX_CAPTURE, UINT64_C(0x100000000), UINT64_MAX};
+    uint32_t refusal;
+    size_t i;
+
+    IS(ajp13_check_begin(&lent.checking), AJP13_DONE);
+    IS(ajp13_check_go_on(&lent.checking, both, 5, &lent.taken), AJP13_DONE);
+    IS(lent.taken, 5);
+    IS(ajp13_check_go_on(&lent.checking, both, sizeof both, &lent.taken), AJP13_DONE);
+    IS(lent.taken, 0);
+    IS(checking_is(AJP13_STATE_PINGED, 1, 5, AJP13_NOT_NOW), 1);
+    LEFT(ajp13_check_go_on(&lent.checking, both + 5, 5, &lent.taken), AJP13_DONE);
+    for (refusal = AJP13_LEADING_WRONG; refusal <= AJP13_CAPTURE_TOO_LONG; refusal++) {
+        lent.taken = 0;
+        lent.checking.words[AJP13_CHECKING_REFUSAL] = refusal;
+        LEFT(ajp13_check_go_on(&lent.checking, both + 5, 5, &lent.taken), AJP13_DONE);
+        for (i = 0; i < COUNT(sizes); i++) {
+            IS(ajp13_check_finish(&lent.checking, sizes[i], &lent.checked), AJP13_DONE);
+            IS(checked_is(1, 0, 0, AJP13_STATE_PINGED, refusal, 5), 1);
+        }
+    }
+
+    /* Words of its connection that do not count stay as well, or are brought into range, until a packet is taken. */
+    connection(AJP13_STATE_IDLE, 5, 2, 70000, 9);
+    checking(1, 0, 0, 10, 0);
+    IS(ajp13_check_go_on(&lent.checking, both, 0, &lent.taken), AJP13_DONE);
+    memcpy(lent.connection.words, lent.checking.words, sizeof lent.connection.words);
+    IS(connection_is(AJP13_STATE_IDLE, 5, 0, 65535, 0), 1);
+    LEFT(ajp13_check_go_on(&lent.checking, both, 4, &lent.taken), AJP13_DONE);
+    IS(ajp13_check_go_on(&lent.checking, both, 5, &lent.taken), AJP13_DONE);
+    IS(checking_is(AJP13_STATE_PINGED, 2, 15, 0), 1);
+}
+
+/* Captures of the most bytes and of more; what stands behind the most is not looked at. */
+static void checks_at_the_most_bytes(void)
+{
+    const uint32_t most = AJP13_MAX_CAPTURE;
+    const uint64_t more = (uint64_t)most + 1;
+    uint32_t room;
+
+    IS(ajp13_check_begin(&lent.checking), AJP13_DONE);
+    IS(ajp13_check_finish(&lent.checking, 0, &lent.checked), AJP13_DONE);
+    IS(checked_is(0, 0, 0, AJP13_STATE_IDLE, 0, 0), 1);
+    IS(ajp13_check_finish(&lent.checking, 1, &lent.checked), AJP13_DONE);
+    IS(checked_is(0, 0, 0, AJP13_STATE_IDLE, AJP13_UNFINISHED_PACKET, 0), 1);
+    IS(ajp13_check_finish(&lent.checking, most, &lent.checked), AJP13_DONE);
+    IS(checked_is(0, 0, 0, AJP13_STATE_IDLE, AJP13_UNFINISHED_PACKET, 0), 1);
+    IS(ajp13_check_finish(&lent.checking, more, &lent.checked), AJP13_DONE);
+    IS(checked_is(0, 0, 0, AJP13_STATE_IDLE, AJP13_CAPTURE_TOO_LONG, most), 1);
+
+    /* CPing and CPong over and over: the last CPing has just room. */
+    connection(AJP13_STATE_IDLE, 0, 0, 0, 0);
+    checking(858993458, 0, 0, most - 5, 0);
+    IS(ajp13_check_go_on(&lent.checking, both, sizeof both, &lent.taken), AJP13_DONE);
+    IS(lent.taken, 5);
+    IS(checking_is(AJP13_STATE_PINGED, 858993459, most, 0), 1);
+    lent.taken = 0;
+    LEFT(ajp13_check_go_on(&lent.checking, both + 5, 5, &lent.taken), AJP13_DONE);
+    LEFT(ajp13_check_go_on(&lent.checking, BYTES("GET /"), &lent.taken), AJP13_DONE);
+    IS(ajp13_check_finish(&lent.checking, most, &lent.checked), AJP13_DONE);
+    IS(checked_is(858993459, 0, 0, AJP13_STATE_PINGED, 0, most), 1);
+    IS(ajp13_check_finish(&lent.checking, more, &lent.checked), AJP13_DONE);
+    IS(checked_is(858993459, 0, 0, AJP13_STATE_PINGED, AJP13_CAPTURE_TOO_LONG, most), 1);
+    IS(ajp13_check_finish(&lent.checking, UINT64_MAX, &lent.checked), AJP13_DONE);
+    IS(checked_is(858993459, 0, 0, AJP13_STATE_PINGED, AJP13_CAPTURE_TOO_LONG, most), 1);
+
+    /* It has no room: it is not whole, whatever follows. */
+    for (room = 1; room < 5; room++) {
+        checking(7, 1, 2, most - room, 0);
+        LEFT(ajp13_check_go_on(&lent.checking, both, sizeof both, &lent.taken), AJP13_DONE);
+        IS(ajp13_check_finish(&lent.checking, most, &lent.checked), AJP13_DONE);
+        IS(checked_is(7, 1, 2, AJP13_STATE_IDLE, AJP13_UNFINISHED_PACKET, most - room), 1);
+        IS(ajp13_check_finish(&lent.checking, more, &lent.checked), AJP13_DONE);
+        IS(checked_is(7, 1, 2, AJP13_STATE_IDLE, AJP13_CAPTURE_TOO_LONG, most), 1);
+    }
+
+    /* A fault before the most bytes is told, and one behind them is not. */
+    checking(7, 0, 0, most - 1, 0);
+    LEFT(ajp13_check_go_on(&lent.checking, BYTES("\x12\x35"), &lent.taken), AJP13_DONE);
+    checking(7, 0, 0, most - 2, 0);
+    IS(ajp13_check_go_on(&lent.checking, BYTES("\x12\x35"), &lent.taken), AJP13_DONE);
+    IS(checking_is(AJP13_STATE_IDLE, 7, most - 2, AJP13_LEADING_WRONG), 1);
+    IS(ajp13_check_finish(&lent.checking, more, &lent.checked), AJP13_DONE);
+    IS(checked_is(7, 0, 0, AJP13_STATE_IDLE, AJP13_LEADING_WRONG, most - 2), 1);
+}
+
+/* A check on the way with a word out of range: the error of both calls that are given one, and nothing is written. */
+static void check_out_of_range(void)
+{
+    uint32_t *c = lent.checking.words;
+
+    LEFT(ajp13_check_go_on(&lent.checking, both, sizeof both, &lent.taken), AJP13_ERROR_CHECKING_WORD);
+    LEFT(ajp13_check_finish(&lent.checking, 10, &lent.checked), AJP13_ERROR_CHECKING_WORD);
+    LEFT(ajp13_words_check_finish(c, AJP13_SIZE_CHECKING, 10, lent.checked_words, 7), AJP13_ERROR_ANSWER_LENGTH);
+}
+
+static void checks_out_of_range(void)
+{
+    static const uint32_t refusals[] = {19, 255, 256, 65536 + AJP13_NOT_NOW, 0xFFFFFFFF};
+    uint32_t position;
+    size_t i;
+
+    lent.taken = 0x5A;
+    connection(AJP13_STATE_IDLE, 0, 0, 0, 0);
+    for (position = AJP13_CHECKING_PACKETS; position <= AJP13_CHECKING_BODY; position++) {
+        checking(10, 10, 10, 10, 0);
+        lent.checking.words[position] = 11;
+        check_out_of_range();
+        checking(0, 0, 0, 0, AJP13_NOT_NOW);
+        lent.checking.words[position] = 1;
+        check_out_of_range();
+    }
+    for (i = 0; i < COUNT(refusals); i++) {
+        checking(1, 0, 0, 10, refusals[i]);
+        check_out_of_range();
+    }
+    for (position = AJP13_CHECKING_REFUSAL + 1; position < AJP13_SIZE_CHECKING; position++) {
+        checking(1, 0, 0, 10, 0);
+        lent.checking.words[position] = 1;
+        check_out_of_range();
+    }
+    connection(4, 0, 0, 0, 0);
+    checking(1, 0, 0, 10, 0);
+    check_out_of_range();
+    connection(AJP13_STATE_BUSY, 5, 2, 5, 0);
+    checking(1, 0, 0, 10, 0);
+    check_out_of_range();
+    connection(AJP13_STATE_BUSY, 5, 1, 65536, 0);
+    checking(1, 0, 0, 10, 0);
+    check_out_of_range();
+    connection(AJP13_STATE_BUSY, 5, 0, 0, 2);
+    checking(1, 0, 0, 10, 0);
+    check_out_of_range();
+    for (position = AJP13_CONNECTION_HEAD; position <= AJP13_CONNECTION_OPEN; position++) {
+        connection(AJP13_STATE_IDLE, 0, 0, 0, 0);
+        lent.connection.words[position] = 1;
+        checking(1, 0, 0, 10, 0);
+        check_out_of_range();
+    }
+}
+
+/* Arrays of the wrong length, through the calls over words. The words are out of range as well. */
+static void check_lengths(void)
+{
+    static const size_t checkings[] = {0, 8, 13, 15, 17}, checkeds[] = {0, 6, 7, 9};
+    uint32_t *c = lent.checking_words, *a = lent.checked_words;
+    size_t i, j;
+
+    for (i = 0; i < COUNT(checkings); i++) {
+        size_t n = checkings[i];
+
+        LEFT(ajp13_words_check_begin(c, n), AJP13_ERROR_CHECKING_LENGTH);
+        LEFT(ajp13_words_check_go_on(c, n, both, sizeof both), AJP13_ERROR_CHECKING_LENGTH);
+        LEFT(ajp13_words_check_finish(c, n, 10, a, AJP13_SIZE_CHECKED), AJP13_ERROR_CHECKING_LENGTH);
+        for (j = 0; j < COUNT(checkeds); j++)
+            LEFT(ajp13_words_check_finish(c, n, 10, a, checkeds[j]), AJP13_ERROR_ANSWER_LENGTH);
+    }
+    LEFT(ajp13_words_check_go_on(c, AJP13_SIZE_CHECKING, both, sizeof both), AJP13_ERROR_CHECKING_WORD);
+    for (j = 0; j < COUNT(checkeds); j++) {
+        LEFT(ajp13_words_check(both, sizeof both, a, checkeds[j]), AJP13_ERROR_ANSWER_LENGTH);
+        LEFT(ajp13_words_check_finish(c, AJP13_SIZE_CHECKING, 10, a, checkeds[j]), AJP13_ERROR_ANSWER_LENGTH);
+    }
 }
 
 int main(void)
@@ -578,6 +822,11 @@ int main(void)
     texts();
     strings();
     statuses();
+    captures();
+    checks_that_stay();
+    checks_at_the_most_bytes();
+    checks_out_of_range();
+    check_lengths();
     printf("%lu calls and numbers looked at, %lu wrong\n", looked, wrong);
     return wrong != 0;
 }

@@ -21,6 +21,31 @@ pub enum State {
     Closed = raw::STATE_CLOSED,
 }
 
+impl State {
+    /// The state that a word of the library is.
+    #[inline]
+    pub(crate) fn from_word(word: u32) -> State {
+        match word {
+            raw::STATE_IDLE => State::Idle,
+            raw::STATE_PINGED => State::Pinged,
+            raw::STATE_BUSY => State::Busy,
+            _ => State::Closed,
+        }
+    }
+}
+
+impl fmt::Display for State {
+    /// `idle`, `pinged`, `busy` or `closed`.
+    fn fmt(&self, f: &mut fmt::Formatter<'_>) -> fmt::Result {
+        f.pad(match self {
+            State::Idle => "idle",
+            State::Pinged => "pinged",
+            State::Busy => "busy",
+            State::Closed => "closed",
+        })
+    }
+}
+
 /// One end of a connection. Each end keeps its own: a send steps the sender's, an accepted packet the receiver's. A
 /// refusal leaves it as it is.
 ///
@@ -90,12 +115,7 @@ impl Connection {
     /// The state.
     #[inline]
     pub fn state(&self) -> State {
-        match self.words[raw::CONNECTION_STATE] {
-            raw::STATE_IDLE => State::Idle,
-            raw::STATE_PINGED => State::Pinged,
-            raw::STATE_BUSY => State::Busy,
-            _ => State::Closed,
-        }
+        State::from_word(self.words[raw::CONNECTION_STATE])
     }
 
     /// How many bytes of the request's body are still to come. Counts only in `Busy`, as the three below do.

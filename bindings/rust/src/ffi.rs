@@ -202,6 +202,26 @@ mod c {
             text: *mut u32,
             text_length: usize,
         ) -> u32;
+        pub fn ajp13_words_check(
+            capture: *const u8,
+            capture_length: usize,
+            checked: *mut u32,
+            checked_length: usize,
+        ) -> u32;
+        pub fn ajp13_words_check_begin(checking: *mut u32, checking_length: usize) -> u32;
+        pub fn ajp13_words_check_go_on(
+            checking: *mut u32,
+            checking_length: usize,
+            bytes: *const u8,
+            bytes_length: usize,
+        ) -> u32;
+        pub fn ajp13_words_check_finish(
+            checking: *const u32,
+            checking_length: usize,
+            size: u64,
+            checked: *mut u32,
+            checked_length: usize,
+        ) -> u32;
         pub fn ajp13_integer_at(packet: *const u8, packet_length: usize, place: u32) -> u32;
         pub fn ajp13_header_code_at(packet: *const u8, packet_length: usize, place: u32) -> u32;
         pub fn ajp13_attribute_code_at(packet: *const u8, packet_length: usize, place: u32) -> u32;
@@ -637,6 +657,57 @@ pub fn attribute_name_at(packet: &[u8], place: u32, text: &mut [u32]) -> u32 {
             place,
             text.as_mut_ptr(),
             text.len(),
+        )
+    }
+}
+
+/// `ajp13_words_check`: checks a whole capture. A fault is told in the answer, not by the status.
+#[inline]
+pub fn check(capture: &[u8], checked: &mut [u32]) -> u32 {
+    // SAFETY: as said at the head of this module.
+    unsafe {
+        c::ajp13_words_check(
+            capture.as_ptr(),
+            capture.len(),
+            checked.as_mut_ptr(),
+            checked.len(),
+        )
+    }
+}
+
+/// `ajp13_words_check_begin`: begins a check in parts. The old words of `checking` do not matter.
+#[inline]
+pub fn check_begin(checking: &mut [u32]) -> u32 {
+    // SAFETY: as said at the head of this module.
+    unsafe { c::ajp13_words_check_begin(checking.as_mut_ptr(), checking.len()) }
+}
+
+/// `ajp13_words_check_go_on`: goes on with bytes of the capture that start at the check's place. It takes whole
+/// packets, and the place moves by as many bytes as it took.
+#[inline]
+pub fn check_go_on(checking: &mut [u32], bytes: &[u8]) -> u32 {
+    // SAFETY: as said at the head of this module.
+    unsafe {
+        c::ajp13_words_check_go_on(
+            checking.as_mut_ptr(),
+            checking.len(),
+            bytes.as_ptr(),
+            bytes.len(),
+        )
+    }
+}
+
+/// `ajp13_words_check_finish`: the answer of a check in parts, at the end of a capture of `size` bytes.
+#[inline]
+pub fn check_finish(checking: &[u32], size: u64, checked: &mut [u32]) -> u32 {
+    // SAFETY: as said at the head of this module.
+    unsafe {
+        c::ajp13_words_check_finish(
+            checking.as_ptr(),
+            checking.len(),
+            size,
+            checked.as_mut_ptr(),
+            checked.len(),
         )
     }
 }

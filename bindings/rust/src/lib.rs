@@ -1,5 +1,6 @@
 //! Both ends of an AJP13 connection, the protocol between a web server and a servlet container: packets taken out of
-//! lent bytes, checked and viewed, packets built, and the connection's cycle kept. Sockets and HTTP are left to others.
+//! lent bytes, checked and viewed, packets built, and the connection's cycle kept; and a checker over captures of what
+//! others sent. Sockets and HTTP are left to others.
 //!
 //! The work is done by a proved library, written in Rattle, which this crate links and calls through its C entry
 //! points. Nothing here allocates or needs the standard library (`no_std`), and nothing is kept between calls but the
@@ -11,6 +12,8 @@
 //!   [`body_chunk`](Connection::body_chunk), [`get_body`](Connection::get_body) and [`end`](Connection::end) each
 //!   write a packet into a lent buffer. A Forward Request and a Send Headers are built in pieces, from a
 //!   [`ForwardHead`] and a [`SendHeadersHead`].
+//! - **Checking a capture**: [`check`] tells whether the packets that went over a connection keep the rules, and how
+//!   many there were, in a [`Checked`]. A [`Checking`] does so in parts.
 //! - A refusal changes nothing: not the connection, the table of places, the buffer, nor what is built so far. A packet
 //!   that is refused when it is closed is handed back in [`NotClosed`].
 //!
@@ -113,6 +116,7 @@
 #![deny(unsafe_code)]
 
 mod building;
+mod checking;
 mod connection;
 // All unsafe code of the crate.
 #[allow(unsafe_code)]
@@ -126,6 +130,7 @@ pub use building::{
     Building, BuildingKind, ForwardAttributes, ForwardHead, ForwardHeaders, NotClosed,
     ResponseHeaders, SendHeadersHead,
 };
+pub use checking::{check, Checked, Checking};
 pub use connection::{Connection, State};
 pub use names::{
     attribute, attribute_code, attribute_name, method_code, method_name, request_header_code,
@@ -135,7 +140,7 @@ pub use packet::{
     Attribute, Attributes, Forward, Header, HeaderName, Headers, NameText, Packet, Places,
     Received, SendHeaders,
 };
-pub use raw::{MAX_BODY, MAX_CHUNK, MAX_PACKET, MAX_PLACES};
+pub use raw::{MAX_BODY, MAX_CAPTURE, MAX_CHUNK, MAX_PACKET, MAX_PLACES};
 pub use refusal::Refusal;
 
 /// The example of `README.md`, which `cargo test` runs.

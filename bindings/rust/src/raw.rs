@@ -8,7 +8,8 @@
 //!
 //! Every function answers a number: [`DONE`], the number of a [`Refusal`](crate::Refusal), [`NEEDS`], or an error;
 //! [`largest_body`], [`integer_at`], [`header_code_at`], [`attribute_code_at`], [`attribute_kind_at`], [`name`] and
-//! [`code`] answer the number that was asked for, or an error. With a refusal or an error nothing is written.
+//! [`code`] answer the number that was asked for, or an error. With a refusal or an error nothing is written. The
+//! refusal of a capture is no status: it stands in the words of the answer, at [`CHECKED_REFUSAL`].
 //!
 //! ```
 //! use ajp13::raw;
@@ -30,9 +31,10 @@
 
 pub use crate::ffi::{
     attribute_code_at, attribute_integer, attribute_kind_at, attribute_name_at, attribute_pair,
-    attribute_text, begin_forward, begin_send_headers, body, body_chunk, close, code, cping, cpong,
-    end, fresh, get_body, header_code_at, header_coded, header_named, header_spelled, integer_at,
-    largest_body, name, read_at_container, read_at_server, text_at,
+    attribute_text, begin_forward, begin_send_headers, body, body_chunk, check, check_begin,
+    check_finish, check_go_on, close, code, cping, cpong, end, fresh, get_body, header_code_at,
+    header_coded, header_named, header_spelled, integer_at, largest_body, name, read_at_container,
+    read_at_server, text_at,
 };
 
 // Statuses.
@@ -56,11 +58,17 @@ pub const ERROR_FIXED_LENGTH: u32 = 0x10005;
 /// Error: a word of the fixed numbers is out of range: the port above 65535, or a flag that says null above 1.
 pub const ERROR_FIXED_WORD: u32 = 0x10006;
 /// Error: an array lent for the answer has not its length: an answer [`SIZE_ANSWER`], a text [`SIZE_TEXT`], a name
-/// [`SIZE_NAME`].
+/// [`SIZE_NAME`], a checker's answer [`SIZE_CHECKED`].
 pub const ERROR_ANSWER_LENGTH: u32 = 0x10007;
 /// Error: an argument is out of range: what a Get Body asks for, the value of an attribute that is an integer or a
 /// view's place above 65535, a flag that says null above 1, or a list above 3.
 pub const ERROR_ARGUMENT: u32 = 0x10008;
+/// Error: the check on the way has not [`SIZE_CHECKING`] words.
+pub const ERROR_CHECKING_LENGTH: u32 = 0x10009;
+/// Error: a word of the check on the way is out of range: one of its connection, as in [`ERROR_CONNECTION_WORD`];
+/// packets, requests or body above the place; a refusal that is not 0 and no number of a
+/// [`Refusal`](crate::Refusal); or a word behind it that is not 0.
+pub const ERROR_CHECKING_WORD: u32 = 0x1000A;
 
 // Sizes.
 
@@ -76,6 +84,10 @@ pub const SIZE_TEXT: usize = 3;
 pub const SIZE_FIXED: usize = 8;
 /// Bytes lent for a name.
 pub const SIZE_NAME: usize = 17;
+/// Words of a check on the way.
+pub const SIZE_CHECKING: usize = 16;
+/// Words of a checker's answer.
+pub const SIZE_CHECKED: usize = 8;
 /// Bytes of the longest packet: a buffer of this length is never too short.
 pub const MAX_PACKET: usize = 8192;
 /// Places of a table: a table of this length is never too short.
@@ -84,6 +96,8 @@ pub const MAX_PLACES: usize = 328;
 pub const MAX_BODY: usize = 8186;
 /// Most bytes of one body chunk.
 pub const MAX_CHUNK: usize = 8184;
+/// Most bytes of a capture: of a longer one only so many are judged.
+pub const MAX_CAPTURE: u32 = 4_294_967_295;
 
 // Positions in a connection.
 
@@ -196,6 +210,35 @@ pub const TEXT_START: usize = 0;
 pub const TEXT_LENGTH: usize = 1;
 /// 1 where the string is null.
 pub const TEXT_NULL: usize = 2;
+
+// Positions in a check on the way. The first eight words are its connection. The last three words are always 0; a later
+// version gives them a meaning.
+
+/// How many packets were accepted.
+pub const CHECKING_PACKETS: usize = 8;
+/// How many of them are Forward Requests.
+pub const CHECKING_REQUESTS: usize = 9;
+/// How many bytes of requests' bodies they hold, in body packets.
+pub const CHECKING_BODY: usize = 10;
+/// How many bytes they have: where the next packet starts, or the refused one.
+pub const CHECKING_PLACE: usize = 11;
+/// Why the packet at that place is refused; 0 where nothing was refused.
+pub const CHECKING_REFUSAL: usize = 12;
+
+// Positions in a checker's answer. The last two words are 0.
+
+/// How many packets were accepted.
+pub const CHECKED_PACKETS: usize = 0;
+/// How many of them are Forward Requests.
+pub const CHECKED_REQUESTS: usize = 1;
+/// How many bytes of requests' bodies they hold, in body packets.
+pub const CHECKED_BODY: usize = 2;
+/// The connection's state after them: [`STATE_IDLE`] to [`STATE_CLOSED`].
+pub const CHECKED_STATE: usize = 3;
+/// The first fault, by its refusal's number; 0 where the capture passes.
+pub const CHECKED_REFUSAL: usize = 4;
+/// Where the refused packet starts; the capture's size where it passes.
+pub const CHECKED_PLACE: usize = 5;
 
 // Positions in the fixed numbers of a Forward.
 

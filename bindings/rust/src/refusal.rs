@@ -6,7 +6,7 @@ use core::fmt;
 use crate::raw;
 
 /// Why a packet was not accepted, or not written. A refusal changes nothing: connection, table, buffer and building
-/// record are as before.
+/// record are as before. Also the fault of a capture, which [`Checked`](crate::Checked) tells.
 ///
 /// ```
 /// use ajp13::{Connection, Refusal};
@@ -57,6 +57,11 @@ pub enum Refusal {
     BufferTooShort = 15,
     /// A header after an attribute, an attribute on a Send Headers, or an impossible building record.
     RecordWrong = 16,
+    /// A capture's last packet is not whole. Only the checker tells it.
+    UnfinishedPacket = 17,
+    /// A capture has over [`MAX_CAPTURE`](crate::MAX_CAPTURE) bytes, and those judged show no other fault. Only the
+    /// checker tells it.
+    CaptureTooLong = 18,
 }
 
 impl Refusal {
@@ -79,6 +84,8 @@ impl Refusal {
         Refusal::BodySizeWrong,
         Refusal::BufferTooShort,
         Refusal::RecordWrong,
+        Refusal::UnfinishedPacket,
+        Refusal::CaptureTooLong,
     ];
 
     /// The refusal's number.
@@ -152,6 +159,8 @@ impl fmt::Display for Refusal {
             Refusal::BodySizeWrong => "wrong body size",
             Refusal::BufferTooShort => "lent table or buffer too short",
             Refusal::RecordWrong => "building record does not allow this",
+            Refusal::UnfinishedPacket => "unfinished packet",
+            Refusal::CaptureTooLong => "capture too long",
         };
         write!(f, "refusal {}: {text}", self.number())
     }

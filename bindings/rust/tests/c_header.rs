@@ -1,8 +1,9 @@
-//! The C headers and this crate say the same: the version, every number, and what every call takes.
+//! The C headers and this crate say the same: the version, every number, every text, and what every call takes.
 
 use std::collections::BTreeMap;
+use std::fmt::Debug;
 
-use ajp13::{attribute, raw, Method, NameList, Refusal};
+use ajp13::{attribute, raw, Method, NameList, Refusal, State};
 
 /// What a C program uses: names, types, inline calls.
 const HEADER: &str = include_str!("../../c/ajp13.h");
@@ -45,6 +46,18 @@ fn numbers() -> BTreeMap<String, u32> {
     found
 }
 
+/// What the header calls a refusal or a state: its name here in capitals, an underline before each word but the first.
+fn in_capitals(value: &impl Debug) -> String {
+    let mut name = String::new();
+    for letter in format!("{value:?}").chars() {
+        if letter.is_uppercase() && !name.is_empty() {
+            name.push('_');
+        }
+        name.push(letter.to_ascii_uppercase());
+    }
+    name
+}
+
 /// What the header defines a name as.
 fn defined(name: &str) -> String {
     let start = format!("#define {name} ");
@@ -80,6 +93,7 @@ fn argument(text: &str) -> (String, String) {
     let kind = match (kind.trim(), text.contains('*')) {
         ("size_t", false) => "usize",
         ("uint32_t", false) => "u32",
+        ("uint64_t", false) => "u64",
         ("uint8_t", true) => "*mut u8",
         ("uint16_t", true) => "*mut u16",
         ("uint32_t", true) => "*mut u32",
@@ -110,7 +124,7 @@ fn the_calls_are_the_same() {
     let mut headers = calls(&code(HEADER), "\nuint32_t ");
     assert!(headers.keys().all(|name| !name.starts_with("ajp13_words_")));
     headers.extend(words);
-    assert_eq!(headers.len(), 27);
+    assert_eq!(headers.len(), 31);
     let here = calls(FFI, "pub fn ");
     assert_eq!(headers, here);
     // A call has the prefix where it takes an array of words.
@@ -132,8 +146,9 @@ fn the_numbers_are_the_same() {
     }
     all! {
         DONE NEEDS ERROR_CONNECTION_LENGTH ERROR_CONNECTION_WORD ERROR_BUILDING_LENGTH ERROR_BUILDING_WORD
-        ERROR_FIXED_LENGTH ERROR_FIXED_WORD ERROR_ANSWER_LENGTH ERROR_ARGUMENT
-        SIZE_CONNECTION SIZE_BUILDING SIZE_ANSWER SIZE_TEXT SIZE_FIXED SIZE_NAME
+        ERROR_FIXED_LENGTH ERROR_FIXED_WORD ERROR_ANSWER_LENGTH ERROR_ARGUMENT ERROR_CHECKING_LENGTH
+        ERROR_CHECKING_WORD
+        SIZE_CONNECTION SIZE_BUILDING SIZE_ANSWER SIZE_TEXT SIZE_FIXED SIZE_NAME SIZE_CHECKING SIZE_CHECKED
         MAX_PACKET MAX_PLACES MAX_BODY MAX_CHUNK
         CONNECTION_STATE CONNECTION_LEFT CONNECTION_DUE CONNECTION_ASKED CONNECTION_HEADERS CONNECTION_HEAD
         CONNECTION_EDITION CONNECTION_OPEN
@@ -144,22 +159,16 @@ fn the_numbers_are_the_same() {
         ANSWER_STATUS ANSWER_MESSAGE ANSWER_START ANSWER_LENGTH ANSWER_ASKED ANSWER_REUSE
         KIND_CPING KIND_CPONG KIND_FORWARD KIND_BODY KIND_GET_BODY KIND_SEND_HEADERS KIND_BODY_CHUNK KIND_END
         TEXT_START TEXT_LENGTH TEXT_NULL
+        CHECKING_PACKETS CHECKING_REQUESTS CHECKING_BODY CHECKING_PLACE CHECKING_REFUSAL
+        CHECKED_PACKETS CHECKED_REQUESTS CHECKED_BODY CHECKED_STATE CHECKED_REFUSAL CHECKED_PLACE
         FIXED_METHOD FIXED_PORT FIXED_IS_SSL FIXED_NO_PROTOCOL FIXED_NO_REQ_URI FIXED_NO_REMOTE_ADDR
         FIXED_NO_REMOTE_HOST FIXED_NO_SERVER_NAME
         VALUE_NOT_SERVED VALUE_TEXT VALUE_INTEGER VALUE_PAIR
         LIST_METHODS LIST_REQUEST_HEADERS LIST_RESPONSE_HEADERS LIST_ATTRIBUTES
     }
 
-    // A refusal's name here is the one there in capitals, an underline before each but the first.
     for refusal in Refusal::ALL {
-        let mut name = String::new();
-        for letter in format!("{refusal:?}").chars() {
-            if letter.is_uppercase() && !name.is_empty() {
-                name.push('_');
-            }
-            name.push(letter.to_ascii_uppercase());
-        }
-        same(&name, refusal.number().into());
+        same(&in_capitals(refusal), refusal.number().into());
     }
 
     // Methods and attributes go by the names that the library lists.
@@ -177,6 +186,38 @@ fn the_numbers_are_the_same() {
     }
 
     assert_eq!(header, BTreeMap::new(), "only in the header");
+
+    // No enumeration holds this one.
+    let most = format!("UINT32_C({})", raw::MAX_CAPTURE);
+    assert_eq!(defined("AJP13_MAX_CAPTURE"), most);
+}
+
+#[test]
+fn the_texts_are_the_same() {
+    // What the functions of the header return for a name.
+    let cases = HEADER
+        .lines()
+        .filter_map(|line| line.trim().strip_prefix("case AJP13_"));
+    let mut texts: BTreeMap<String, String> = cases
+        .map(|case| case.split_once(": return ").expect("a case returns"))
+        .map(|(name, text)| (name.to_string(), text.trim_matches(['"', ';']).to_string()))
+        .collect();
+    for refusal in Refusal::ALL {
+        let text = texts.remove(&in_capitals(refusal)).expect("a text");
+        let here = format!("refusal {}: {text}", refusal.number());
+        assert_eq!(refusal.to_string(), here);
+    }
+    for state in [State::Idle, State::Pinged, State::Busy, State::Closed] {
+        let text = texts.remove(&format!("STATE_{}", in_capitals(&state)));
+        assert_eq!(text, Some(state.to_string()));
+    }
+    // The others are those of done, needs and every error.
+    let errors = numbers()
+        .into_keys()
+        .filter(|name| name.starts_with("ERROR_"));
+    let mut others: Vec<String> = errors.chain(["DONE", "NEEDS"].map(String::from)).collect();
+    others.sort();
+    assert_eq!(texts.into_keys().collect::<Vec<_>>(), others);
 }
 
 #[test]

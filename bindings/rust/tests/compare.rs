@@ -9,6 +9,7 @@
 mod common {
     pub mod by_plain;
     pub mod calls;
+    pub mod captures;
     pub mod damage;
     pub mod odd;
     pub mod packets;
@@ -26,11 +27,13 @@ mod common {
 mod plain;
 
 use ajp13::raw::{
-    ANSWER_BYTES, BUILDING_NEXT, DONE, ERROR_ANSWER_LENGTH, ERROR_ARGUMENT, ERROR_BUILDING_LENGTH,
-    ERROR_BUILDING_WORD, ERROR_CONNECTION_LENGTH, ERROR_CONNECTION_WORD, ERROR_FIXED_LENGTH,
-    ERROR_FIXED_WORD, MAX_PACKET, MAX_PLACES, NEEDS, SIZE_BUILDING,
+    ANSWER_BYTES, BUILDING_NEXT, CHECKING_PLACE, CHECKING_REFUSAL, DONE, ERROR_ANSWER_LENGTH,
+    ERROR_ARGUMENT, ERROR_BUILDING_LENGTH, ERROR_BUILDING_WORD, ERROR_CHECKING_LENGTH,
+    ERROR_CHECKING_WORD, ERROR_CONNECTION_LENGTH, ERROR_CONNECTION_WORD, ERROR_FIXED_LENGTH,
+    ERROR_FIXED_WORD, MAX_PACKET, MAX_PLACES, NEEDS, SIZE_BUILDING, SIZE_CHECKED, SIZE_CHECKING,
 };
 use common::calls::{Array, Call, Lent};
+use common::captures;
 use common::odd::{self, Expected, Odd};
 use common::packets::{self, Kind};
 use common::pieces;
@@ -46,7 +49,7 @@ use common::wrong;
 /// The container's end reads Forward, CPing and body packets.
 #[test]
 fn reading_at_the_container() {
-    let mut run = Run::new("reading at the container", 20);
+    let mut run = Run::new("reading at the container", 17);
     while let Some(mut rng) = run.next_round() {
         let kind = rng.of(&TO_CONTAINER);
         let (bytes, lent) = reading::reading(&mut rng, kind);
@@ -63,7 +66,7 @@ fn reading_at_the_container() {
 /// The server's end reads Send Headers, chunks, Get, End and CPong.
 #[test]
 fn reading_at_the_server() {
-    let mut run = Run::new("reading at the server", 16);
+    let mut run = Run::new("reading at the server", 14);
     while let Some(mut rng) = run.next_round() {
         let kind = rng.of(&TO_SERVER);
         let (bytes, lent) = reading::reading(&mut rng, kind);
@@ -79,7 +82,7 @@ fn reading_at_the_server() {
 /// the first needs more, the second ends inside a field.
 #[test]
 fn every_prefix() {
-    let mut run = Run::new("every prefix", 10);
+    let mut run = Run::new("every prefix", 9);
     while let Some(mut rng) = run.next_round() {
         let at_container = rng.one_in(2);
         let kind = if at_container {
@@ -120,7 +123,7 @@ fn every_prefix() {
 /// The six packets that one call writes, and how many bytes a body packet may hold.
 #[test]
 fn sending_in_one_call() {
-    let mut run = Run::new("sending in one call", 12);
+    let mut run = Run::new("sending in one call", 11);
     while let Some(mut rng) = run.next_round() {
         let (call, lent) = sending::one_call(&mut rng);
         run.compare(&call, &lent);
@@ -139,7 +142,7 @@ fn sending_in_one_call() {
 /// A piece of any kind with any building record over any buffer.
 #[test]
 fn single_pieces() {
-    let mut run = Run::new("single pieces", 14);
+    let mut run = Run::new("single pieces", 13);
     while let Some(mut rng) = run.next_round() {
         let (call, lent) = pieces::single_piece(&mut rng);
         run.compare(&call, &lent);
@@ -160,7 +163,7 @@ fn single_pieces() {
 /// other end reads what was closed.
 #[test]
 fn whole_packets_in_pieces() {
-    let mut run = Run::new("whole packets in pieces", 10);
+    let mut run = Run::new("whole packets in pieces", 9);
     while let Some(mut rng) = run.next_round() {
         in_pieces(&mut run, &mut rng);
     }
@@ -257,7 +260,7 @@ fn in_pieces(run: &mut Run, rng: &mut Rng) {
 /// Closing what is in a buffer: right, with a fault, damaged, or with another building record.
 #[test]
 fn closing() {
-    let mut run = Run::new("closing", 7);
+    let mut run = Run::new("closing", 6);
     while let Some(mut rng) = run.next_round() {
         let lent = pieces::to_close(&mut rng);
         run.compare(&Call::Close, &lent);
@@ -268,11 +271,85 @@ fn closing() {
     )]);
 }
 
+/// A capture checked as a whole and in parts, each call with what the one before it left. Both give
+/// the same answer.
+#[test]
+fn captures_whole_and_in_parts() {
+    let mut run = Run::new("captures whole and in parts", 5);
+    while let Some(mut rng) = run.next_round() {
+        in_parts(&mut run, &mut rng);
+    }
+    let refused: &[u32] = &[DONE, 1, 2, 3, 4, 5, 6, 7, 8, 9, 10, 11, 12, 13, 14];
+    let told: &[u32] = &[DONE, 1, 2, 3, 4, 5, 6, 7, 8, 9, 10, 11, 12, 13, 14, 17];
+    run.finish(&[
+        ("check", told),
+        ("check_begin", &[DONE]),
+        ("check_go_on", refused),
+        ("check_finish", told),
+    ]);
+}
+
+/// Checks a capture as a whole, and then in parts.
+fn in_parts(run: &mut Run, rng: &mut Rng) {
+    let capture = captures::capture(rng);
+    let size = capture.len() as u64;
+    let parts = captures::parts(rng, &capture);
+    let mut lent = Lent {
+        checking: words::words(rng, SIZE_CHECKING),
+        checked: words::words(rng, SIZE_CHECKED),
+        ..Lent::default()
+    };
+    let (_, whole) = run.compare(&Call::Check(capture), &lent);
+
+    (_, lent) = run.compare(&Call::CheckBegin, &lent);
+    let mut kept = Vec::new();
+    for part in parts {
+        kept.extend(part);
+        let before = lent.checking.get()[CHECKING_PLACE];
+        (_, lent) = run.compare(&Call::CheckGoOn(kept.clone()), &lent);
+        let taken = lent.checking.get()[CHECKING_PLACE] - before;
+        kept.drain(..taken as usize);
+        // A window of the longest packet's size has room for more.
+        let refusal = lent.checking.get()[CHECKING_REFUSAL];
+        assert!(kept.len() < MAX_PACKET || refusal != 0);
+    }
+    (_, lent) = run.compare(&Call::CheckFinish(size), &lent);
+    assert!(lent.checked == whole.checked, "{whole}{lent}");
+}
+
+/// A check on the way with any record and any bytes, also where a capture has the most bytes that
+/// it may have; and the end of a capture of any size.
+#[test]
+fn checks_on_the_way() {
+    let mut run = Run::new("checks on the way", 3);
+    let mut limited = 0;
+    while let Some(mut rng) = run.next_round() {
+        let (call, lent) = captures::any_check(&mut rng);
+        let (_, after) = run.compare(&call, &lent);
+        limited += u64::from(captures::limit_decides(&call, &lent, &after));
+    }
+    let is_full = run.is_full();
+    let all: &[u32] = &[
+        DONE, 1, 2, 3, 4, 5, 6, 7, 8, 9, 10, 11, 12, 13, 14, 15, 16, 17, 18,
+    ];
+    run.finish(&[
+        (
+            "check",
+            &[DONE, 1, 2, 3, 4, 5, 6, 7, 8, 9, 10, 11, 12, 13, 14, 17],
+        ),
+        ("check_begin", &[DONE]),
+        ("check_go_on", all),
+        ("check_finish", all),
+    ]);
+    println!("  the most bytes of a capture decided {limited} times");
+    assert!(limited > 0 || !is_full);
+}
+
 /// Arrays of a wrong length and words out of range: the error that is looked for first is told, or
 /// the refusal, and nothing is written. Words that do not count are ignored.
 #[test]
 fn wrong_arrays_and_words() {
-    let mut run = Run::new("wrong arrays and words", 8);
+    let mut run = Run::new("wrong arrays and words", 10);
     let mut odd = Odd::default();
     while let Some(mut rng) = run.next_round() {
         let (mut call, mut lent) = wrong::any_call(&mut rng);
@@ -341,6 +418,17 @@ fn wrong_arrays_and_words() {
         ("attribute_kind_at", &[ERROR_ARGUMENT]),
         ("name", &[ERROR_ANSWER_LENGTH, ERROR_ARGUMENT]),
         ("code", &[ERROR_ARGUMENT]),
+        ("check", &[ERROR_ANSWER_LENGTH]),
+        ("check_begin", &[ERROR_CHECKING_LENGTH]),
+        ("check_go_on", &[ERROR_CHECKING_LENGTH, ERROR_CHECKING_WORD]),
+        (
+            "check_finish",
+            &[
+                ERROR_ANSWER_LENGTH,
+                ERROR_CHECKING_LENGTH,
+                ERROR_CHECKING_WORD,
+            ],
+        ),
     ]);
     odd.finish(is_full, &what_is_odd());
 }
@@ -352,23 +440,41 @@ fn what_is_odd() -> Vec<(&'static str, Vec<Expected>)> {
         let tells = lengths.iter().map(|(_, what)| Tells(what, error));
         tells.collect()
     };
-    let of_connection = [
-        lengths(odd::CONNECTION_LENGTHS, ERROR_CONNECTION_LENGTH),
+    let connection_words = |error: u32| {
         vec![
-            Tells("state above 3", ERROR_CONNECTION_WORD),
-            Tells("head not 0", ERROR_CONNECTION_WORD),
-            Tells("edition not 0", ERROR_CONNECTION_WORD),
-            Tells("open not 0", ERROR_CONNECTION_WORD),
-            Tells("due above 1 in Busy", ERROR_CONNECTION_WORD),
-            Tells("headers above 1 in Busy", ERROR_CONNECTION_WORD),
-            Tells("asked above 65535 in Busy, due", ERROR_CONNECTION_WORD),
+            Tells("state above 3", error),
+            Tells("head not 0", error),
+            Tells("edition not 0", error),
+            Tells("open not 0", error),
+            Tells("due above 1 in Busy", error),
+            Tells("headers above 1 in Busy", error),
+            Tells("asked above 65535 in Busy, due", error),
             Ignored("asked above 65535 in Busy, none due"),
             Ignored("due above 1 outside Busy"),
             Ignored("headers above 1 outside Busy"),
             Ignored("asked above 65535 outside Busy"),
+        ]
+    };
+    let of_connection = [
+        lengths(odd::CONNECTION_LENGTHS, ERROR_CONNECTION_LENGTH),
+        connection_words(ERROR_CONNECTION_WORD),
+    ]
+    .concat();
+    let of_checking = [
+        lengths(odd::CHECKING_LENGTHS, ERROR_CHECKING_LENGTH),
+        connection_words(ERROR_CHECKING_WORD),
+        vec![
+            Tells("packets above place", ERROR_CHECKING_WORD),
+            Tells("requests above place", ERROR_CHECKING_WORD),
+            Tells("body above place", ERROR_CHECKING_WORD),
+            Tells("refusal of no number", ERROR_CHECKING_WORD),
+            Tells("word 13 not 0", ERROR_CHECKING_WORD),
+            Tells("word 14 not 0", ERROR_CHECKING_WORD),
+            Tells("word 15 not 0", ERROR_CHECKING_WORD),
         ],
     ]
     .concat();
+    let of_checked = lengths(odd::CHECKED_LENGTHS, ERROR_ANSWER_LENGTH);
     let of_building = [
         lengths(odd::BUILDING_LENGTHS, ERROR_BUILDING_LENGTH),
         vec![
@@ -439,6 +545,33 @@ fn what_is_odd() -> Vec<(&'static str, Vec<Expected>)> {
             .concat(),
         ),
         ("code", vec![list]),
+        ("check", of_checked.clone()),
+        (
+            "check_begin",
+            lengths(odd::CHECKING_LENGTHS, ERROR_CHECKING_LENGTH),
+        ),
+        ("check_go_on", of_checking.clone()),
+        (
+            "check_finish",
+            [
+                of_checking,
+                of_checked,
+                vec![
+                    // The errors are looked for in the order of their numbers.
+                    Before(
+                        "checked of 7 words",
+                        ERROR_ANSWER_LENGTH,
+                        ERROR_CHECKING_LENGTH,
+                    ),
+                    Before(
+                        "checked of 7 words",
+                        ERROR_ANSWER_LENGTH,
+                        ERROR_CHECKING_WORD,
+                    ),
+                ],
+            ]
+            .concat(),
+        ),
     ];
     for (call, more) in [
         ("read_at_container", vec![]),

@@ -1,8 +1,8 @@
 //! The safe types: packets read and built at both ends, refusals, views.
 
 use ajp13::{
-    attribute, raw, Attribute, Building, BuildingKind, Connection, ForwardHead, HeaderName, Method,
-    NotClosed, Packet, Places, Received, Refusal, SendHeadersHead, State,
+    attribute, check, raw, Attribute, Building, BuildingKind, Checking, Connection, ForwardHead,
+    HeaderName, Method, NotClosed, Packet, Places, Received, Refusal, SendHeadersHead, State,
 };
 
 /// GET /, port 80, all else null, no headers, no attributes.
@@ -672,10 +672,81 @@ fn refusals_have_their_numbers() {
         .map(|refusal| refusal.number().into())
         .collect();
     assert_eq!(numbers[..16], (1..=16).collect::<Vec<u32>>());
+    // Those of captures.
+    assert_eq!(Refusal::UnfinishedPacket.number(), 17);
+    assert_eq!(Refusal::CaptureTooLong.number(), 18);
+    assert_eq!(numbers.len(), 18);
     assert!(numbers.windows(2).all(|two| two[0] < two[1]));
     for number in (0..0x200).chain([0x10000, u32::MAX]) {
         let found = Refusal::from_number(number);
         assert_eq!(found.is_some(), numbers.contains(&number));
         assert!(found.map_or(true, |refusal| u32::from(refusal.number()) == number));
     }
+}
+
+#[test]
+fn states_have_their_names() {
+    let names = [State::Idle, State::Pinged, State::Busy, State::Closed].map(|s| s.to_string());
+    assert_eq!(names, ["idle", "pinged", "busy", "closed"]);
+    assert_eq!(format!("{:>6}", State::Busy), "  busy");
+}
+
+#[test]
+fn a_capture_is_checked() {
+    let capture = [
+        b"\x12\x34\x00\x01\x0A",
+        &b"\x41\x42\x00\x01\x09"[..],
+        GET,
+        b"\x41\x42\x00\x0A\x04\x00\xC8\x00\x02OK\0\x00\x00",
+        b"\x41\x42\x00\x02\x05\x00",
+    ]
+    .concat();
+    let checked = check(&capture);
+    assert!(checked.passes());
+    assert_eq!(checked.packets, 5);
+    assert_eq!(checked.requests, 1);
+    assert_eq!(checked.body, 0);
+    assert_eq!(checked.state, State::Closed);
+    assert_eq!(checked.refusal, None);
+    assert_eq!(checked.place as usize, capture.len());
+    assert_eq!(
+        checked.to_string(),
+        "packets=5\nrequests=1\nbody=0\nstate=closed\nrefusal=0\nplace=63"
+    );
+
+    // Nothing may follow.
+    let longer = [&capture, GET].concat();
+    let checked = check(&longer);
+    assert!(!checked.passes());
+    assert_eq!(checked.refusal, Some(Refusal::NotNow));
+    assert_eq!(
+        checked.to_string(),
+        "packets=5\nrequests=1\nbody=0\nstate=closed\nrefusal=13\nplace=63"
+    );
+
+    // In parts: what was refused stays, and nothing more is taken.
+    let mut checking = Checking::default();
+    assert_eq!(checking, Checking::begin());
+    assert_eq!(checking.go_on(&longer[..3]), 0);
+    assert_eq!(checking.place(), 0);
+    assert_eq!(checking.refusal(), None);
+    assert_eq!(checking.finish(0), check(b""));
+    assert_eq!(checking.finish(3), check(&longer[..3]));
+    assert_eq!(checking.go_on(&longer[..capture.len() + 1]), capture.len());
+    assert_eq!(checking.refusal(), None);
+    assert_eq!(checking.finish(63), check(&capture));
+    assert_eq!(checking.finish(64), check(&longer[..64]));
+    assert_eq!(checking.finish(64).refusal, Some(Refusal::UnfinishedPacket));
+    assert_eq!(checking.go_on(GET), 0);
+    assert_eq!(checking.refusal(), Some(Refusal::NotNow));
+    assert_eq!(checking.place(), 63);
+    let refused = checking.clone();
+    assert_eq!(checking.go_on(GET), 0);
+    assert_eq!(checking, refused);
+    assert_eq!(checking.finish(longer.len() as u64), checked);
+    assert_eq!(checking.finish(u64::MAX), checked);
+    assert_eq!(
+        format!("{checking:?}"),
+        "Checking { state: Closed, packets: 5, requests: 1, body: 0, place: 63, refusal: Some(NotNow) }"
+    );
 }

@@ -456,3 +456,198 @@ fn views_answer_for_any_place() {
     assert_eq!(raw::code(raw::LIST_REQUEST_HEADERS, b"HOST"), 0xA00B);
     assert_eq!(raw::code(raw::LIST_METHODS, b"get"), 0);
 }
+
+/// A check on the way with this connection and these five words, and 0 in the others.
+fn checking(connection: [u32; raw::SIZE_CONNECTION], words: [u32; 5]) -> [u32; raw::SIZE_CHECKING] {
+    let mut checking = [0; raw::SIZE_CHECKING];
+    checking[..raw::SIZE_CONNECTION].copy_from_slice(&connection);
+    checking[raw::CHECKING_PACKETS..=raw::CHECKING_REFUSAL].copy_from_slice(&words);
+    checking
+}
+
+/// Going on with a check on the way and finishing it are this error, and the words stay.
+fn with_checking(words: &[u32], expected: u32) {
+    let mut checking = words.to_vec();
+    let mut checked = [7; raw::SIZE_CHECKED];
+    let calls = [
+        raw::check_go_on(&mut checking, b"\x12\x34\x00\x01\x0A"),
+        raw::check_go_on(&mut checking, b""),
+        raw::check_finish(&checking, 5, &mut checked),
+    ];
+    assert_eq!(calls, [expected; 3], "{words:?}");
+    // An answer of the wrong length is looked for first.
+    for length in [0, 6, 7] {
+        let status = raw::check_finish(&checking, 5, &mut checked[..length]);
+        assert_eq!(status, raw::ERROR_ANSWER_LENGTH);
+    }
+    assert_eq!(checking, words);
+    assert_eq!(checked, [7; raw::SIZE_CHECKED]);
+}
+
+#[test]
+fn checks_with_an_error() {
+    for length in [0, 8, 13, 15, 17] {
+        // The words are out of range as well.
+        let words = vec![u32::MAX; length];
+        with_checking(&words, raw::ERROR_CHECKING_LENGTH);
+        let mut checking = words.clone();
+        let status = raw::check_begin(&mut checking);
+        assert_eq!(status, raw::ERROR_CHECKING_LENGTH);
+        assert_eq!(checking, words);
+    }
+    // A connection with a word out of range.
+    for words in [
+        [4, 0, 0, 0, 0, 0, 0, 0],
+        [0x10000, 0, 0, 0, 0, 0, 0, 0],
+        [2, 0, 2, 0, 0, 0, 0, 0],
+        [2, 0, 0, 0, 2, 0, 0, 0],
+        [2, 0, 1, 65536, 0, 0, 0, 0],
+        [0, 0, 0, 0, 0, 1, 0, 0],
+        [1, 0, 0, 0, 0, 0, 1, 0],
+        [3, 0, 0, 0, 0, 0, 0, 0x10000],
+    ] {
+        let words = checking(words, [0; 5]);
+        with_checking(&words, raw::ERROR_CHECKING_WORD);
+    }
+    // Figures above the place, and refusals that there are not.
+    for words in [
+        [1, 0, 0, 0, 0],
+        [0, 1, 0, 0, 0],
+        [0, 0, 1, 0, 0],
+        [11, 0, 0, 10, 0],
+        [1, 11, 1, 10, 0],
+        [1, 1, u32::MAX, u32::MAX - 1, 0],
+        [1, 1, 1, 10, 19],
+        [1, 1, 1, 10, 256],
+        [1, 1, 1, 10, 0x10001],
+        [1, 1, 1, 10, u32::MAX],
+    ] {
+        let words = checking(FRESH, words);
+        with_checking(&words, raw::ERROR_CHECKING_WORD);
+    }
+    // The last three words are 0.
+    for at in raw::CHECKING_REFUSAL + 1..raw::SIZE_CHECKING {
+        for word in [1, 0x10000, u32::MAX] {
+            let mut words = checking(FRESH, [1, 0, 0, 10, 0]);
+            words[at] = word;
+            with_checking(&words, raw::ERROR_CHECKING_WORD);
+        }
+    }
+    // An answer of the wrong length.
+    for length in [0, 6, 7, 9] {
+        let mut checked = vec![7; length];
+        let begun = [0; raw::SIZE_CHECKING];
+        let calls = [
+            raw::check(b"\x12\x34\x00\x01\x0A", &mut checked),
+            raw::check_finish(&begun, 0, &mut checked),
+            raw::check_finish(&begun[..15], 0, &mut checked),
+        ];
+        assert_eq!(calls, [raw::ERROR_ANSWER_LENGTH; 3]);
+        assert_eq!(checked, vec![7; length]);
+    }
+}
+
+#[test]
+fn checks_without_an_error() {
+    let mut words = [u32::MAX; raw::SIZE_CHECKING];
+    assert_eq!(raw::check_begin(&mut words), raw::DONE);
+    assert_eq!(words, [0; raw::SIZE_CHECKING]);
+
+    let finish = |words: &[u32], size: u64| {
+        let mut checked = [7; raw::SIZE_CHECKED];
+        assert_eq!(raw::check_finish(words, size, &mut checked), raw::DONE);
+        checked
+    };
+    // A check that has a refusal stays as it is, and the refusal is the answer for any size.
+    let idle = connection([0, 5, 1, 65535, 1]);
+    for refusal in 1..=18 {
+        let words = checking(idle, [10, 9, 8, 10, refusal]);
+        let mut after = words;
+        let status = raw::check_go_on(&mut after, b"\x12\x34\x00\x01\x0A");
+        assert_eq!(status, raw::DONE);
+        assert_eq!(after, words);
+        for size in [0, 10, 11, 0xFFFF_FFFF, 0x1_0000_0000, u64::MAX] {
+            assert_eq!(finish(&words, size), [10, 9, 8, 0, refusal, 10, 0, 0]);
+        }
+    }
+    // So does it where no packet is taken: none is there, it is not whole, or it is refused. Words that do not count
+    // and are out of range are brought into it, and a step clears them.
+    let words = checking(idle, [10, 9, 8, 10, 0]);
+    for (bytes, refusal) in [(&b""[..], 0), (b"\x12\x34\x00\x01", 0), (b"\x12\x35", 1)] {
+        let mut after = words;
+        assert_eq!(raw::check_go_on(&mut after, bytes), raw::DONE);
+        assert_eq!(after, checking(idle, [10, 9, 8, 10, refusal]));
+        for state in [0, 1, 3] {
+            let out_of_range = connection([state, 5, 2, 70_000, 9]);
+            let mut after = checking(out_of_range, [10, 9, 8, 10, 13]);
+            assert_eq!(raw::check_go_on(&mut after, bytes), raw::DONE);
+            let in_range = connection([state, 5, 0, 65535, 0]);
+            assert_eq!(after, checking(in_range, [10, 9, 8, 10, 13]));
+        }
+    }
+    let mut after = words;
+    let status = raw::check_go_on(&mut after, b"\x12\x34\x00\x01\x0A\x12");
+    assert_eq!(status, raw::DONE);
+    let pinged = connection([1, 0, 0, 0, 0]);
+    assert_eq!(after, checking(pinged, [11, 9, 8, 15, 0]));
+
+    // A size that is the place, another one, and more than a capture may have.
+    let most = raw::MAX_CAPTURE;
+    for (size, refusal, place) in [
+        (10, 0, 10),
+        (11, 17, 10),
+        (9, 17, 10),
+        (0, 17, 10),
+        (0xFFFF_FFFF, 17, 10),
+        (0x1_0000_0000, 18, most),
+        (0x1_0000_000A, 18, most),
+        (u64::MAX, 18, most),
+    ] {
+        assert_eq!(finish(&words, size), [10, 9, 8, 0, refusal, place, 0, 0]);
+    }
+    let words = checking(FRESH, [1, 1, 1, most, 0]);
+    assert_eq!(finish(&words, most.into()), [1, 1, 1, 0, 0, most, 0, 0]);
+    assert_eq!(finish(&words, 1 << 32), [1, 1, 1, 0, 18, most, 0, 0]);
+}
+
+#[test]
+fn a_check_at_the_most_bytes_of_a_capture() {
+    let most = raw::MAX_CAPTURE;
+    let both = b"\x12\x34\x00\x01\x0A\x41\x42\x00\x01\x09";
+    let pinged = connection([1, 0, 0, 0, 0]);
+    let go_on = |words: [u32; raw::SIZE_CHECKING], bytes: &[u8]| {
+        let mut after = words;
+        assert_eq!(raw::check_go_on(&mut after, bytes), raw::DONE);
+        after
+    };
+    // The CPing is the last packet that has room, and all figures may be as great as the place.
+    let five_less = most - 5;
+    let before = checking(FRESH, [five_less, five_less, five_less, five_less, 0]);
+    let after = go_on(before, both);
+    let figures = [five_less + 1, five_less, five_less, most, 0];
+    assert_eq!(after, checking(pinged, figures));
+    // Behind it nothing is looked at.
+    assert_eq!(go_on(after, &both[5..]), after);
+    assert_eq!(go_on(after, b"GET / HTTP/1.1"), after);
+
+    // A packet that is not whole before the most bytes is not taken, whatever follows.
+    for room in 1..5 {
+        let before = checking(FRESH, [1, 0, 0, most - room, 0]);
+        assert_eq!(go_on(before, both), before);
+    }
+    // A fault before them is told, and none behind them.
+    for (room, bytes, refusal) in [
+        (1, &b"\x13"[..], 1),
+        (1, b"\x12\x35", 0),
+        (2, b"\x12\x35", 1),
+        (3, b"\x12\x34\x1F\xFD", 0),
+        (4, b"\x12\x34\x1F\xFD", 2),
+        (4, b"\x12\x34\x00\x01\x0B", 0),
+        (5, b"\x12\x34\x00\x01\x0B", 4),
+        (0, b"\x13", 0),
+    ] {
+        let place = most - room;
+        let after = go_on(checking(FRESH, [1, 0, 0, place, 0]), bytes);
+        assert_eq!(after, checking(FRESH, [1, 0, 0, place, refusal]));
+    }
+}

@@ -1,4 +1,5 @@
-//! The text vectors, a case a line, over the library and the plain implementation.
+//! The text vectors, a case a line, over the library and the plain implementation. A capture is
+//! also checked by the library in parts of one byte each.
 //!
 //! They are those of the crate `vectors`, in its file `stdin`: a case, a tab and its answer. A line
 //! that begins with `#` is none, and so is an empty one. `AJP13_VECTORS` may name a folder with more
@@ -48,6 +49,11 @@ fn run(file: &Path) {
             panic!("{}:{number} has no answer", file.display());
         };
         let (call, before) = parse(&case);
+        if let Call::Check(capture) = &call {
+            let answer = checked_by_bytes(capture);
+            let place = format!("{}:{number}, byte by byte", file.display());
+            assert!(answer == expected, "{place}\n{case}\n{answer}\n{expected}");
+        }
         for at_library in [true, false] {
             let mut lent = before.clone();
             let status = if at_library {
@@ -109,6 +115,7 @@ fn parse(case: &str) -> (Call, Lent) {
         answer: Array::holding(&[7; raw::SIZE_ANSWER]),
         building: Array::holding(&[7; raw::SIZE_BUILDING]),
         name: Array::holding(&[7; raw::SIZE_NAME]),
+        checked: Array::holding(&[7; raw::SIZE_CHECKED]),
         ..Lent::default()
     };
     let call = match words[..] {
@@ -207,6 +214,7 @@ fn parse(case: &str) -> (Call, Lent) {
             list: list(of),
             text: bytes(name),
         },
+        ["check", capture] => Call::Check(bytes(capture)),
         _ => panic!("no case: {case}"),
     };
     (call, lent)
@@ -222,6 +230,10 @@ fn answer(call: &Call, status: u32, lent: &Lent) -> String {
             return format!("ok name={}", bytes_text(name));
         }
         Call::Code { .. } => return format!("ok code={status}"),
+        Call::Check(_) => {
+            assert_eq!(status, raw::DONE);
+            return checked_text(lent.checked.get());
+        }
         _ => {}
     }
     match status {
@@ -310,6 +322,37 @@ fn packet_text(told: &[u32]) -> (&'static str, String) {
         raw::KIND_END => ("end", format!(" reuse={}", told[raw::ANSWER_REUSE])),
         kind => panic!("no kind: {kind}"),
     }
+}
+
+/// The checker's answer: its lines, joined by semicolons.
+fn checked_text(words: &[u32]) -> String {
+    assert!(words[raw::CHECKED_PLACE + 1..]
+        .iter()
+        .all(|word| *word == 0));
+    let state = ["idle", "pinged", "busy", "closed"][words[raw::CHECKED_STATE] as usize];
+    format!(
+        "packets={};requests={};body={};state={state};refusal={};place={}",
+        words[raw::CHECKED_PACKETS],
+        words[raw::CHECKED_REQUESTS],
+        words[raw::CHECKED_BODY],
+        words[raw::CHECKED_REFUSAL],
+        words[raw::CHECKED_PLACE],
+    )
+}
+
+/// What the library's checker answers where the bytes of a capture come one by one.
+fn checked_by_bytes(capture: &[u8]) -> String {
+    let mut checking = [7; raw::SIZE_CHECKING];
+    assert_eq!(raw::check_begin(&mut checking), raw::DONE);
+    for end in 1..=capture.len() {
+        let place = checking[raw::CHECKING_PLACE] as usize;
+        let status = raw::check_go_on(&mut checking, &capture[place..end]);
+        assert_eq!(status, raw::DONE);
+    }
+    let mut checked = [7; raw::SIZE_CHECKED];
+    let status = raw::check_finish(&checking, capture.len() as u64, &mut checked);
+    assert_eq!(status, raw::DONE);
+    checked_text(&checked)
 }
 
 /// A list of names from its word.

@@ -1,4 +1,5 @@
 // The commands of the cases: which one a case is of, and what the library answers.
+use crate::check;
 use crate::name;
 use crate::print;
 use crate::read;
@@ -26,6 +27,7 @@ pub fn answer(command: usize, case: &[u8], out: &mut [u8]) -> usize {
         commands::CPING..=commands::PAIR_ATTRIBUTE => vectors_building::answer(command, case, out),
         commands::METHOD_NAME..=commands::ATTRIBUTE_NAME => name::of_code(command, case, out),
         commands::METHOD_CODE..=commands::ATTRIBUTE_CODE => name::code_of(command, case, out),
+        commands::CHECK => check::answer(case, out),
         _ => commands::NOT_UNDERSTOOD,
     }
 }

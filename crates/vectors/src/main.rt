@@ -1,5 +1,6 @@
 // Runs the library on the cases that standard input lists, one a line, and compares its answers with those of the list. It prints each case
 // that differs, and at the end how many there were. The list itself says how a case is written.
+mod check;
 mod command;
 mod line;
 mod name;

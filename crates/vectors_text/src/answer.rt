@@ -32,12 +32,20 @@ pub const CODE: usize = 15;
 
 pub const NOT_LISTED: usize = 16;
 
+pub const CHECKED_IDLE: usize = 17;
+
+pub const CHECKED_PINGED: usize = 18;
+
+pub const CHECKED_BUSY: usize = 19;
+
+pub const CHECKED_CLOSED: usize = 20;
+
 // From a refusal, or a number of bytes that are needed, to the form where a lent byte or place was changed all the same.
 const CHANGED: usize = 2;
 
 // The forms in this order, one a line: N stands for a number, L for a letter, C for a connection, B for the bytes of the buffer, or of a name, and T for the
 // lent table.
-pub const FORMS: [u8; 583] = *b"refused N
+pub const FORMS: [u8; 815] = *b"refused N
 needs N
 refused N, changed to B T
 needs N, changed to B T
@@ -53,7 +61,11 @@ ok chunk taken=N conn=C start=N len=N table=T
 ok end taken=N conn=C reuse=N table=T
 ok name=B
 ok code=N
-not listed";
+not listed
+packets=N;requests=N;body=N;state=idle;refusal=N;place=N
+packets=N;requests=N;body=N;state=pinged;refusal=N;place=N
+packets=N;requests=N;body=N;state=busy;refusal=N;place=N
+packets=N;requests=N;body=N;state=closed;refusal=N;place=N";
 
 // The most values of an answer.
 const VALUES: usize = 16;

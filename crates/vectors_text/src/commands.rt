@@ -49,10 +49,12 @@ pub const RESPONSE_CODE: usize = 22;
 
 pub const ATTRIBUTE_CODE: usize = 23;
 
-pub const UNKNOWN: usize = 24;
+pub const CHECK: usize = 24;
+
+pub const UNKNOWN: usize = 25;
 
 // The forms of their cases in this order, one a line (`form` says what a capital letter stands for).
-pub const FORMS: [u8; 437] = *b"read container C T B
+pub const FORMS: [u8; 445] = *b"read container C T B
 read server C T B
 cping C B
 cpong C B
@@ -75,10 +77,11 @@ name attribute N
 code method B
 code request B
 code response B
-code attribute B";
+code attribute B
+check B";
 
 // What they are called in this order, and then all of them, one a line.
-pub const NAMES: [u8; 405] = *b"read at the container
+pub const NAMES: [u8; 424] = *b"read at the container
 read at the server
 cping
 cpong
@@ -102,6 +105,7 @@ code of a method
 code of a request header
 code of a response header
 code of an attribute
+check of a capture
 in all";
 
 // The most bytes that are read, sent or lent as a buffer in a case, and the most places of a lent table.

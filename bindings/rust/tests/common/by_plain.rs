@@ -5,16 +5,21 @@
 #![allow(clippy::too_many_arguments)]
 
 use crate::plain::{
-    self, Added, Building, BuildingKind, Connection, End, Packet, Received, Sent, State,
+    self, Added, Building, BuildingKind, Checked, Connection, End, Figures, Packet, Received, Sent,
+    State, Stop,
 };
 use ajp13::raw::{
-    ANSWER_BYTES, ANSWER_KIND, BUILDING_KIND, DONE, ERROR_ANSWER_LENGTH, ERROR_ARGUMENT,
-    ERROR_BUILDING_LENGTH, ERROR_BUILDING_WORD, ERROR_CONNECTION_LENGTH, ERROR_CONNECTION_WORD,
-    ERROR_FIXED_LENGTH, ERROR_FIXED_WORD, KIND_BODY, KIND_BODY_CHUNK, KIND_CPING, KIND_CPONG,
-    KIND_END, KIND_FORWARD, KIND_GET_BODY, KIND_SEND_HEADERS, LIST_ATTRIBUTES, LIST_METHODS,
-    LIST_REQUEST_HEADERS, LIST_RESPONSE_HEADERS, NEEDS, SIZE_ANSWER, SIZE_BUILDING,
-    SIZE_CONNECTION, SIZE_NAME, SIZE_TEXT, STATE_BUSY, STATE_CLOSED, STATE_IDLE, STATE_PINGED,
-    VALUE_INTEGER, VALUE_NOT_SERVED, VALUE_PAIR, VALUE_TEXT,
+    ANSWER_BYTES, ANSWER_KIND, BUILDING_KIND, CHECKED_BODY, CHECKED_PACKETS, CHECKED_PLACE,
+    CHECKED_REFUSAL, CHECKED_REQUESTS, CHECKED_STATE, CHECKING_BODY, CHECKING_PACKETS,
+    CHECKING_PLACE, CHECKING_REFUSAL, CHECKING_REQUESTS, CONNECTION_ASKED, CONNECTION_DUE,
+    CONNECTION_HEADERS, DONE, ERROR_ANSWER_LENGTH, ERROR_ARGUMENT, ERROR_BUILDING_LENGTH,
+    ERROR_BUILDING_WORD, ERROR_CHECKING_LENGTH, ERROR_CHECKING_WORD, ERROR_CONNECTION_LENGTH,
+    ERROR_CONNECTION_WORD, ERROR_FIXED_LENGTH, ERROR_FIXED_WORD, KIND_BODY, KIND_BODY_CHUNK,
+    KIND_CPING, KIND_CPONG, KIND_END, KIND_FORWARD, KIND_GET_BODY, KIND_SEND_HEADERS,
+    LIST_ATTRIBUTES, LIST_METHODS, LIST_REQUEST_HEADERS, LIST_RESPONSE_HEADERS, NEEDS, SIZE_ANSWER,
+    SIZE_BUILDING, SIZE_CHECKED, SIZE_CHECKING, SIZE_CONNECTION, SIZE_NAME, SIZE_TEXT, STATE_BUSY,
+    STATE_CLOSED, STATE_IDLE, STATE_PINGED, VALUE_INTEGER, VALUE_NOT_SERVED, VALUE_PAIR,
+    VALUE_TEXT,
 };
 
 /// A call that came to its end, or the refusal or the error that it returns.
@@ -29,7 +34,7 @@ fn status(outcome: Outcome) -> u32 {
 }
 
 /// Tells an error where something does not hold.
-fn check(holds: bool, error: u32) -> Outcome {
+fn ensure(holds: bool, error: u32) -> Outcome {
     if holds {
         Ok(())
     } else {
@@ -71,7 +76,7 @@ fn connection_in(words: &[u32]) -> Result<Connection, u32> {
     let &[state, left, due, asked, headers, head, edition, open] = words else {
         return Err(ERROR_CONNECTION_LENGTH);
     };
-    check([head, edition, open] == [0; 3], ERROR_CONNECTION_WORD)?;
+    ensure([head, edition, open] == [0; 3], ERROR_CONNECTION_WORD)?;
     let state = match state {
         STATE_IDLE => State::Idle,
         STATE_PINGED => State::Pinged,
@@ -97,16 +102,20 @@ fn connection_in(words: &[u32]) -> Result<Connection, u32> {
     })
 }
 
-/// The words of a connection.
-fn connection_words(connection: Connection) -> [u32; SIZE_CONNECTION] {
-    let state = match connection.state {
+/// The word of a state.
+fn state_word(state: State) -> u32 {
+    match state {
         State::Idle => STATE_IDLE,
         State::Pinged => STATE_PINGED,
         State::Busy => STATE_BUSY,
         State::Closed => STATE_CLOSED,
-    };
+    }
+}
+
+/// The words of a connection.
+fn connection_words(connection: Connection) -> [u32; SIZE_CONNECTION] {
     [
-        state,
+        state_word(connection.state),
         connection.left,
         connection.due.into(),
         connection.asked.into(),
@@ -251,7 +260,7 @@ fn read(
     answer: &mut [u32],
 ) -> Outcome {
     let before = connection_in(connection)?;
-    check(answer.len() == SIZE_ANSWER, ERROR_ANSWER_LENGTH)?;
+    ensure(answer.len() == SIZE_ANSWER, ERROR_ANSWER_LENGTH)?;
     match plain::read(end, before, bytes, table) {
         Received::Needs(needed) => {
             answer.fill(0);
@@ -280,7 +289,7 @@ fn send(
 ) -> u32 {
     status((|| {
         let before = connection_in(connection)?;
-        check(answer.len() == SIZE_ANSWER, ERROR_ANSWER_LENGTH)?;
+        ensure(answer.len() == SIZE_ANSWER, ERROR_ANSWER_LENGTH)?;
         match call(before)? {
             Sent::Refused(number) => Err(number.into()),
             Sent::Written {
@@ -390,7 +399,7 @@ pub fn begin_forward(
     server_name: &[u8],
 ) -> u32 {
     status((|| {
-        check(building.len() == SIZE_BUILDING, ERROR_BUILDING_LENGTH)?;
+        ensure(building.len() == SIZE_BUILDING, ERROR_BUILDING_LENGTH)?;
         let &[method, port, is_ssl, no_protocol, no_req_uri, no_addr, no_host, no_name] = fixed
         else {
             return Err(ERROR_FIXED_LENGTH);
@@ -419,7 +428,7 @@ pub fn begin_send_headers(
     null: u32,
 ) -> u32 {
     status((|| {
-        check(building.len() == SIZE_BUILDING, ERROR_BUILDING_LENGTH)?;
+        ensure(building.len() == SIZE_BUILDING, ERROR_BUILDING_LENGTH)?;
         let message = string(message, null, ERROR_ARGUMENT)?;
         let answer = plain::begin_send_headers(buffer, ranged(response_status), message);
         added(building, answer)
@@ -522,7 +531,7 @@ pub fn attribute_pair(
 /// The string at a place.
 pub fn text_at(packet: &[u8], place: u32, text: &mut [u32]) -> u32 {
     status((|| {
-        check(text.len() == SIZE_TEXT, ERROR_ANSWER_LENGTH)?;
+        ensure(text.len() == SIZE_TEXT, ERROR_ANSWER_LENGTH)?;
         let place = short(place, ERROR_ARGUMENT)?;
         text.copy_from_slice(&text_words(packet, usize::from(place)));
         Ok(())
@@ -532,7 +541,7 @@ pub fn text_at(packet: &[u8], place: u32, text: &mut [u32]) -> u32 {
 /// The name that an attribute 0A brings with it: the string right behind the code's place.
 pub fn attribute_name_at(packet: &[u8], place: u32, text: &mut [u32]) -> u32 {
     status((|| {
-        check(text.len() == SIZE_TEXT, ERROR_ANSWER_LENGTH)?;
+        ensure(text.len() == SIZE_TEXT, ERROR_ANSWER_LENGTH)?;
         let place = short(place, ERROR_ARGUMENT)?;
         text.copy_from_slice(&text_words(packet, usize::from(place) + 1));
         Ok(())
@@ -625,4 +634,134 @@ pub fn code(list: u32, text: &[u8]) -> u32 {
         _ => return ERROR_ARGUMENT,
     };
     found.map_or(0, u32::from)
+}
+
+/// A check on the way.
+struct Checking {
+    connection: Connection,
+    figures: Figures,
+    place: u32,
+    /// The number of the refusal, 0 for none.
+    refusal: u32,
+}
+
+/// The check on the way that an array holds.
+fn checking_in(words: &[u32]) -> Result<Checking, u32> {
+    ensure(words.len() == SIZE_CHECKING, ERROR_CHECKING_LENGTH)?;
+    let connection = connection_in(&words[..SIZE_CONNECTION]);
+    let checking = Checking {
+        connection: connection.map_err(|_| ERROR_CHECKING_WORD)?,
+        figures: Figures {
+            packets: words[CHECKING_PACKETS],
+            requests: words[CHECKING_REQUESTS],
+            body: words[CHECKING_BODY],
+        },
+        place: words[CHECKING_PLACE],
+        refusal: words[CHECKING_REFUSAL],
+    };
+    // No packet is empty, so none of these is above the bytes of all packets.
+    let Figures {
+        packets,
+        requests,
+        body,
+    } = checking.figures;
+    let most = packets.max(requests).max(body);
+    ensure(most <= checking.place, ERROR_CHECKING_WORD)?;
+    ensure(
+        checking.refusal == 0 || plain::is_refusal(checking.refusal),
+        ERROR_CHECKING_WORD,
+    )?;
+    let kept = &words[CHECKING_REFUSAL + 1..];
+    ensure(kept.iter().all(|word| *word == 0), ERROR_CHECKING_WORD)?;
+    Ok(checking)
+}
+
+/// The words of a checker's answer.
+fn checked_words(checked: Checked) -> [u32; SIZE_CHECKED] {
+    let mut words = [0; SIZE_CHECKED];
+    words[CHECKED_PACKETS] = checked.figures.packets;
+    words[CHECKED_REQUESTS] = checked.figures.requests;
+    words[CHECKED_BODY] = checked.figures.body;
+    words[CHECKED_STATE] = state_word(checked.state);
+    words[CHECKED_REFUSAL] = checked.refusal.into();
+    words[CHECKED_PLACE] = checked.place;
+    words
+}
+
+/// Checks a whole capture.
+pub fn check(capture: &[u8], checked: &mut [u32]) -> u32 {
+    status((|| {
+        ensure(checked.len() == SIZE_CHECKED, ERROR_ANSWER_LENGTH)?;
+        checked.copy_from_slice(&checked_words(plain::check(capture)));
+        Ok(())
+    })())
+}
+
+/// Begins a check in parts.
+pub fn check_begin(checking: &mut [u32]) -> u32 {
+    if checking.len() != SIZE_CHECKING {
+        return ERROR_CHECKING_LENGTH;
+    }
+    let (connection, rest) = checking.split_at_mut(SIZE_CONNECTION);
+    connection.copy_from_slice(&connection_words(Connection::fresh()));
+    rest.fill(0);
+    DONE
+}
+
+/// Brings the words of a connection into range that are out of it, which is no error where they do
+/// not count.
+fn bring_into_range(connection: &mut [u32]) {
+    for flag in [CONNECTION_DUE, CONNECTION_HEADERS] {
+        if connection[flag] > 1 {
+            connection[flag] = 0;
+        }
+    }
+    connection[CONNECTION_ASKED] = connection[CONNECTION_ASKED].min(u16::MAX.into());
+}
+
+/// Goes on with a check in parts.
+pub fn check_go_on(checking: &mut [u32], bytes: &[u8]) -> u32 {
+    status((|| {
+        let before = checking_in(checking)?;
+        bring_into_range(&mut checking[..SIZE_CONNECTION]);
+        // Behind the first fault nothing is judged, nor behind the most bytes of a capture.
+        if before.refusal != 0 {
+            return Ok(());
+        }
+        let room = (plain::MAX_CAPTURE - before.place) as usize;
+        let judged = plain::judge(before.connection, &bytes[..bytes.len().min(room)]);
+        // A packet that is accepted steps the connection; without one its words stay.
+        if judged.figures.packets > 0 {
+            checking[..SIZE_CONNECTION].copy_from_slice(&connection_words(judged.connection));
+        }
+        checking[CHECKING_PACKETS] += judged.figures.packets;
+        checking[CHECKING_REQUESTS] += judged.figures.requests;
+        checking[CHECKING_BODY] += judged.figures.body;
+        checking[CHECKING_PLACE] += judged.length;
+        if let Stop::Refused(number) = judged.stop {
+            checking[CHECKING_REFUSAL] = number.into();
+        }
+        Ok(())
+    })())
+}
+
+/// The answer of a check in parts.
+pub fn check_finish(checking: &[u32], size: u64, checked: &mut [u32]) -> u32 {
+    status((|| {
+        ensure(checked.len() == SIZE_CHECKED, ERROR_ANSWER_LENGTH)?;
+        let checking = checking_in(checking)?;
+        let stop = match checking.refusal {
+            0 if u64::from(checking.place) == size => Stop::AtEnd,
+            0 => Stop::Unfinished,
+            number => Stop::Refused(number as u8),
+        };
+        let (refusal, place) = plain::verdict(stop, checking.place, size);
+        checked.copy_from_slice(&checked_words(Checked {
+            figures: checking.figures,
+            state: checking.connection.state,
+            refusal,
+            place,
+        }));
+        Ok(())
+    })())
 }

@@ -52,6 +52,8 @@ pub struct Lent {
     pub building: Array<u32>,
     pub answer: Array<u32>,
     pub text: Array<u32>,
+    pub checking: Array<u32>,
+    pub checked: Array<u32>,
     pub table: Array<u16>,
     pub buffer: Array<u8>,
     pub name: Array<u8>,
@@ -161,6 +163,10 @@ pub enum Call {
         list: u32,
         text: Vec<u8>,
     },
+    Check(Vec<u8>),
+    CheckBegin,
+    CheckGoOn(Vec<u8>),
+    CheckFinish(u64),
 }
 
 /// Makes a call by the functions of a module; the library's and the plain one's have the same
@@ -172,6 +178,8 @@ macro_rules! call_by {
         let building = lent.building.lend();
         let answer = lent.answer.lend();
         let text = lent.text.lend();
+        let checking = lent.checking.lend();
+        let checked = lent.checked.lend();
         let table = lent.table.lend();
         let buffer = lent.buffer.lend();
         match $call {
@@ -236,6 +244,10 @@ macro_rules! call_by {
             Call::AttributeKindAt { packet, place } => $calls::attribute_kind_at(packet, *place),
             Call::Name { list, code } => $calls::name(*list, *code, lent.name.lend()),
             Call::Code { list, text } => $calls::code(*list, text),
+            Call::Check(capture) => $calls::check(capture, checked),
+            Call::CheckBegin => $calls::check_begin(checking),
+            Call::CheckGoOn(bytes) => $calls::check_go_on(checking, bytes),
+            Call::CheckFinish(size) => $calls::check_finish(checking, *size, checked),
         }
     }};
 }
@@ -300,6 +312,19 @@ impl Call {
         matches!(self, Call::TextAt { .. } | Call::AttributeNameAt { .. })
     }
 
+    /// Whether the call is given a check on the way.
+    pub fn has_checking(&self) -> bool {
+        matches!(
+            self,
+            Call::CheckBegin | Call::CheckGoOn(_) | Call::CheckFinish(_)
+        )
+    }
+
+    /// Whether the call is lent a checker's answer.
+    pub fn has_checked(&self) -> bool {
+        matches!(self, Call::Check(_) | Call::CheckFinish(_))
+    }
+
     /// Whether the call returns a number that was asked for, or an error, and no other status.
     pub fn hands_out_number(&self) -> bool {
         matches!(
@@ -344,6 +369,10 @@ impl Call {
             Call::AttributeKindAt { .. } => "attribute_kind_at",
             Call::Name { .. } => "name",
             Call::Code { .. } => "code",
+            Call::Check(_) => "check",
+            Call::CheckBegin => "check_begin",
+            Call::CheckGoOn(_) => "check_go_on",
+            Call::CheckFinish(_) => "check_finish",
         }
     }
 }
@@ -369,11 +398,18 @@ impl Display for Call {
     fn fmt(&self, f: &mut Formatter) -> fmt::Result {
         f.write_str(self.name())?;
         match self {
-            Call::Fresh | Call::LargestBody | Call::CPing | Call::CPong | Call::Close => Ok(()),
+            Call::Fresh
+            | Call::LargestBody
+            | Call::CPing
+            | Call::CPong
+            | Call::Close
+            | Call::CheckBegin => Ok(()),
             Call::ReadAtContainer(bytes)
             | Call::ReadAtServer(bytes)
             | Call::Body(bytes)
-            | Call::BodyChunk(bytes) => write!(f, "\n  bytes {}", Hex(bytes)),
+            | Call::BodyChunk(bytes)
+            | Call::Check(bytes)
+            | Call::CheckGoOn(bytes) => write!(f, "\n  bytes {}", Hex(bytes)),
             Call::GetBody(number) | Call::End(number) => write!(f, " {number}"),
             Call::BeginForward { fixed, strings } => {
                 write!(f, "\n  fixed {fixed:?}")?;
@@ -404,6 +440,7 @@ impl Display for Call {
             }
             Call::Name { list, code } => write!(f, " {list} {code:04x}"),
             Call::Code { list, text } => write!(f, " {list}\n  text {}", Hex(text)),
+            Call::CheckFinish(size) => write!(f, " {size}"),
         }
     }
 }
@@ -431,6 +468,8 @@ impl Display for Lent {
         words(f, "building", &self.building)?;
         words(f, "answer", &self.answer)?;
         words(f, "text", &self.text)?;
+        words(f, "checking", &self.checking)?;
+        words(f, "checked", &self.checked)?;
         words(f, "table", &self.table)?;
         bytes(f, "buffer", &self.buffer)?;
         bytes(f, "name", &self.name)

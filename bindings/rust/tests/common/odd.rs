@@ -4,13 +4,15 @@
 
 use super::calls::{Array, Call, Lent};
 use super::run::{counted, is_error, status_name};
+use crate::plain;
 use ajp13::raw::{
     BUILDING_ATTRIBUTES, BUILDING_COUNT_PLACE, BUILDING_HEADERS, BUILDING_KIND, BUILDING_NEXT,
+    CHECKING_BODY, CHECKING_PACKETS, CHECKING_PLACE, CHECKING_REFUSAL, CHECKING_REQUESTS,
     CONNECTION_ASKED, CONNECTION_DUE, CONNECTION_EDITION, CONNECTION_HEAD, CONNECTION_HEADERS,
     CONNECTION_OPEN, CONNECTION_STATE, FIXED_IS_SSL, FIXED_METHOD, FIXED_NO_PROTOCOL,
     FIXED_NO_REMOTE_ADDR, FIXED_NO_REMOTE_HOST, FIXED_NO_REQ_URI, FIXED_NO_SERVER_NAME, FIXED_PORT,
-    KIND_FORWARD, KIND_SEND_HEADERS, SIZE_ANSWER, SIZE_BUILDING, SIZE_CONNECTION, SIZE_FIXED,
-    SIZE_NAME, SIZE_TEXT, STATE_BUSY, STATE_CLOSED,
+    KIND_FORWARD, KIND_SEND_HEADERS, SIZE_ANSWER, SIZE_BUILDING, SIZE_CHECKED, SIZE_CHECKING,
+    SIZE_CONNECTION, SIZE_FIXED, SIZE_NAME, SIZE_TEXT, STATE_BUSY, STATE_CLOSED,
 };
 use std::collections::BTreeMap;
 
@@ -48,6 +50,19 @@ pub const NAME_LENGTHS: Lengths = &[
     (0, "name of 0 bytes"),
     (16, "name of 16 bytes"),
     (18, "name of 18 bytes"),
+];
+pub const CHECKING_LENGTHS: Lengths = &[
+    (0, "checking of 0 words"),
+    (8, "checking of 8 words"),
+    (13, "checking of 13 words"),
+    (15, "checking of 15 words"),
+    (17, "checking of 17 words"),
+];
+pub const CHECKED_LENGTHS: Lengths = &[
+    (0, "checked of 0 words"),
+    (6, "checked of 6 words"),
+    (7, "checked of 7 words"),
+    (9, "checked of 9 words"),
 ];
 
 /// What has to be seen of something odd.
@@ -159,7 +174,7 @@ impl Found<'_> {
             if let Some(what) = named(CONNECTION_LENGTHS, length) {
                 self.lent(what, |lent| resize(&mut lent.connection, SIZE_CONNECTION));
             } else if length == SIZE_CONNECTION && !matches!(self.call, Call::Fresh) {
-                self.connection();
+                self.connection(|lent| &mut lent.connection);
             }
         }
         if self.call.has_building() {
@@ -180,6 +195,21 @@ impl Found<'_> {
                 self.lent(what, |lent| resize(&mut lent.text, SIZE_TEXT));
             }
         }
+        if self.call.has_checking() {
+            let length = self.lent.checking.get().len();
+            if let Some(what) = named(CHECKING_LENGTHS, length) {
+                self.lent(what, |lent| resize(&mut lent.checking, SIZE_CHECKING));
+            } else if length == SIZE_CHECKING && !matches!(self.call, Call::CheckBegin) {
+                // Its first words are a connection.
+                self.connection(|lent| &mut lent.checking);
+                self.checking();
+            }
+        }
+        if self.call.has_checked() {
+            if let Some(what) = named(CHECKED_LENGTHS, self.lent.checked.get().len()) {
+                self.lent(what, |lent| resize(&mut lent.checked, SIZE_CHECKED));
+            }
+        }
         if let Call::Name { .. } = self.call {
             if let Some(what) = named(NAME_LENGTHS, self.lent.name.get().len()) {
                 self.lent(what, |lent| resize(&mut lent.name, SIZE_NAME));
@@ -188,9 +218,10 @@ impl Found<'_> {
         self.arguments();
     }
 
-    /// Looks at the words of a connection.
-    fn connection(&mut self) {
-        let words = self.lent.connection.get();
+    /// Looks at the words of a connection, which stand at the start of an array.
+    fn connection(&mut self, array: fn(&mut Lent) -> &mut Array<u32>) {
+        let mut lent = self.lent.clone();
+        let words = array(&mut lent).get();
         let state = words[CONNECTION_STATE];
         let is_due = words[CONNECTION_DUE] == 1;
         let (due, asked, headers) = (
@@ -238,7 +269,46 @@ impl Found<'_> {
             ),
         ] {
             if is_odd {
-                self.lent(what, |lent| lent.connection.lend()[at] = 0);
+                self.lent(what, |lent| array(lent).lend()[at] = 0);
+            }
+        }
+    }
+
+    /// Looks at the words of a check on the way that are not its connection.
+    fn checking(&mut self) {
+        let words = self.lent.checking.get();
+        let place = words[CHECKING_PLACE];
+        let refusal = words[CHECKING_REFUSAL];
+        for (at, is_odd, what) in [
+            (
+                CHECKING_PACKETS,
+                words[CHECKING_PACKETS] > place,
+                "packets above place",
+            ),
+            (
+                CHECKING_REQUESTS,
+                words[CHECKING_REQUESTS] > place,
+                "requests above place",
+            ),
+            (
+                CHECKING_BODY,
+                words[CHECKING_BODY] > place,
+                "body above place",
+            ),
+            (
+                CHECKING_REFUSAL,
+                refusal != 0 && !plain::is_refusal(refusal),
+                "refusal of no number",
+            ),
+        ] {
+            if is_odd {
+                self.lent(what, |lent| lent.checking.lend()[at] = 0);
+            }
+        }
+        let kept = ["word 13 not 0", "word 14 not 0", "word 15 not 0"];
+        for (at, what) in (CHECKING_REFUSAL + 1..SIZE_CHECKING).zip(kept) {
+            if self.lent.checking.get()[at] > 0 {
+                self.lent(what, |lent| lent.checking.lend()[at] = 0);
             }
         }
     }
@@ -376,7 +446,11 @@ fn arguments(call: &mut Call) -> Vec<(&'static str, u32, &mut u32)> {
         | Call::CPong
         | Call::Body(_)
         | Call::BodyChunk(_)
-        | Call::Close => vec![],
+        | Call::Close
+        | Call::Check(_)
+        | Call::CheckBegin
+        | Call::CheckGoOn(_)
+        | Call::CheckFinish(_) => vec![],
     }
 }
 

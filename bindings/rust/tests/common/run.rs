@@ -8,7 +8,8 @@ use super::calls::{Call, Lent};
 use super::rng::Rng;
 use super::settings;
 use ajp13::raw::{
-    DONE, ERROR_ANSWER_LENGTH, ERROR_ARGUMENT, ERROR_BUILDING_LENGTH, ERROR_BUILDING_WORD,
+    CHECKED_REFUSAL, CHECKING_REFUSAL, DONE, ERROR_ANSWER_LENGTH, ERROR_ARGUMENT,
+    ERROR_BUILDING_LENGTH, ERROR_BUILDING_WORD, ERROR_CHECKING_LENGTH, ERROR_CHECKING_WORD,
     ERROR_CONNECTION_LENGTH, ERROR_CONNECTION_WORD, ERROR_FIXED_LENGTH, ERROR_FIXED_WORD, NEEDS,
 };
 use std::collections::BTreeMap;
@@ -88,7 +89,11 @@ impl Run {
             );
         }
         let counted = counted(call, library_status);
-        *self.seen.entry((call.name(), counted)).or_default() += 1;
+        let seen = match counted {
+            DONE => verdict(call, &library),
+            _ => counted,
+        };
+        *self.seen.entry((call.name(), seen)).or_default() += 1;
         // A refusal and an error write nothing, and so does a number but for that of a name.
         if !matches!(counted, DONE | NEEDS | NUMBER) {
             assert!(library == *before, "{}: {call}", self.theme);
@@ -102,7 +107,7 @@ impl Run {
     }
 
     /// Prints how often each status was seen, and checks that those of each call were seen, and no
-    /// other.
+    /// other. A call of the checker is counted by the refusal that it told in its words.
     pub fn finish(self, expected: &[(&'static str, &[u32])]) {
         self.check_seen(expected, |_| true);
     }
@@ -150,9 +155,19 @@ pub fn counted(call: &Call, status: u32) -> u32 {
     }
 }
 
+/// The refusal that a call of the checker has told in its words, which is no status of it; `DONE`
+/// where it has told none, and for every other call.
+fn verdict(call: &Call, lent: &Lent) -> u32 {
+    match call {
+        Call::Check(_) | Call::CheckFinish(_) => lent.checked.get()[CHECKED_REFUSAL],
+        Call::CheckGoOn(_) => lent.checking.get()[CHECKING_REFUSAL],
+        _ => DONE,
+    }
+}
+
 /// Whether a status is an error.
 pub fn is_error(status: u32) -> bool {
-    (ERROR_CONNECTION_LENGTH..=ERROR_ARGUMENT).contains(&status)
+    (ERROR_CONNECTION_LENGTH..=ERROR_CHECKING_WORD).contains(&status)
 }
 
 /// The name of a status; a refusal is told by its number.
@@ -168,6 +183,8 @@ pub fn status_name(status: u32) -> String {
         ERROR_FIXED_WORD => "fixed-word",
         ERROR_ANSWER_LENGTH => "answer-length",
         ERROR_ARGUMENT => "argument",
+        ERROR_CHECKING_LENGTH => "checking-length",
+        ERROR_CHECKING_WORD => "checking-word",
         ZERO => "0",
         NUMBER => "number",
         number => return format!("({number})"),

@@ -1,9 +1,10 @@
 //! Cases of any call with arrays of a wrong length and with words out of range.
 
 use super::calls::{Array, Call, Lent};
+use super::captures::any_check;
 use super::odd::{
-    Lengths, ANSWER_LENGTHS, BUILDING_LENGTHS, CONNECTION_LENGTHS, FIXED_LENGTHS, NAME_LENGTHS,
-    TEXT_LENGTHS,
+    Lengths, ANSWER_LENGTHS, BUILDING_LENGTHS, CHECKED_LENGTHS, CHECKING_LENGTHS,
+    CONNECTION_LENGTHS, FIXED_LENGTHS, NAME_LENGTHS, TEXT_LENGTHS,
 };
 use super::packets::Kind;
 use super::pieces::{single_piece, to_close};
@@ -13,11 +14,13 @@ use super::sending::one_call;
 use super::strings;
 use super::views::{name_or_code, view};
 use super::words::{self, above_1, above_16_bits};
+use crate::plain;
 use ajp13::raw::{
     BUILDING_ATTRIBUTES, BUILDING_COUNT_PLACE, BUILDING_HEADERS, BUILDING_KIND, BUILDING_NEXT,
+    CHECKING_BODY, CHECKING_PACKETS, CHECKING_PLACE, CHECKING_REFUSAL, CHECKING_REQUESTS,
     CONNECTION_ASKED, CONNECTION_DUE, CONNECTION_EDITION, CONNECTION_HEAD, CONNECTION_HEADERS,
     CONNECTION_OPEN, CONNECTION_STATE, FIXED_IS_SSL, FIXED_METHOD, FIXED_PORT, SIZE_BUILDING,
-    SIZE_CONNECTION, SIZE_FIXED, STATE_BUSY, STATE_CLOSED, STATE_IDLE, STATE_PINGED,
+    SIZE_CHECKING, SIZE_CONNECTION, SIZE_FIXED, STATE_BUSY, STATE_CLOSED, STATE_IDLE, STATE_PINGED,
 };
 
 /// How often something is made wrong: once in so many times.
@@ -25,7 +28,7 @@ const ODDS: usize = 4;
 
 /// Any call of the library, as the other tests make it.
 pub fn any_call(rng: &mut Rng) -> (Call, Lent) {
-    match rng.below(13) {
+    match rng.below(16) {
         0 => {
             let lent = Lent {
                 connection: words::words(rng, SIZE_CONNECTION),
@@ -45,7 +48,8 @@ pub fn any_call(rng: &mut Rng) -> (Call, Lent) {
         6..=9 => single_piece(rng),
         10 => (Call::Close, to_close(rng)),
         11 => view(rng),
-        _ => name_or_code(rng),
+        12 => name_or_code(rng),
+        _ => any_check(rng),
     }
 }
 
@@ -70,6 +74,18 @@ pub fn spoil(rng: &mut Rng, call: &mut Call, lent: &mut Lent) {
     }
     if rng.one_in(ODDS) {
         lent.name = wrong_length(rng, lent.name.get(), NAME_LENGTHS);
+    }
+    if rng.one_in(ODDS) {
+        lent.checking = wrong_length(rng, lent.checking.get(), CHECKING_LENGTHS);
+    } else if lent.checking.get().len() == SIZE_CHECKING {
+        match rng.below(4) {
+            0 => spoil_connection(rng, &mut lent.checking.lend()[..SIZE_CONNECTION]),
+            1 | 2 => spoil_checking(rng, lent.checking.lend()),
+            _ => {}
+        }
+    }
+    if rng.one_in(ODDS) {
+        lent.checked = wrong_length(rng, lent.checked.get(), CHECKED_LENGTHS);
     }
     spoil_arguments(rng, call);
 }
@@ -145,6 +161,34 @@ fn spoil_building(rng: &mut Rng, words: &mut [u32]) {
     };
 }
 
+/// Puts a word of a check on the way out of range that is not one of its connection.
+fn spoil_checking(rng: &mut Rng, words: &mut [u32]) {
+    let at = rng.between(CHECKING_PACKETS, SIZE_CHECKING - 1);
+    match at {
+        // A figure above the place; at times the least that is.
+        CHECKING_PACKETS | CHECKING_REQUESTS | CHECKING_BODY => {
+            let place = words[CHECKING_PLACE].min(u32::MAX - 1);
+            words[CHECKING_PLACE] = place;
+            words[at] = match rng.one_in(2) {
+                true => place + 1,
+                false => rng.between(place as usize + 1, u32::MAX as usize) as u32,
+            };
+        }
+        // A place below the figures, at times.
+        CHECKING_PLACE => words[at] /= 2,
+        CHECKING_REFUSAL => {
+            let behind = u32::from(plain::LAST_REFUSAL) + 1;
+            words[at] = match rng.below(3) {
+                0 => rng.of(&[behind, behind + 1, 255, 256]),
+                1 => rng.word().max(behind),
+                _ => above_16_bits(rng, behind - 1),
+            };
+        }
+        _ if rng.one_in(2) => words[at] = 1,
+        _ => words[at] = above_16_bits(rng, 0),
+    }
+}
+
 /// Puts some arguments out of range.
 fn spoil_arguments(rng: &mut Rng, call: &mut Call) {
     match call {
@@ -206,7 +250,11 @@ fn spoil_arguments(rng: &mut Rng, call: &mut Call) {
         | Call::CPong
         | Call::Body(_)
         | Call::BodyChunk(_)
-        | Call::Close => {}
+        | Call::Close
+        | Call::Check(_)
+        | Call::CheckBegin
+        | Call::CheckGoOn(_)
+        | Call::CheckFinish(_) => {}
     }
 }
 

@@ -1,12 +1,13 @@
-//! A second implementation of document 01 (both ends of an AJP13 connection), written apart from
-//! the library: it is compared with the library case by case, and is the benchmark's baseline of
-//! hand-written safe Rust.
+//! A second implementation of document 01 (both ends of an AJP13 connection) and of the checker of
+//! document 02, written apart from the library: it is compared with the library case by case, and
+//! is the benchmark's baseline of hand-written safe Rust.
 //!
 //! Nothing here allocates, and any bytes, record, table or buffer get an answer.
 
 #![allow(dead_code, unused_imports)]
 
 mod build;
+mod check;
 mod connection;
 mod cursor;
 mod fields;
@@ -19,6 +20,7 @@ pub use build::{
     attribute_integer, attribute_pair, attribute_text, begin_forward, begin_send_headers, close,
     header_coded, header_named, header_spelled, Added, Building, BuildingKind,
 };
+pub use check::{check, judge, verdict, Checked, Figures, Judged, Stop, MAX_CAPTURE};
 pub use connection::{Connection, State};
 pub use names::{
     attribute_code, attribute_name, method_code, method_name, request_header_code,
@@ -62,7 +64,15 @@ mod code {
     pub const NO_MORE_ATTRIBUTES: u8 = 0xFF;
 }
 
-/// Why a packet or a call was refused, by the number that document 01 gives it.
+/// The last number of a refusal. No number from 1 to it is left out.
+pub const LAST_REFUSAL: u8 = Refusal::CAPTURE_TOO_LONG.0;
+
+/// Whether a number is that of a refusal.
+pub fn is_refusal(number: u32) -> bool {
+    (1..=LAST_REFUSAL.into()).contains(&number)
+}
+
+/// Why a packet, a call or a capture was refused, by the number that documents 01 and 02 give it.
 #[derive(Clone, Copy, Debug, PartialEq, Eq)]
 struct Refusal(u8);
 
@@ -84,4 +94,6 @@ impl Refusal {
     const BODY_SIZE: Refusal = Refusal(14);
     const NO_ROOM: Refusal = Refusal(15);
     const BUILDING: Refusal = Refusal(16);
+    const UNFINISHED: Refusal = Refusal(17);
+    const CAPTURE_TOO_LONG: Refusal = Refusal(18);
 }

@@ -9,7 +9,7 @@ abbrev Inv-loop : tie.InvT-loop
 Inv-loop case forms command₀ command = Unit {0}
 
 abbrev μ-loop : tie.MeasureT-loop
-μ-loop case forms command₀ command = 24 - command
+μ-loop case forms command₀ command = 25 - command
 
 pub of-spec : {M : Type 1} → statement M
 of-spec =

@@ -6,10 +6,10 @@ use Rattle.vectors.proofs.tally.Tallies.show.Statement.{statement}
 use Rattle.vectors.proofs.tally.Tallies.show.Tie as tie
 
 abbrev Inv-loop : tie.InvT-loop
-Inv-loop cases differ row₀ row = row ≤ 25
+Inv-loop cases differ row₀ row = row ≤ 26
 
 abbrev μ-loop : tie.MeasureT-loop
-μ-loop cases differ row₀ row = 25 - row
+μ-loop cases differ row₀ row = 26 - row
 
 pub show-spec : {M : Type 1} → statement M
 show-spec =
