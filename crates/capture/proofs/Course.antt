@@ -7,12 +7,12 @@ use mathlib.Core.List.{List, [], _∷_, _++_, append-assoc, append-nil}
 use Prim.Native.Nat.{ℕ, zero, suc, _+_, _-_, _≤_, _<_}
 use native.Mathlib.Nat.{zero-add, add-assoc}
 use native.Mathlib.Omega.{arith}
-use borrow.Author.Tests.{eqb-false, ne-eqb}
+use borrow.Author.Tests.{le-leb, eqb-false, ne-eqb}
 use lib.Dec.{eqb}
 use lib.ListN.{length, getD, take, drop, length-append, length-drop, take-append-drop}
 use lib.Seq.{take-append-le, drop-append-le, drop-append-seam}
 use Rattle.wire.specs.Pick.{pick}
-use Rattle.wire.specs.Refusal.{none, isRefusal}
+use Rattle.wire.specs.Refusal.{none, leadingWrong, isRefusal}
 use Rattle.wire.specs.Bytes.{part}
 use Rattle.wire.specs.Field.{integerAt}
 use Rattle.wire.specs.Packet.{leading, payloadPlace, maxPacket}
@@ -82,6 +82,12 @@ module _ (c : Connection) (s : List ℕ) where
   unfolding firstIn
   refusal-some n e =
       ne-eqb n none (λ z. false≢true (subst (λ (k : ℕ). isRefusal k ≡ true) z (reading-refusal (directionIn s) c s maxPlaces n e)))
+
+-- a first byte of neither direction is refused with 1, whatever follows it
+pub neither-refused : (c : Connection) (x : ℕ) (s : List ℕ) → eqb x (getD (leading Direction.ToServer) 0 0) ≡ false
+    → eqb x (getD (leading Direction.ToContainer) 0 0) ≡ false → firstIn c (x ∷ s) ≡ refused leadingWrong
+unfolding firstIn directionIn reading parse frameAt leadingDiffers
+neither-refused c x s p q = rw (p, le-leb 1 (suc (length s)) (omega arith), q)
 
 -- no bytes are no packet
 pub first-none : (c : Connection) → firstIn c [] ≡ needs payloadPlace

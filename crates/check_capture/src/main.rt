@@ -43,7 +43,7 @@ fn by_word(word: &[u8]) {
     }
     let file = os::open_read(word);
     if file < 0 {
-        os::fail(word);
+        run::fail(word);
         return;
     }
     run::judge(file, word);

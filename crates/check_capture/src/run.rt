@@ -7,6 +7,7 @@ use crate::show;
 use capture::window::keep;
 use checking::Checking;
 use checking::MAX_CAPTURE;
+use libc::STDERR_FILENO;
 use wire::part_of;
 use wire::refusal;
 
@@ -43,12 +44,18 @@ pub fn judge(file: i32, name: &[u8]) {
             show::lines(run.checking.finish(size(run.checking, run.kept)));
         }
         Stage::Reading => {
-            os::fail(name);
+            fail(name);
         }
         Stage::Failed => {
-            os::fail(name);
+            fail(name);
         }
     }
+}
+
+// Says on standard error what could not be opened or read, and why.
+pub fn fail(name: &[u8]) {
+    io::write_all(STDERR_FILENO, b"check_capture: ");
+    os::fail(name);
 }
 
 // Reads to the end, or until no more bytes would be looked at. The turns are counted down from a number that no run uses up.

@@ -73,10 +73,10 @@ fn body_in(packet: Packet) -> u32
         Packet::CPing => 0,
         Packet::CPong => 0,
         Packet::Forward(f) => 0,
-        Packet::Body(p) => p.len as u32,
+        Packet::Body(part) => part.len as u32,
         Packet::GetBody(asked) => 0,
         Packet::SendHeaders(h) => 0,
-        Packet::BodyChunk(p) => 0,
+        Packet::BodyChunk(part) => 0,
         Packet::End(reuse) => 0,
     }
 }
@@ -119,12 +119,12 @@ impl Checking {
     }
 
     // One packet more, which was accepted.
-    fn counted(self, packet: Packet, taken: usize, connection: Connection) -> Checking
+    fn counted(self, packet: Packet, taken: usize, after: Connection) -> Checking
         requires { ⌜ (self .place + taken ≤ maxCapture) × PacketCounts self packet taken ⌝ }
-        ensures { λ r. ⌜ r ≡ counted self packet taken connection ⌝ }
+        ensures { λ r. ⌜ r ≡ counted self packet taken after ⌝ }
     {
         Checking {
-            connection,
+            connection: after,
             packets: self.packets + 1,
             requests: self.requests + requests_in(packet),
             body: self.body + body_in(packet),
