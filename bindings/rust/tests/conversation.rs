@@ -1,5 +1,6 @@
 //! Two ends of a connection and the two pipes between them, over the library alone: millions of
-//! random events, and after each of them what has to hold of the ends and the pipes.
+//! random events, and after each of them what has to hold of the ends and the pipes. What crosses at
+//! the server's end is a capture: the checker goes along and has to accept every packet of it.
 //!
 //! An event is one of the eight sends, with arguments that are often right and often not, or a
 //! delivery of the first packet of a pipe, alone or with those behind it. The environment sets the
@@ -22,6 +23,9 @@ const EVENTS: u64 = 5_000_000;
 
 /// The words of a connection.
 type Connection = [u32; raw::SIZE_CONNECTION];
+
+/// The words of a check on the way.
+type Checking = [u32; raw::SIZE_CHECKING];
 
 /// The words of a building record.
 type Building = [u32; raw::SIZE_BUILDING];
@@ -122,6 +126,7 @@ struct Counts {
     closed: u64,
     both_pipes_empty: u64,
     server_idle: u64,
+    checked: u64,
 }
 
 /// Both ends, the pipes between them, and what was sent and received.
@@ -138,6 +143,8 @@ struct TwoEnds {
     got: u64,
     /// What each Forward in the pipe declares.
     forwarded: VecDeque<u32>,
+    /// The check of what has crossed at the server's end since the ends were fresh.
+    checking: Checking,
     buffer: Vec<u8>,
     before: Vec<u8>,
     counts: Counts,
@@ -182,6 +189,13 @@ fn fresh() -> Connection {
     connection
 }
 
+/// A check that has begun.
+fn begun() -> Checking {
+    let mut checking = [0; raw::SIZE_CHECKING];
+    assert_eq!(raw::check_begin(&mut checking), raw::DONE);
+    checking
+}
+
 impl TwoEnds {
     /// Two fresh ends and empty pipes.
     fn new(rng: Rng) -> TwoEnds {
@@ -195,6 +209,7 @@ impl TwoEnds {
             declared: 0,
             got: 0,
             forwarded: VecDeque::new(),
+            checking: begun(),
             buffer: Vec::new(),
             before: Vec::new(),
             counts: Counts::default(),
@@ -236,6 +251,7 @@ impl TwoEnds {
         if closed(&self.server) && closed(&self.container) && self.rng.one_in(6) {
             assert!(self.to_container.is_empty() && self.to_server.is_empty());
             self.counts.closed += 1;
+            self.finish_check();
             self.server = fresh();
             self.container = fresh();
         }
@@ -339,6 +355,7 @@ impl TwoEnds {
                 // The sender's end knows what its request declared.
                 self.forwarded.push_back(connection[raw::CONNECTION_LEFT]);
             }
+            self.cross(&packet.bytes);
             self.to_container.push_back(packet);
         } else {
             self.container = connection;
@@ -511,6 +528,43 @@ impl TwoEnds {
         self.counts.delivered_to_server += 1;
         self.counts.delivered_with_others += u64::from(bytes.len() > length);
         self.to_server.pop_front();
+        self.cross(&bytes[..length]);
+    }
+
+    /// A packet crosses at the server's end: the checker takes it, and then has the server's connection.
+    fn cross(&mut self, packet: &[u8]) {
+        // Long before a capture would be too long for the checker, another one begins.
+        if self.checking[raw::CHECKING_PLACE] > u32::MAX / 2 && self.idle_checked() {
+            self.finish_check();
+        }
+        let place = self.checking[raw::CHECKING_PLACE];
+        let status = raw::check_go_on(&mut self.checking, packet);
+        assert_eq!(status, raw::DONE);
+        assert_eq!(self.checking[raw::CHECKING_REFUSAL], 0, "{packet:02x?}");
+        let taken = self.checking[raw::CHECKING_PLACE] - place;
+        assert_eq!(taken as usize, packet.len());
+        assert_eq!(self.checking[..raw::SIZE_CONNECTION], self.server);
+        self.counts.checked += 1;
+    }
+
+    /// Whether the checker stands where it began.
+    fn idle_checked(&self) -> bool {
+        self.checking[..raw::SIZE_CONNECTION] == fresh()
+    }
+
+    /// The capture of what crossed since the ends were fresh passes.
+    fn finish_check(&mut self) {
+        let mut checked = [0; raw::SIZE_CHECKED];
+        let size = self.checking[raw::CHECKING_PLACE].into();
+        let status = raw::check_finish(&self.checking, size, &mut checked);
+        assert_eq!(status, raw::DONE);
+        assert_eq!(checked[raw::CHECKED_REFUSAL], 0);
+        assert_eq!(u64::from(checked[raw::CHECKED_PLACE]), size);
+        assert_eq!(
+            checked[raw::CHECKED_STATE],
+            self.checking[raw::CONNECTION_STATE]
+        );
+        self.checking = begun();
     }
 
     /// What has to hold after every event.
@@ -576,8 +630,8 @@ impl Counts {
             self.requests, self.body_bytes, self.whole_bodies, self.closed
         );
         println!(
-            "  both pipes empty {} times, server's end Idle {} times",
-            self.both_pipes_empty, self.server_idle
+            "  both pipes empty {} times, server's end Idle {} times, {} packets checked",
+            self.both_pipes_empty, self.server_idle, self.checked
         );
     }
 
@@ -606,6 +660,7 @@ impl Counts {
             self.closed,
             self.both_pipes_empty,
             self.server_idle,
+            self.checked,
         ] {
             assert!(times > often, "some kind of event seldom happened");
         }
