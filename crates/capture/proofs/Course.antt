@@ -2,20 +2,20 @@
 -- whole, bytes followed by others, parts, and figures that are added up.
 -- Assumes nothing.
 use mathlib.Core.Path.{_≡_, refl, sym, ap, _∙_, subst}
-use mathlib.Core.Bool.{Bool, true, false, false≢true}
+use mathlib.Core.Bool.{Bool, true, false, not, false≢true}
 use mathlib.Core.List.{List, [], _∷_, _++_, append-assoc, append-nil}
 use Prim.Native.Nat.{ℕ, zero, suc, _+_, _-_, _≤_, _<_}
 use native.Mathlib.Nat.{zero-add, add-assoc}
 use native.Mathlib.Omega.{arith}
-use borrow.Author.Tests.{le-leb, eqb-false, ne-eqb}
-use lib.Dec.{eqb}
+use borrow.Author.Tests.{le-leb, eqb-true, eqb-false, ne-eqb}
+use lib.Dec.{leb, eqb}
 use lib.ListN.{length, getD, take, drop, length-append, length-drop, take-append-drop}
 use lib.Seq.{take-append-le, drop-append-le, drop-append-seam}
-use Rattle.wire.specs.Pick.{pick}
+use Rattle.wire.specs.Pick.{pick, both, either}
 use Rattle.wire.specs.Refusal.{none, leadingWrong, isRefusal}
 use Rattle.wire.specs.Bytes.{part}
 use Rattle.wire.specs.Field.{integerAt}
-use Rattle.wire.specs.Packet.{leading, payloadPlace, maxPacket}
+use Rattle.wire.specs.Packet.{leading, lengthPlace, payloadPlace, maxPacket}
 use Rattle.wire.proofs.Bytes.{length-part}
 use Rattle.packet.specs.declared.Direction.{Direction}
 use Rattle.packet.specs.declared.Packet.{Packet}
@@ -23,7 +23,7 @@ use Rattle.places.specs.Entries.{maxPlaces}
 use Rattle.connection.specs.declared.Connection.{Connection}
 use Rattle.reader.specs.declared.frame.FrameRead.{FrameRead}
 use Rattle.reader.specs.Meaning.{Meaning, needs, refused, accepted}
-use Rattle.reader.specs.Frame.{frameAt, leadingDiffers}
+use Rattle.reader.specs.Frame.{differs, leadingDiffers, frameOf, frameAt}
 use Rattle.reader.specs.Reading.{reading, parse}
 use Rattle.reader.proofs.Framing.{frame-inside}
 use Rattle.reading_laws.specs.Acceptance.{Answered, NeedsMore}
@@ -82,6 +82,38 @@ module _ (c : Connection) (s : List ℕ) where
   unfolding firstIn
   refusal-some n e =
       ne-eqb n none (λ z. false≢true (subst (λ (k : ℕ). isRefusal k ≡ true) z (reading-refusal (directionIn s) c s maxPlaces n e)))
+
+-- a whole packet of a direction begins with that direction's first byte
+first-byte : (direction : Direction) (s : List ℕ) (taken : ℕ) → frameAt direction s ≡ FrameRead.Whole taken
+    → eqb (getD s 0 0) (getD (leading direction) 0 0) ≡ true
+unfolding frameAt leadingDiffers
+first-byte direction s taken e =
+    let inside = frame-inside direction s (FrameRead.Whole taken) e in
+    go (leb (0 + 1) (length s)) (eqb (getD s 0 0) (getD (leading direction) 0 0)) (differs s 1 (getD (leading direction) 1 0))
+    (le-leb (0 + 1) (length s) (omega (arith, inside .0, inside .1 .1))) e
+  where
+    go : (there same second : Bool) → there ≡ true
+        → pick (either (both there (not same)) second) (FrameRead.Refused leadingWrong) (frameOf (length s) (integerAt s lengthPlace)) ≡ FrameRead.Whole taken
+        → same ≡ true
+    go true true second p q = refl
+    go true false second p q = absurd (let z : _≡_ {A = ℕ} 0 1 = cc in omega arith)
+    go false same second p q = absurd (false≢true p)
+
+-- so a capture takes it for a packet of that direction
+begins-as : (direction : Direction) (s : List ℕ) (taken : ℕ) → frameAt direction s ≡ FrameRead.Whole taken → directionIn s ≡ direction
+unfolding directionIn
+begins-as Direction.ToServer s taken e = rw (first-byte Direction.ToServer s taken e)
+begins-as Direction.ToContainer s taken e =
+    ap (λ (x : ℕ). pick (eqb x (getD (leading Direction.ToServer) 0 0)) Direction.ToServer Direction.ToContainer)
+    (eqb-true (getD s 0 0) (getD (leading Direction.ToContainer) 0 0) (first-byte Direction.ToContainer s taken e))
+
+-- what is accepted in a direction is accepted as the first packet of a capture
+pub first-at : (direction : Direction) (c : Connection) (s : List ℕ) (packet : Packet) (taken : ℕ) (next : Connection)
+    → reading direction c s maxPlaces ≡ accepted packet taken next → firstIn c s ≡ accepted packet taken next
+unfolding firstIn
+first-at direction c s packet taken next e =
+    ap (λ (way : Direction). reading way c s maxPlaces)
+    (begins-as direction s taken (accepted-is direction c s maxPlaces packet taken next e .whole-is)) ∙ e
 
 -- a first byte of neither direction is refused with 1, whatever follows it
 pub neither-refused : (c : Connection) (x : ℕ) (s : List ℕ) → eqb x (getD (leading Direction.ToServer) 0 0) ≡ false
