@@ -138,7 +138,7 @@ pub fn checking_in(words: &[u32]) -> Checking
     }
 }
 
-// The words of a check.
+// The words of a check. The connection's eight come first, in their order.
 fn checking_words(checking: Checking) -> [u32; CHECKING_SIZE]
     ensures { λ r. ⌜ r ≡ checkingWords checking ⌝ }
 {
