@@ -1,8 +1,8 @@
 -- What the laws of captures say.
 -- Assumes nothing.
 use mathlib.Core.Path.{_≡_}
-use mathlib.Core.List.{List, _++_}
-use Prim.Native.Nat.{ℕ, _≤_, _<_}
+use mathlib.Core.List.{List}
+use Prim.Native.Nat.{ℕ, _≤_}
 use lib.ListN.{length}
 use Rattle.wire.specs.Bytes.{part}
 use Rattle.wire.specs.Packet.{payloadPlace, maxPacket}

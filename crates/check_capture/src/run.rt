@@ -87,15 +87,22 @@ fn is_reading(stage: Stage) -> bool {
     }
 }
 
-// Reads once behind the bytes that are kept, and checks what is there then. Where there is no room a read would be taken for the end, so
-// that none is made.
+// Reads once behind the bytes that are kept, and checks what is there then. Where there is no room none is made: it would be taken for the
+// end.
 fn turn(file: i32, checking: Checking, kept: usize, window: &mut [u8]) -> Run
     requires { ⌜ (length (now window) ≡ windowSize) × (kept ≤ windowSize) ⌝ }
     ensures { λ r. ⌜ r .kept ≤ windowSize ⌝ }
     ensures { λ r. ⌜ length (now (window .exit)) ≡ windowSize ⌝ }
 {
+    if kept == WINDOW {
+        return Run {
+            checking,
+            kept,
+            stage: Stage::Failed,
+        };
+    }
     let more = more_at(file, kept, window);
-    if (more < 0) | (kept == WINDOW) {
+    if more < 0 {
         return Run {
             checking,
             kept,

@@ -2,13 +2,12 @@
 -- Assumes nothing.
 use mathlib.Core.Path.{_≡_, refl, sym, ap, _∙_, subst}
 use mathlib.Core.Bool.{Bool, true, false}
-use mathlib.Core.List.{List, [], _∷_, _++_}
-use Prim.Native.Nat.{ℕ, zero, suc, _+_, _-_, _≤_, _<_}
-use native.Mathlib.Nat.{zero-add, add-assoc}
+use mathlib.Core.List.{List, []}
+use Prim.Native.Nat.{ℕ, _+_, _-_, _≤_}
 use native.Mathlib.Omega.{arith}
 use borrow.Author.Tests.{le-leb, leb-true, eq-eqb, eqb-true}
 use lib.Dec.{leb, ltb, eqb}
-use lib.ListN.{length, take, drop, length-take, length-drop, drop-of-length-le}
+use lib.ListN.{length, drop, length-take, length-drop, drop-of-length-le}
 use lib.Seq.{take-all, drop-drop}
 use Rattle.wire.specs.Pick.{pick, both}
 use Rattle.wire.specs.Refusal.{none, unfinishedPacket, captureTooLong}
@@ -24,11 +23,10 @@ use Rattle.reader.specs.Reading.{contextOf}
 use Rattle.reading_laws.specs.Inside.{PacketInside}
 use Rattle.reading_laws.proofs.Acceptance.{accepted-is}
 use Rattle.reading_laws.proofs.Inside.{packet-inside}
-use Rattle.capture.specs.Course.{directionIn, firstIn, Seen, Course, stopped, before, courseThen, course, total, oneEach, sizeOf}
-use Rattle.capture.specs.Facts.{TakenInside, AtMostBytes}
+use Rattle.capture.specs.Course.{directionIn, firstIn, stopped, course, total, oneEach, sizeOf}
+use Rattle.capture.specs.Facts.{AtMostBytes}
 use Rattle.capture.proofs.Course.{taken-inside, taken-size, first-none, course-by}
 use Rattle.checking.specs.declared.Checking.{Checking}
-use Rattle.checking.specs.declared.Checked.{Checked}
 use Rattle.checking.specs.Checking.{maxCapture, requestsIn, bodyIn, requestsOf, bodyOf, verdict, verdictPlace, possible, goesOn, advanced, goneOn, finished}
 use Rattle.checking.specs.Private.{FiguresCount, PacketCounts, counted}
 

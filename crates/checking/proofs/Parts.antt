@@ -6,21 +6,20 @@ use mathlib.Core.List.{List, [], _∷_, _++_, append-assoc, append-nil}
 use Prim.Native.Nat.{ℕ, zero, suc, _+_, _-_, _≤_, _<_}
 use native.Mathlib.Nat.{zero-add}
 use native.Mathlib.Omega.{arith}
-use borrow.Author.Tests.{eq-eqb, eqb-true}
+use borrow.Author.Tests.{eqb-true}
 use lib.Dec.{eqb}
-use lib.ListN.{length, take, drop, length-take, length-drop}
+use lib.ListN.{length, take, drop, length-take}
 use lib.Seq.{take-nil, drop-nil, drop-append-le, drop-drop, take-all}
-use Rattle.wire.specs.Pick.{pick, both}
 use Rattle.wire.specs.Refusal.{none}
 use Rattle.wire.specs.Bytes.{part}
 use Rattle.wire.specs.Packet.{maxPacket}
 use Rattle.wire.proofs.Bytes.{length-part}
 use Rattle.connection.specs.Connection.{fresh}
 use Rattle.connection.specs.declared.Connection.{Connection}
-use Rattle.capture.specs.Course.{Seen, Course, stopped, allBefore, course, fed, joined, total, oneEach, sizeOf}
+use Rattle.capture.specs.Course.{Course, allBefore, course, fed, joined, total, oneEach, sizeOf}
 use Rattle.capture.proofs.Course.{appended, total-append, total-within, one-within, course-none, left-is, seen-inside, left-short}
 use Rattle.checking.specs.declared.Checking.{Checking}
-use Rattle.checking.specs.Checking.{maxCapture, requestsOf, bodyOf, checked, begun, possible, goesOn, advanced, goneOn, finished}
+use Rattle.checking.specs.Checking.{maxCapture, requestsOf, bodyOf, checked, begun, goesOn, advanced, goneOn, finished}
 use Rattle.checking.specs.Private.{FiguresCount}
 use Rattle.checking.specs.Parts.{Feeding, takenBy, fedPart, fedParts, feedingBegun}
 use Rattle.checking.proofs.Laws.{same-figures, advanced-none, goes-on-by, goes-on-where, gone-on-stays, requests-within, body-within}

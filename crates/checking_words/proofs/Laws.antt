@@ -3,29 +3,26 @@
 -- Assumes nothing.
 use native.Mathlib.Omega.{arith}
 use native.Mathlib.Numerals.{add-one}
-use borrow.Author.Tests.{eq-eqb, ne-eqb, eqb-true, eqb-false, le-leb, leb-true}
-use mathlib.Core.Path.{_≡_, refl, sym, ap, _∙_, subst}
+use borrow.Author.Tests.{eq-eqb, ne-eqb, eqb-true, eqb-false, le-leb}
+use mathlib.Core.Path.{_≡_, refl, sym, ap, _∙_}
 use mathlib.Core.Bool.{Bool, true, false}
-use mathlib.Core.List.{List, [], _∷_, _++_}
+use mathlib.Core.List.{List, [], _∷_}
 use Prim.Native.Nat.{ℕ, zero, suc, _+_, _≤_, _<_}
 use lib.Dec.{leb, eqb}
 use lib.ListN.{length, getD, take}
-use lib.Seq.{take-length, length-take-le}
+use lib.Seq.{length-take-le}
 use Rattle.wire.specs.Pick.{pick, both, either, oneOf}
-use Rattle.wire.specs.Refusal.{none, refusals, faults, isRefusal, isFault}
-use Rattle.wire.proofs.Tests.{both-first, both-second}
-use Rattle.connection.specs.declared.Connection.{Connection}
-use Rattle.building.specs.Fault.{unless, orElse}
+use Rattle.wire.specs.Refusal.{none, faults, isRefusal, isFault}
+use Rattle.building.specs.Fault.{unless}
 use Rattle.building.proofs.Sizes.{unless-none}
 use Rattle.checking.specs.declared.Checking.{Checking}
-use Rattle.checking.specs.Checking.{goneOn}
 use Rattle.checking.specs.Private.{FiguresCount}
 use Rattle.words.specs.Status as status
 use Rattle.words.specs.Number.{word, lastNumber}
-use Rattle.words.specs.ConnectionWords.{connectionSize, connectionFault, connectionIn, connectionWords}
+use Rattle.words.specs.ConnectionWords.{connectionSize, connectionFault, connectionWords}
 use Rattle.words.proofs.Records.{connection-back, connection-right}
 use Rattle.words.proofs.Errors.{unless-error, or-error}
-use Rattle.checking_words.specs.CheckingWords.{checkingSize, packetsPlace, requestsPlace, bodyPlace, placePlace, refusalPlace, areFigures, areKept, areChecking, checkingRoom, checkingFault, lastByte, byteIn, checkingIn, checkingWords, checkedSize, checkedFault, finishFault}
+use Rattle.checking_words.specs.CheckingWords.{checkingSize, refusalPlace, areFigures, areKept, areChecking, checkingRoom, checkingFault, lastByte, byteIn, checkingIn, checkingWords, checkedSize, checkedFault, finishFault}
 
 -- a number is the same as another either way round
 same-either-way : (a b : ℕ) → eqb a b ≡ eqb b a

@@ -30,7 +30,7 @@ use Rattle.checking.proofs.Laws.{verdict-by, verdict-place-by}
 use Rattle.two_ends_laws.specs.Ends.{PipePacket, Ends, pipeOf, senderOf, receiverOf, withSent, withRead, sentFrom, Delivery, allBytes, answerOf, afterAnswer}
 use Rattle.two_ends_laws.specs.Past.{World, start, Event, send, deliver, happen, run, deliverFrom}
 use Rattle.two_ends_laws.specs.Readable.{Readable}
-use Rattle.two_ends_laws.specs.Made.{packetBy, Made}
+use Rattle.two_ends_laws.specs.Made.{packetBy}
 use Rattle.two_ends_laws.proofs.Moves.{opposite}
 use Rattle.two_ends_laws.proofs.Sends.{send-made}
 use Rattle.two_ends_laws.proofs.Meeting.{Meeting, First, meeting-first, meeting-of}

@@ -1,6 +1,5 @@
 -- `checking_words::checking_in` meets its contract: each field is the one that its word says.
 -- Assumes nothing.
-use mathlib.Core.Path.{ap, _∙_}
 use Rattle.checking_words.specs.CheckingWords.{checkingIn}
 use Rattle.checking_words.proofs.Laws.{held-size}
 use borrow.Author.Needs.{needs}

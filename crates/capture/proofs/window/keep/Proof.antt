@@ -5,7 +5,6 @@ use native.Mathlib.Nat.{zero-add}
 use borrow.Author.Needs.{needs}
 use mathlib.Core.Path.{sym}
 use Prim.Native.Nat.{_-_}
-use lib.ListN.{length}
 use Rattle.wire.specs.Bytes.{part}
 use Rattle.wire.proofs.Bytes.{length-part}
 use Rattle.wire.proofs.Copying.{Copying, copying-start, copying-turn, copying-end}

@@ -1,7 +1,6 @@
 -- `Checking::go_on` meets its contract.
 -- Assumes nothing.
 use mathlib.Core.Path.{sym, _∙_}
-use mathlib.Core.Bool.{true, false}
 use borrow.Author.Tests.{not-true, not-false}
 use Rattle.checking.proofs.Laws.{goes-on-by, gone-on-stays, gone-on-is, room-is}
 use borrow.Author.Needs.{needs}

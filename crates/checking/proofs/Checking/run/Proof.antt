@@ -1,7 +1,7 @@
 -- `Checking::run` meets its contract. The invariant is `Running`.
 -- Assumes nothing.
 use native.Mathlib.Omega.{arith}
-use mathlib.Core.Path.{_≡_, sym, ap, _∙_}
+use mathlib.Core.Path.{_≡_}
 use Prim.Native.Nat.{_+_, _-_, _≤_}
 use lib.ListN.{length, drop}
 use Rattle.reader.specs.Meaning.{accepted}
