@@ -158,7 +158,7 @@ kept-back {c} {s} {buffer} {p} {m} kind r a in-state fits kept writes =
 -- back: a Forward that was read is written as its bytes
 pub forward-back : (f : Forward) → Back (Packet.Forward f)
 unfolding messageShown
-forward-back f d c s table bytes r a room buffer fits =
+forward-back f d c s table bytes r a room written buffer fits =
     own-way
     (λ q.
     let places = forward-table s table f (q .fields-are) in
@@ -171,7 +171,7 @@ forward-back f d c s table bytes r a room buffer fits =
 -- and so is a Send Headers
 pub send-headers-back : (h : SendHeaders) → Back (Packet.SendHeaders h)
 unfolding messageShown
-send-headers-back h d c s table bytes r a room buffer fits =
+send-headers-back h d c s table bytes r a room written buffer fits =
     own-way
     (λ q.
     let kept = send-headers-kept s h bytes q in

@@ -16,4 +16,5 @@ pub mod FieldsKept
 pub mod PiecesKept
 pub mod InPieces
 pub mod RoundTrips
+pub mod TwoForms
 pub mod Declared

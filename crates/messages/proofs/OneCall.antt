@@ -3,9 +3,9 @@
 -- the bytes that are written for the message that it shows.
 -- Assumes nothing.
 use native.Mathlib.Omega.{arith}
-use borrow.Author.Tests.{le-ltb, eq-eqb, ne-eqb, eqb-true, eqb-false}
+use borrow.Author.Tests.{le-ltb, eq-eqb, ne-eqb, eqb-true}
 use mathlib.Core.Path.{_≡_, refl, sym, ap, subst, _∙_}
-use mathlib.Core.Bool.{Bool, true, false}
+use mathlib.Core.Bool.{Bool, true, false, false≢true}
 use mathlib.Core.List.{List, [], _∷_, _++_}
 use Prim.Native.Nat.{ℕ, _+_, _≤_, _<_}
 use lib.Dec.{leb, eqb}
@@ -32,7 +32,7 @@ use Rattle.payload.specs.Kinds.{packetKind, packetMove}
 use Rattle.payload.specs.Packet.{partFrom}
 use Rattle.payload.specs.Code.{codeOf, kindAt}
 use Rattle.payload.specs.End.{endAt}
-use Rattle.payload.specs.Body.{bodyStart, bodyAt}
+use Rattle.payload.specs.Body.{bodyStart, bodyOfSize, bodyAt}
 use Rattle.payload.specs.BodyChunk.{chunkStart}
 use Rattle.packet.specs.declared.Part.{Part}
 use Rattle.packet.specs.declared.Packet.{Packet}
@@ -52,6 +52,7 @@ use Rattle.messages.specs.Message.{Message, cping, cpong, forward, body,
 use Rattle.messages.specs.Bytes.{payloadOf, messageBytes}
 use Rattle.messages.specs.Writing.{wrote, wroteBy, oneCall, writing}
 use Rattle.messages.specs.Shown.{messageShown}
+use Rattle.messages.specs.ReadOnly.{longEmpty, sameBytes, isReadOnly}
 use Rattle.messages.proofs.Frames.{frame-written, head-kept}
 use Rattle.messages.proofs.Parses.{isBody, Parses, parses-most, coded-parses, coded-kept}
 use Rattle.messages.proofs.Tables.{tableOf}
@@ -169,40 +170,50 @@ unfolding messageBytes
 chunk-stands bytes =
     part-middle (opening Kind.BodyChunk (length (payloadOf (bodyChunk bytes))) ++ integerBytes (length bytes)) bytes (0 ∷ [])
 
--- where the bytes of a body packet stand: behind the size, and behind the packet's head where there are none
-abbrev pub bodyPart : List ℕ → Part
-bodyPart bytes = pick (eqb (length bytes) 0) (partFrom payloadPlace 0) (partFrom bodyStart (length bytes))
-
--- a body packet with a size
-sized-fields : (bytes : List ℕ) → length bytes ≤ maxBody → eqb (length bytes) 0 ≡ false
-    → bodyAt (packet Direction.ToContainer (integerBytes (length bytes) ++ bytes)) ≡ PacketRead.Packet (Packet.Body (partFrom bodyStart (length bytes)))
-sized-fields bytes most some =
+-- a body packet with a size, which may be 0
+sized-fields : (bytes : List ℕ) → length bytes ≤ maxBody
+    → bodyAt (packet Direction.ToContainer (integerBytes (length bytes) ++ bytes)) ≡ PacketRead.Packet (Packet.Body (bodyOfSize (length bytes)))
+sized-fields bytes most =
     let n : ℕ = length bytes in
     let s : List ℕ = packet Direction.ToContainer (integerBytes n ++ bytes) in
-    body-is s false (NumberRead.Number n bodyStart) (ne-eqb (length s) payloadPlace (λ e. eqb-false n 0 some (omega arith)))
+    body-is s false (NumberRead.Number n bodyStart) (ne-eqb (length s) payloadPlace (λ e. omega (arith, e)))
     (integer-written (packetHead Direction.ToContainer (length (integerBytes n ++ bytes))) bytes n (omega arith))
-    ∙ sym (sized-by (length s) n false false false (le-ltb (length s) (bodyStart + n) (omega arith)) (le-ltb (bodyStart + n) (length s) (omega arith)) some)
+    ∙ sym (sized-by (length s) n false false (le-ltb (length s) (bodyStart + n) (omega arith)) (le-ltb (bodyStart + n) (length s) (omega arith)))
 
--- a body packet parses
-pub body-parses : (bytes : List ℕ) → length bytes ≤ maxBody → Parses Direction.ToContainer (messageBytes (body bytes)) (Packet.Body (bodyPart bytes))
-unfolding messageBytes kindAt
+-- it parses
+pub sized-parses : (bytes : List ℕ) → length bytes ≤ maxBody
+    → Parses Direction.ToContainer (packet Direction.ToContainer (integerBytes (length bytes) ++ bytes)) (Packet.Body (bodyOfSize (length bytes)))
+unfolding kindAt
+sized-parses bytes most = record {
+  way = refl;
+  whole-is = frame-written Direction.ToContainer (integerBytes (length bytes) ++ bytes) (omega arith);
+  kind-is = refl;
+  fields-are = sized-fields bytes most;
+}
+
+-- so does the one without a payload
+pub empty-parses : Parses Direction.ToContainer (packet Direction.ToContainer []) (Packet.Body (bodyOfSize 0))
+unfolding kindAt
+empty-parses = record {
+  way = refl;
+  whole-is = frame-written Direction.ToContainer [] (omega arith);
+  kind-is = refl;
+  fields-are = body-is (packet Direction.ToContainer []) true _ refl refl;
+}
+
+-- a body packet as it is written parses
+pub body-parses : (bytes : List ℕ) → length bytes ≤ maxBody
+    → Parses Direction.ToContainer (messageBytes (body bytes)) (Packet.Body (bodyOfSize (length bytes)))
+unfolding messageBytes
 body-parses bytes most = go (eqb (length bytes) 0) refl
   where
     go : (t : Bool) → eqb (length bytes) 0 ≡ t
         → Parses Direction.ToContainer (packet Direction.ToContainer (pick t [] (integerBytes (length bytes) ++ bytes)))
-        (Packet.Body (pick t (partFrom payloadPlace 0) (partFrom bodyStart (length bytes))))
-    go true e = record {
-      way = refl;
-      whole-is = frame-written Direction.ToContainer [] (omega arith);
-      kind-is = refl;
-      fields-are = body-is (packet Direction.ToContainer []) true _ refl refl;
-    }
-    go false e = record {
-      way = refl;
-      whole-is = frame-written Direction.ToContainer (integerBytes (length bytes) ++ bytes) (omega arith);
-      kind-is = refl;
-      fields-are = sized-fields bytes most e;
-    }
+        (Packet.Body (bodyOfSize (length bytes)))
+    go true e =
+        subst (λ (n : ℕ). Parses Direction.ToContainer (packet Direction.ToContainer []) (Packet.Body (bodyOfSize n)))
+        (sym (eqb-true (length bytes) 0 e)) empty-parses
+    go false e = sized-parses bytes most
 
 -- a list without elements
 none-there : (l : List ℕ) → length l ≡ 0 → l ≡ []
@@ -210,23 +221,16 @@ none-there [] e = refl
 none-there (x ∷ l) e = absurd (omega (arith, e))
 
 -- and its bytes stand there
-body-stands : (bytes : List ℕ) → part (messageBytes (body bytes)) (bodyPart bytes .start .0) (bodyPart bytes .len) ≡ bytes
+body-stands : (bytes : List ℕ) → part (messageBytes (body bytes)) (bodyOfSize (length bytes) .start .0) (length bytes) ≡ bytes
 unfolding messageBytes part
 body-stands bytes = go (eqb (length bytes) 0) refl
   where
     go : (t : Bool) → eqb (length bytes) 0 ≡ t
-        → (let p = pick t (partFrom payloadPlace 0) (partFrom bodyStart (length bytes)) in
-        part (packet Direction.ToContainer (pick t [] (integerBytes (length bytes) ++ bytes))) (p .start .0) (p .len) ≡ bytes)
-    go true e = sym (none-there bytes (eqb-true (length bytes) 0 e))
+        → part (packet Direction.ToContainer (pick t [] (integerBytes (length bytes) ++ bytes))) (pick t payloadPlace bodyStart) (length bytes) ≡ bytes
+    go true e =
+        subst (λ (l : List ℕ). part (packet Direction.ToContainer []) payloadPlace (length l) ≡ l)
+        (sym (none-there bytes (eqb-true (length bytes) 0 e))) refl
     go false e = take-length bytes
-
--- a body packet's part has as many bytes as were given
-pub body-long : (bytes : List ℕ) → bodyPart bytes .len ≡ length bytes
-body-long bytes = go (eqb (length bytes) 0) refl
-  where
-    go : (t : Bool) → eqb (length bytes) 0 ≡ t → pick t (partFrom payloadPlace 0) (partFrom bodyStart (length bytes)) .len ≡ length bytes
-    go true e = sym (eqb-true (length bytes) 0 e)
-    go false e = refl
 
 -- bytes whose body packet fits a packet's size
 body-most : (bytes : List ℕ) → length (messageBytes (body bytes)) ≤ maxPacket → length bytes ≤ maxBody
@@ -319,8 +323,8 @@ one-packet cpong one fit = record {
 }
 one-packet (forward request) one fit = absurd one
 one-packet (body bytes) one fit = record {
-  packet = Packet.Body (bodyPart bytes);
-  calls = body-calls bytes (bodyPart bytes) (sym (body-long bytes));
+  packet = Packet.Body (bodyOfSize (length bytes));
+  calls = body-calls bytes (bodyOfSize (length bytes)) refl;
   parses = λ h. body-parses bytes (body-most bytes h);
   shows = record { asks = refl; shown = λ table. ap body (body-stands bytes) };
 }
@@ -364,42 +368,73 @@ one-forth m one c buffer w left fit e =
     let k = one-packet m one fit in
     stands-back (one-stands k (one-written c (packetMove (k .packet)) (payloadOf m) buffer w left (sym (k .calls .call-is c buffer) ∙ e)))
 
--- what a body packet was read from: nothing behind the packet's head, or a size and so many bytes
-pub data BodyRead (s : List ℕ) : Part → Type 0 where
-  empty : length s ≡ payloadPlace → BodyRead s (partFrom payloadPlace 0)
-  sized : (n : ℕ) → integerIn s payloadPlace ≡ n → eqb n 0 ≡ false → length s ≡ bodyStart + n → BodyRead s (partFrom bodyStart n)
+-- bytes are the same as themselves
+same-self : (s : List ℕ) → sameBytes s s ≡ true
+unfolding sameBytes
+same-self [] = refl
+same-self (x ∷ xs) = rw (eq-eqb x x refl) (same-self xs)
 
--- so many bytes behind the number that says so
-abbrev partRead : NumberRead → Part
-partRead (NumberRead.Refused n) = partFrom 0 0
-partRead (NumberRead.Number len start) = partFrom start len
+-- what a body packet was read from: nothing behind the packet's head, or a size and so many bytes, which may be none
+pub data BodyRead (s : List ℕ) : Part → Type 0 where
+  empty : length s ≡ payloadPlace → BodyRead s (bodyOfSize 0)
+  sized : (n : ℕ) → integerIn s payloadPlace ≡ n → length s ≡ bodyStart + n → BodyRead s (bodyOfSize n)
+
+-- a part, by its start and its length
+part-same : (p : Part) (start len : ℕ) → p .start .0 ≡ start → p .len ≡ len → partFrom start len ≡ p
+part-same p start len e f = rw (← e, ← f)
 
 -- a body packet was read from one of the two
 pub body-read : (s : List ℕ) (p : Part) → bodyAt s ≡ PacketRead.Packet (Packet.Body p) → BodyRead s p
 unfolding integerAt
-body-read s p e = let h = body-handed s p e in go (eqb (length s) payloadPlace) (leb bodyStart (length s)) refl (h .size-read) (h .empty) (h .rest)
+body-read s p e =
+    let h = body-handed s p e in
+    go (eqb (length s) payloadPlace) (leb bodyStart (length s)) (h .behind) refl (h .size-read) (h .rest) (h .start-is)
   where
-    go : (t u : Bool) → eqb (length s) payloadPlace ≡ t
+    go : (t u : Bool) (behind : ℕ) → eqb (length s) payloadPlace ≡ t
         → pick t (NumberRead.Number 0 payloadPlace) (pick u (NumberRead.Number (integerIn s payloadPlace) bodyStart) (NumberRead.Refused cutShort))
-        ≡ NumberRead.Number (p .len) (p .start .0)
-        → eqb (p .len) 0 ≡ t → p .start .0 + p .len ≡ length s → BodyRead s p
-    go true u none read no-bytes all = subst (BodyRead s) (ap partRead read) (empty (eqb-true (length s) payloadPlace none))
-    go false true some read bytes all =
-        let many : integerIn s payloadPlace ≡ p .len = cc in
-        let starts : bodyStart ≡ p .start .0 = cc in
-        subst (BodyRead s) (ap partRead read)
-        (sized (integerIn s payloadPlace) refl (ap (λ (n : ℕ). eqb n 0) many ∙ bytes) (omega (arith, many, starts, all)))
-    go false false some read bytes all = absurd (let z : _≡_ {A = ℕ} 0 1 = cc in omega arith)
+        ≡ NumberRead.Number (p .len) behind
+        → behind + p .len ≡ length s → p .start .0 ≡ pick (eqb (p .len) 0) payloadPlace behind → BodyRead s p
+    go true u behind none read all starts =
+        let long : p .len ≡ 0 = cc in
+        let first : p .start .0 ≡ payloadPlace = starts ∙ ap (λ (n : ℕ). pick (eqb n 0) payloadPlace behind) long in
+        subst (BodyRead s) (part-same p payloadPlace 0 first long) (empty (eqb-true (length s) payloadPlace none))
+    go false true behind some read all starts =
+        let long : p .len ≡ integerIn s payloadPlace = cc in
+        let place : behind ≡ bodyStart = cc in
+        let first : p .start .0 ≡ pick (eqb (integerIn s payloadPlace) 0) payloadPlace bodyStart = starts ∙ rw (long, place) in
+        subst (BodyRead s) (part-same p (pick (eqb (integerIn s payloadPlace) 0) payloadPlace bodyStart) (integerIn s payloadPlace) first long)
+        (sized (integerIn s payloadPlace) refl (omega (arith, long, place, all)))
+    go false false behind some read all starts = absurd (let z : _≡_ {A = ℕ} 0 1 = cc in omega arith)
 
--- the payload of a body packet is that of its bytes
-body-payload : {s : List ℕ} {p : Part} → Bytes s → BodyRead s p
-    → (drop payloadPlace s ≡ bodyPayload (part s (p .start .0) (p .len))) × (length (part s (p .start .0) (p .len)) ≡ p .len)
-body-payload {s} bytes (empty e) = rw (part-zero s payloadPlace) (rest-part s payloadPlace 0 (omega (arith, e)) ∙ part-zero s payloadPlace, refl)
-body-payload {s} bytes (sized n e some size) =
-    let long : length (part s bodyStart n) ≡ n = length-part s bodyStart n (omega (arith, size)) in
-    let behind : drop payloadPlace s ≡ integerBytes n ++ part s bodyStart n =
-    rest-part s payloadPlace (2 + n) (omega (arith, size)) ∙ part-add s payloadPlace 2 n ∙ rw (integer-kept s payloadPlace bytes (omega (arith, size)), e) in
-    (behind ∙ rw (long, some), long)
+-- behind its head such a packet has nothing, or the size and the bytes
+sized-payload : (s : List ℕ) (n : ℕ) → Bytes s → integerIn s payloadPlace ≡ n → length s ≡ bodyStart + n
+    → drop payloadPlace s ≡ integerBytes n ++ part s bodyStart n
+sized-payload s n bytes e size =
+    rest-part s payloadPlace (2 + n) (omega (arith, size)) ∙ part-add s payloadPlace 2 n
+    ∙ rw (integer-kept s payloadPlace bytes (omega (arith, size)), e)
+
+-- the long form of an empty body packet is a size of 0 and nothing behind it
+long-is : (s : List ℕ) → Bytes s → s ≡ packet Direction.ToContainer (drop payloadPlace s) → integerIn s payloadPlace ≡ 0
+    → length s ≡ bodyStart → s ≡ longEmpty
+long-is s bytes head e size =
+    head ∙ ap (packet Direction.ToContainer) (sized-payload s 0 bytes e size ∙ ap (λ (l : List ℕ). integerBytes 0 ++ l) (part-zero s bodyStart))
+
+-- the payload of a body packet is that of its bytes, unless it is the long form of an empty one
+body-payload : {s : List ℕ} {p : Part} → Bytes s → s ≡ packet Direction.ToContainer (drop payloadPlace s) → sameBytes s longEmpty ≡ false
+    → BodyRead s p → (drop payloadPlace s ≡ bodyPayload (part s (p .start .0) (p .len))) × (length (part s (p .start .0) (p .len)) ≡ p .len)
+body-payload {s} bytes head other (empty e) =
+    rw (part-zero s payloadPlace) (rest-part s payloadPlace 0 (omega (arith, e)) ∙ part-zero s payloadPlace, refl)
+body-payload {s} bytes head other (sized n e size) = go (eqb n 0) refl
+  where
+    go : (t : Bool) → eqb n 0 ≡ t
+        → (drop payloadPlace s ≡ bodyPayload (part s (pick t payloadPlace bodyStart) n)) × (length (part s (pick t payloadPlace bodyStart) n) ≡ n)
+    go true none =
+        let zero : n ≡ 0 = eqb-true n 0 none in
+        let same : s ≡ longEmpty = long-is s bytes head (e ∙ zero) (omega (arith, size, zero)) in
+        absurd (false≢true (sym other ∙ ap (λ (l : List ℕ). sameBytes l longEmpty) same ∙ same-self longEmpty))
+    go false some =
+        let long : length (part s bodyStart n) ≡ n = length-part s bodyStart n (omega (arith, size)) in
+        (sized-payload s n bytes e size ∙ rw (long, some), long)
 
 -- a packet with a code, and these bytes behind it
 behind-kept : {d : Direction} {s : List ℕ} {p : Packet} → Parses d s p → isBody (packetKind p) ≡ false → Bytes s
@@ -452,17 +487,19 @@ module _ {d : Direction} {s : List ℕ} (bytes : Bytes s) where
       rw size (held-join (integer-held s afterCodePlace n start bytes (h .size-read) .0) own) in
       (behind-kept r refl bytes _ behind, size)
 
-  -- of a body packet
-  body-kept : (p : Part) → Parses d s (Packet.Body p)
+  -- a body packet is its head and its payload
+  body-head : (p : Part) → Parses d s (Packet.Body p) → s ≡ packet Direction.ToContainer (drop payloadPlace s)
+  body-head p r =
+      head-kept d s (length s) bytes (r .whole-is) refl ∙ ap (λ (way : Direction). packet way (drop payloadPlace s)) (sym (r .way))
+
+  -- of a body packet other than the long form of an empty one
+  body-kept : (p : Part) → Parses d s (Packet.Body p) → sameBytes s longEmpty ≡ false
       → (s ≡ messageBytes (body (part s (p .start .0) (p .len)))) × (length (part s (p .start .0) (p .len)) ≡ p .len)
   unfolding messageBytes
-  body-kept p r =
-      let f = body-payload bytes (body-read s p (r .fields-are)) in (
-        head-kept d s (length s) bytes (r .whole-is) refl
-            ∙ ap (λ (way : Direction). packet way (drop payloadPlace s)) (sym (r .way))
-            ∙ ap (packet Direction.ToContainer) (f .0),
-        f .1,
-      )
+  body-kept p r other =
+      let head = body-head p r in
+      let f = body-payload bytes head other (body-read s p (r .fields-are)) in
+      (head ∙ ap (packet Direction.ToContainer) (f .0), f .1)
 
 -- a packet of such a kind as a message: it has the message's bytes, and its call writes it
 record OneShown (d : Direction) (s : List ℕ) (p : Packet) (m : Message) : Type 0 where
@@ -471,30 +508,30 @@ record OneShown (d : Direction) (s : List ℕ) (p : Packet) (m : Message) : Type
   pub fit : Fit m
   pub way : messageDirection m ≡ d
 
--- each such packet shows such a message
+-- each such packet that is not only read shows such a message
 one-shown : (d : Direction) (s table : List ℕ) (p : Packet) → IsOne (packetKind p) → Bytes s → Parses d s p
-    → OneShown d s p (messageShown p s table)
+    → isReadOnly (messageShown p s table) s ≡ false → OneShown d s p (messageShown p s table)
 unfolding messageShown
-one-shown d s table Packet.CPing one bytes r = record { calls = cping-calls; kept = cping-kept bytes r; fit = tt; way = r .way }
-one-shown d s table Packet.CPong one bytes r = record { calls = cpong-calls; kept = cpong-kept bytes r; fit = tt; way = r .way }
-one-shown d s table (Packet.Forward f) one bytes r = absurd one
-one-shown d s table (Packet.Body p) one bytes r =
-    let k = body-kept bytes p r in
+one-shown d s table Packet.CPing one bytes r written = record { calls = cping-calls; kept = cping-kept bytes r; fit = tt; way = r .way }
+one-shown d s table Packet.CPong one bytes r written = record { calls = cpong-calls; kept = cpong-kept bytes r; fit = tt; way = r .way }
+one-shown d s table (Packet.Forward f) one bytes r written = absurd one
+one-shown d s table (Packet.Body p) one bytes r written =
+    let k = body-kept bytes p r written in
     record { calls = body-calls (part s (p .start .0) (p .len)) p (k .1); kept = k .0; fit = tt; way = r .way }
-one-shown d s table (Packet.GetBody asked) one bytes r =
+one-shown d s table (Packet.GetBody asked) one bytes r written =
     let k = get-kept bytes asked r in
     record { calls = get-calls asked; kept = k .0; fit = k .1; way = r .way }
-one-shown d s table (Packet.SendHeaders h) one bytes r = absurd one
-one-shown d s table (Packet.BodyChunk p) one bytes r =
+one-shown d s table (Packet.SendHeaders h) one bytes r written = absurd one
+one-shown d s table (Packet.BodyChunk p) one bytes r written =
     let k = chunk-kept bytes p r in
     record { calls = chunk-calls (part s (p .start .0) (p .len)) p (k .1); kept = k .0; fit = tt; way = r .way }
-one-shown d s table (Packet.End reuse) one bytes r = record { calls = end-calls reuse; kept = end-kept bytes reuse r; fit = tt; way = r .way }
+one-shown d s table (Packet.End reuse) one bytes r written = record { calls = end-calls reuse; kept = end-kept bytes reuse r; fit = tt; way = r .way }
 
 -- a packet that one call writes, once read, is written back
 pub one-back : (p : Packet) → IsOne (packetKind p) → Back p
-one-back p one d c s table bytes r a places buffer room =
+one-back p one d c s table bytes r a places written buffer room =
     let m : Message = messageShown p s (tableOf p s table) in
-    let k = one-shown d s (tableOf p s table) p one bytes r in
+    let k = one-shown d s (tableOf p s table) p one bytes r written in
     let same : packetOf (packetMove p) (payloadOf m) ≡ s = k .calls .bytes-are ∙ sym (k .kept) in
     let most : length (packetOf (packetMove p) (payloadOf m)) ≤ maxPacket = rw same (parses-most r) in
     let fits : length (packetOf (packetMove p) (payloadOf m)) ≤ length buffer = rw same room in

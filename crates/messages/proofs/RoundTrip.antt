@@ -3,7 +3,7 @@
 -- Assumes nothing.
 use native.Mathlib.Omega.{arith}
 use mathlib.Core.Path.{_≡_, sym, ap, subst}
-use mathlib.Core.Bool.{true}
+use mathlib.Core.Bool.{true, false}
 use mathlib.Core.List.{List, _++_}
 use Prim.Native.Nat.{ℕ, _≤_}
 use lib.ListN.{length}
@@ -24,6 +24,7 @@ use Rattle.reading_laws.proofs.Acceptance.{accepted-is}
 use Rattle.messages.specs.Message.{Message, messageDirection, placesFor, Fit}
 use Rattle.messages.specs.Writing.{unwritten, wrote, wroteBy, writing}
 use Rattle.messages.specs.Shown.{messageShown}
+use Rattle.messages.specs.ReadOnly.{isReadOnly}
 use Rattle.messages.specs.RoundTrips.{ReadBack, WrittenBack}
 use Rattle.messages.proofs.Parses.{Parses, parses-accepted, accepted-parses}
 use Rattle.messages.proofs.Tables.{tableOf, table-filled}
@@ -34,10 +35,11 @@ Forth m = (c : Connection) (buffer : List ℕ) (w : Written) (left : List ℕ) �
     → (rest table : List ℕ) → placesFor m ≤ length table
     → ReadBack (messageDirection m) c (part left 0 (w .size) ++ rest) table m (w .size) (w .connection)
 
--- a packet is written again as its bytes: the message that it shows, by each connection that allows its move
+-- a packet that is not only read is written again as its bytes: the message that it shows, by each connection that allows its move
 abbrev pub Back : Packet → Type 0
 Back p = (d : Direction) (c : Connection) (s table : List ℕ) → Bytes s → Parses d s p → allowed c (packetMove p) ≡ true
-    → placesNeeded p ≤ length table → (buffer : List ℕ) → length s ≤ length buffer
+    → placesNeeded p ≤ length table → isReadOnly (messageShown p s (tableOf p s table)) s ≡ false
+    → (buffer : List ℕ) → length s ≤ length buffer
     → WrittenBack d c s buffer (messageShown p s (tableOf p s table)) (length s) (after c (packetMove p))
 
 -- a packet that parses is read back, whatever stands behind it, as the message that it shows
@@ -93,15 +95,16 @@ pub own-way : {p : Packet} {c : Connection} {s buffer : List ℕ} {m : Message} 
 own-way {p} {c} {s} {buffer} {m} {n} {next} back r =
     subst (λ (x : Direction). Parses x s p → WrittenBack x c s buffer m n next) (r .way) back r
 
--- where every packet is written back, so is every one that is accepted
+-- where every packet that is not only read is written back, so is every such one that is accepted
 pub back-by : ((p : Packet) → Back p) → (d : Direction) (c : Connection) (s table : List ℕ) (p : Packet) (n : ℕ) (next : Connection) → Bytes s
-    → reading d c s (length table) ≡ accepted p n next → (buffer : List ℕ) → n ≤ length buffer
+    → reading d c s (length table) ≡ accepted p n next → isReadOnly (messageShown p (part s 0 n) (tableAfter d c s table)) (part s 0 n) ≡ false
+    → (buffer : List ℕ) → n ≤ length buffer
     → WrittenBack d c (part s 0 n) buffer (messageShown p (part s 0 n) (tableAfter d c s table)) n next
-back-by each d c s table p n next bytes e buffer h =
+back-by each d c s table p n next bytes e written buffer h =
     let a = accepted-parses d c s (length table) p n next e in
     let own : List ℕ = part s 0 n in
     let room : placesNeeded p ≤ length table = accepted-is d c s (length table) p n next e .has-room in
     let shows : messageShown p own (tableOf p own table) ≡ messageShown p own (tableAfter d c s table) =
     ap (messageShown p own) (sym (table-filled d c s table p n next e)) in
     rw (shows, ← a .size, ← a .steps) at
-    (each p d c own table (bytes-part s 0 n bytes) (a .parses) (a .allows) room buffer (rw (← a .size) h))
+    (each p d c own table (bytes-part s 0 n bytes) (a .parses) (a .allows) room (rw shows written) buffer (rw (← a .size) h))

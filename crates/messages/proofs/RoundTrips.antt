@@ -1,8 +1,9 @@
 -- Demand 2's round trips, for every message and every packet: what is written for a message are the bytes that document 01 gives it; reading
--- them from an equal connection gives the message; and writing a message that was read gives its packet, byte for byte. Each kind has shown
--- its part (`OneCall`, `InPieces`).
+-- them from an equal connection gives the message; and writing a message that was read gives its packet, byte for byte, unless the packet is
+-- one that is read and not written. Each kind has shown its part (`OneCall`, `InPieces`); `TwoForms` has what is written for the others.
 -- Assumes nothing.
 use mathlib.Core.Path.{_≡_, sym, ap, _∙_}
+use mathlib.Core.Bool.{false}
 use mathlib.Core.List.{List, _++_}
 use Prim.Native.Nat.{ℕ, _≤_}
 use lib.ListN.{length}
@@ -19,6 +20,7 @@ use Rattle.messages.specs.Message.{Message, messageKind, cping, cpong, f
 use Rattle.messages.specs.Bytes.{payloadOf}
 use Rattle.messages.specs.Writing.{wrote, writing}
 use Rattle.messages.specs.Shown.{messageShown}
+use Rattle.messages.specs.ReadOnly.{isReadOnly}
 use Rattle.messages.specs.RoundTrips.{WrittenBytes, ReadBack, WrittenBack}
 use Rattle.messages.proofs.RoundTrip.{Forth, Back, back-by}
 use Rattle.messages.proofs.OneCall.{IsOne, one-packet, one-written, one-forth, one-back}
@@ -82,9 +84,10 @@ back (Packet.SendHeaders h) = send-headers-back h
 back (Packet.BodyChunk p) = one-back (Packet.BodyChunk p) tt
 back (Packet.End reuse) = one-back (Packet.End reuse) tt
 
--- writing a message that was read, from an equal connection and into a buffer that is long enough: it is written, the packet's bytes stand
--- from the buffer's first place on and all else is as it was, and the connection after it is the reader's
+-- writing a message that was read from a packet that is not only read, from an equal connection and into a buffer that is long enough: it is
+-- written, the packet's bytes stand from the buffer's first place on and all else is as it was, and the connection after it is the reader's
 pub read-writes : (d : Direction) (c : Connection) (s table : List ℕ) (p : Packet) (n : ℕ) (next : Connection) → Bytes s
-    → reading d c s (length table) ≡ accepted p n next → (buffer : List ℕ) → n ≤ length buffer
+    → reading d c s (length table) ≡ accepted p n next → isReadOnly (messageShown p (part s 0 n) (tableAfter d c s table)) (part s 0 n) ≡ false
+    → (buffer : List ℕ) → n ≤ length buffer
     → WrittenBack d c (part s 0 n) buffer (messageShown p (part s 0 n) (tableAfter d c s table)) n next
 read-writes = back-by back

@@ -11,7 +11,7 @@ use borrow.Author.Tests.{leb-true, ltb-false, eqb-true}
 use lib.Dec.{leb, ltb, eqb}
 use lib.ListN.{length, getD, length-append}
 use Rattle.wire.specs.Pick.{pick, oneOf, between}
-use Rattle.wire.specs.Refusal.{none, outOfRange, cutShort, stringWrong, tooMany, leftOver, bodySizeWrong}
+use Rattle.wire.specs.Refusal.{none, outOfRange, cutShort, stringWrong, tooMany, leftOver}
 use Rattle.wire.specs.Bytes.{part}
 use Rattle.wire.specs.Field.{byteAt, integerAt, booleanAt, stringAt, isOptional, booleanNumber}
 use Rattle.packet.specs.declared.Direction.{Direction}
@@ -50,7 +50,7 @@ use Rattle.payload.specs.Facts.{ForwardPlaces, SendHeadersPlaces}
 use Rattle.payload.specs.Packet.{partFrom, finished}
 use Rattle.payload.specs.End.{endOf, endAt}
 use Rattle.payload.specs.GetBody.{getOf, getAt}
-use Rattle.payload.specs.Body.{bodyStart, sizedAt, sizedOf, bodyAt}
+use Rattle.payload.specs.Body.{bodyStart, bodyOfSize, sizedAt, sizedOf, bodyAt}
 use Rattle.payload.specs.BodyChunk.{chunkStart, chunkOf, chunkBy, chunkAt}
 use Rattle.payload.specs.Lists.{headersAfter, listsOf, attributesBehind, behindHeaders, listsAt}
 use Rattle.payload.specs.Forward.{firstMethod, lastMethod, forwardReads, forwardOf, forwardAt}
@@ -586,21 +586,19 @@ pub body-handed : (s : List ℕ) (p : Part) → bodyAt s ≡ PacketRead.Packet (
 unfolding bodyAt sizedAt
 body-handed s p = by-length (eqb (length s) payloadPlace) refl
   where
-    by-tests : (len : ℕ) → eqb (length s) payloadPlace ≡ false → integerAt s payloadPlace ≡ NumberRead.Number len bodyStart → (a b c : Bool)
-        → ltb (length s) (bodyStart + len) ≡ a → ltb (bodyStart + len) (length s) ≡ b → eqb len 0 ≡ c
-        → pick a (PacketRead.Refused cutShort)
-        (pick b (PacketRead.Refused leftOver)
-        (pick c (PacketRead.Refused bodySizeWrong) (PacketRead.Packet (Packet.Body (partFrom bodyStart len)))))
+    by-tests : (len : ℕ) → eqb (length s) payloadPlace ≡ false → integerAt s payloadPlace ≡ NumberRead.Number len bodyStart → (a b : Bool)
+        → ltb (length s) (bodyStart + len) ≡ a → ltb (bodyStart + len) (length s) ≡ b
+        → pick a (PacketRead.Refused cutShort) (pick b (PacketRead.Refused leftOver) (PacketRead.Packet (Packet.Body (bodyOfSize len))))
         ≡ PacketRead.Packet (Packet.Body p) → BodyHanded s p []
-    by-tests len some f true b c x y z q = let z : _≡_ {A = ℕ} 0 1 = cc in absurd (omega arith)
-    by-tests len some f false true c x y z q = let z : _≡_ {A = ℕ} 0 1 = cc in absurd (omega arith)
-    by-tests len some f false false true x y z q = let z : _≡_ {A = ℕ} 0 1 = cc in absurd (omega arith)
-    by-tests len some f false false false x y z q =
-        subst (λ (p : Part). BodyHanded s p []) (body-same (partFrom bodyStart len) p q)
+    by-tests len some f true b x y q = let z : _≡_ {A = ℕ} 0 1 = cc in absurd (omega arith)
+    by-tests len some f false true x y q = let z : _≡_ {A = ℕ} 0 1 = cc in absurd (omega arith)
+    by-tests len some f false false x y q =
+        subst (λ (p : Part). BodyHanded s p []) (body-same (bodyOfSize len) p q)
         (record {
+          behind = bodyStart;
           size-read = rw some f;
           rest = omega (arith, ltb-false (length s) (bodyStart + len) x, ltb-false (bodyStart + len) (length s) y);
-          empty = z ∙ sym some;
+          start-is = refl;
           no-places = refl;
         })
 
@@ -609,15 +607,37 @@ body-handed s p = by-length (eqb (length s) payloadPlace) refl
     by-size some (NumberRead.Refused n) f q = let z : _≡_ {A = ℕ} 0 1 = cc in absurd (omega arith)
     by-size some (NumberRead.Number len next) f q =
         by-tests len some (f ∙ ap (NumberRead.Number len) (integer-inside s payloadPlace (NumberRead.Number len next) f .0))
-        (ltb (length s) (bodyStart + len)) (ltb (bodyStart + len) (length s)) (eqb len 0) refl refl refl q
+        (ltb (length s) (bodyStart + len)) (ltb (bodyStart + len) (length s)) refl refl q
 
     by-length : (t : Bool) → eqb (length s) payloadPlace ≡ t
-        → pick t (PacketRead.Packet (Packet.Body (partFrom payloadPlace 0))) (sizedOf (length s) (integerAt s payloadPlace))
+        → pick t (PacketRead.Packet (Packet.Body (bodyOfSize 0))) (sizedOf (length s) (integerAt s payloadPlace))
         ≡ PacketRead.Packet (Packet.Body p) → BodyHanded s p []
     by-length true none q =
-        subst (λ (p : Part). BodyHanded s p []) (body-same (partFrom payloadPlace 0) p q)
-        (record { size-read = rw none; rest = sym (eqb-true (length s) payloadPlace none); empty = sym none; no-places = refl })
+        subst (λ (p : Part). BodyHanded s p []) (body-same (bodyOfSize 0) p q)
+        (record {
+          behind = payloadPlace;
+          size-read = rw none;
+          rest = sym (eqb-true (length s) payloadPlace none);
+          start-is = refl;
+          no-places = refl;
+        })
     by-length false some q = by-size some (integerAt s payloadPlace) refl q
+
+-- a body packet that is read has its part inside it
+pub body-inside : (s : List ℕ) (p : Part) → bodyAt s ≡ PacketRead.Packet (Packet.Body p) → p .start .0 + p .len ≤ length s
+body-inside s p e = let h = body-handed s p e in go h (eqb (length s) payloadPlace) refl (eqb (p .len) 0) refl (h .size-read) (h .start-is)
+  where
+    -- the size ends behind the payload's place, if not there
+    far : (t : Bool) (behind : ℕ) → pick t (NumberRead.Number 0 payloadPlace) (integerAt s payloadPlace) ≡ NumberRead.Number (p .len) behind
+        → payloadPlace ≤ behind
+    far true behind q = let z : payloadPlace ≡ behind = cc in omega (arith, z)
+    far false behind q = omega (arith, integer-inside s payloadPlace (NumberRead.Number (p .len) behind) q .0)
+
+    go : (h : BodyHanded s p []) (t : Bool) → eqb (length s) payloadPlace ≡ t → (none : Bool) → eqb (p .len) 0 ≡ none
+        → pick t (NumberRead.Number 0 payloadPlace) (integerAt s payloadPlace) ≡ NumberRead.Number (p .len) (h .behind)
+        → p .start .0 ≡ pick none payloadPlace (h .behind) → p .start .0 + p .len ≤ length s
+    go h t u true n q starts = omega (arith, eqb-true (p .len) 0 n, starts, far t (h .behind) q, h .rest)
+    go h t u false n q starts = omega (arith, starts, h .rest)
 
 -- a chunk
 pub chunk-handed : (s : List ℕ) (p : Part) → chunkAt s ≡ PacketRead.Packet (Packet.BodyChunk p) → ChunkHanded s p []

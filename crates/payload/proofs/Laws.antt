@@ -9,7 +9,7 @@ use borrow.Author.Tests.{le-leb, lt-leb, ne-eqb}
 use lib.Dec.{leb, ltb, eqb}
 use lib.ListN.{length, getD}
 use Rattle.wire.specs.Pick.{pick, both, either}
-use Rattle.wire.specs.Refusal.{cutShort, codeWrong, codeNotServed, stringWrong, leftOver, bodySizeWrong}
+use Rattle.wire.specs.Refusal.{cutShort, codeWrong, codeNotServed, stringWrong, leftOver}
 use Rattle.wire.specs.Field.{byteAt, integerAt, booleanAt, stringAt, isOptional}
 use Rattle.packet.specs.declared.Direction.{Direction}
 use Rattle.wire.specs.declared.StringField.{StringField}
@@ -28,7 +28,7 @@ use Rattle.payload.specs.Sequence.{numberAsField, anyIntegerAfter, bound
 use Rattle.payload.specs.Packet.{partFrom, finished}
 use Rattle.payload.specs.End.{endOf, endAt}
 use Rattle.payload.specs.GetBody.{getOf, getAt}
-use Rattle.payload.specs.Body.{bodyStart, sizedAt, sizedOf, bodyAt}
+use Rattle.payload.specs.Body.{bodyStart, bodyOfSize, sizedAt, sizedOf, bodyAt}
 use Rattle.payload.specs.BodyChunk.{chunkStart, chunkOf, chunkBy, chunkAt}
 use Rattle.wire.specs.Packet.{payloadPlace, codePlace, afterCodePlace}
 
@@ -92,18 +92,20 @@ chunk-is s r e = ap (chunkBy s) e
 
 -- a body packet, by whether anything follows its length and by what its size reads as
 pub body-is : (s : List ℕ) (t : Bool) (r : NumberRead) → eqb (length s) payloadPlace ≡ t → integerAt s payloadPlace ≡ r
-    → bodyAt s ≡ pick t (PacketRead.Packet (Packet.Body (partFrom payloadPlace 0))) (sizedOf (length s) r)
+    → bodyAt s ≡ pick t (PacketRead.Packet (Packet.Body (bodyOfSize 0))) (sizedOf (length s) r)
 unfolding bodyAt
 body-is s t r p q = rw (p, q)
 
--- a body packet that tells its size, by its three tests; a return that does not reach a test says `refl`
-pub sized-by : (size len : ℕ) (a b c : Bool) → ltb size (bodyStart + len) ≡ a → ltb (bodyStart + len) size ≡ b → eqb len 0 ≡ c
-    → pick a (PacketRead.Refused cutShort)
-    (pick b (PacketRead.Refused leftOver)
-    (pick c (PacketRead.Refused bodySizeWrong) (PacketRead.Packet (Packet.Body (partFrom bodyStart len)))))
+-- the part of a body packet, by whether it has bytes of body
+pub of-size-by : (len : ℕ) (t : Bool) → eqb len 0 ≡ t → partFrom (pick t payloadPlace bodyStart) len ≡ bodyOfSize len
+of-size-by len t p = rw p
+
+-- a body packet that tells its size, by its two tests; a return that does not reach a test says `refl`
+pub sized-by : (size len : ℕ) (a b : Bool) → ltb size (bodyStart + len) ≡ a → ltb (bodyStart + len) size ≡ b
+    → pick a (PacketRead.Refused cutShort) (pick b (PacketRead.Refused leftOver) (PacketRead.Packet (Packet.Body (bodyOfSize len))))
     ≡ sizedAt size len
 unfolding sizedAt
-sized-by size len a b c p q r = rw (p, q, r)
+sized-by size len a b p q = rw (p, q)
 
 -- the outcomes of a chunk's bytes
 module _ (s : List ℕ) (len : ℕ) where

@@ -7,7 +7,7 @@ use Prim.Native.Nat.{ℕ, _+_}
 use lib.Dec.{leb, ltb, eqb}
 use lib.ListN.{length, getD}
 use Rattle.wire.specs.Pick.{pick}
-use Rattle.wire.specs.Refusal.{leftOver, cutShort, stringWrong, bodySizeWrong}
+use Rattle.wire.specs.Refusal.{leftOver, cutShort, stringWrong}
 use Rattle.wire.specs.Field.{integerAt, booleanAt}
 use Rattle.wire.specs.Packet.{payloadPlace, afterCodePlace}
 use Rattle.packet.specs.declared.Direction.{Direction}
@@ -23,7 +23,7 @@ use Rattle.payload.specs.declared.found.PacketRead.{PacketRead}
 use Rattle.payload.specs.Packet.{partFrom, finished}
 use Rattle.payload.specs.End.{endOf, endAt}
 use Rattle.payload.specs.GetBody.{getOf, getAt}
-use Rattle.payload.specs.Body.{bodyStart, sizedAt, sizedOf, bodyAt}
+use Rattle.payload.specs.Body.{bodyStart, bodyOfSize, sizedAt, sizedOf, bodyAt}
 use Rattle.payload.specs.BodyChunk.{chunkStart, chunkOf, chunkBy, chunkAt}
 use Rattle.payload.specs.Lists.{headersAfter, listsAt}
 use Rattle.payload.specs.Forward.{ForwardReads, forwardReads, forwardOf, forwardAt}
@@ -64,16 +64,13 @@ get-kind s = go (integerAt s afterCodePlace)
 -- what is read as a body packet with a size is a body packet
 sized-kind : (size len : ℕ) → KindIs Kind.Body (sizedAt size len)
 unfolding sizedAt
-sized-kind size len = go (ltb size (bodyStart + len)) (ltb (bodyStart + len) size) (eqb len 0)
+sized-kind size len = go (ltb size (bodyStart + len)) (ltb (bodyStart + len) size)
   where
-    go : (t u v : Bool) → KindIs Kind.Body
-        (pick t (PacketRead.Refused cutShort)
-        (pick u (PacketRead.Refused leftOver)
-        (pick v (PacketRead.Refused bodySizeWrong) (PacketRead.Packet (Packet.Body (partFrom bodyStart len))))))
-    go true u v = tt
-    go false true v = tt
-    go false false true = tt
-    go false false false = refl
+    go : (t u : Bool) → KindIs Kind.Body
+        (pick t (PacketRead.Refused cutShort) (pick u (PacketRead.Refused leftOver) (PacketRead.Packet (Packet.Body (bodyOfSize len)))))
+    go true u = tt
+    go false true = tt
+    go false false = refl
 
 -- what is read as a body packet is one
 body-kind : (s : List ℕ) → KindIs Kind.Body (bodyAt s)
@@ -81,7 +78,7 @@ unfolding bodyAt
 body-kind s = go (eqb (length s) payloadPlace) (integerAt s payloadPlace)
   where
     go : (t : Bool) (r : NumberRead) → KindIs Kind.Body
-        (pick t (PacketRead.Packet (Packet.Body (partFrom payloadPlace 0))) (sizedOf (length s) r))
+        (pick t (PacketRead.Packet (Packet.Body (bodyOfSize 0))) (sizedOf (length s) r))
     go true r = refl
     go false (NumberRead.Refused n) = tt
     go false (NumberRead.Number len next) = sized-kind (length s) len

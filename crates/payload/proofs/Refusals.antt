@@ -7,7 +7,7 @@ use Prim.Native.Nat.{ℕ, _+_}
 use lib.Dec.{leb, ltb, eqb}
 use lib.ListN.{length, getD}
 use Rattle.wire.specs.Pick.{pick, between}
-use Rattle.wire.specs.Refusal.{cutShort, stringWrong, outOfRange, tooMany, leftOver, bodySizeWrong, isRefusal}
+use Rattle.wire.specs.Refusal.{cutShort, stringWrong, outOfRange, tooMany, leftOver, isRefusal}
 use Rattle.wire.specs.Field.{byteAt, integerAt, booleanAt, stringAt, isOptional}
 use Rattle.wire.specs.declared.StringField.{StringField}
 use Rattle.wire.specs.declared.read.NumberRead.{NumberRead}
@@ -35,7 +35,7 @@ use Rattle.payload.specs.Sequence.{afterCode, behind, stringAsField, str
 use Rattle.payload.specs.Packet.{partFrom, finished}
 use Rattle.payload.specs.End.{endOf, endAt}
 use Rattle.payload.specs.GetBody.{getOf, getAt}
-use Rattle.payload.specs.Body.{bodyStart, sizedAt, sizedOf, bodyAt}
+use Rattle.payload.specs.Body.{bodyStart, bodyOfSize, sizedAt, sizedOf, bodyAt}
 use Rattle.payload.specs.BodyChunk.{chunkStart, chunkOf, chunkBy, chunkAt}
 use Rattle.payload.specs.Lists.{headersAfter, listsOf, attributesBehind, behindHeaders, listsAt}
 use Rattle.payload.specs.Forward.{firstMethod, lastMethod, forwardReads, forwardOf, forwardAt}
@@ -215,24 +215,21 @@ get-refusal s = go (integerAt s afterCodePlace) (integer-refusal s afterCodePlac
 
 sized-refusal : (size len : ℕ) → PacketRefusal (sizedAt size len)
 unfolding sizedAt
-sized-refusal size len = go (ltb size (bodyStart + len)) (ltb (bodyStart + len) size) (eqb len 0)
+sized-refusal size len = go (ltb size (bodyStart + len)) (ltb (bodyStart + len) size)
   where
-    go : (t u v : Bool)
+    go : (t u : Bool)
         → PacketRefusal
-        (pick t (PacketRead.Refused cutShort)
-        (pick u (PacketRead.Refused leftOver)
-        (pick v (PacketRead.Refused bodySizeWrong) (PacketRead.Packet (Packet.Body (partFrom bodyStart len))))))
-    go true u v = refl
-    go false true v = refl
-    go false false true = refl
-    go false false false = tt
+        (pick t (PacketRead.Refused cutShort) (pick u (PacketRead.Refused leftOver) (PacketRead.Packet (Packet.Body (bodyOfSize len)))))
+    go true u = refl
+    go false true = refl
+    go false false = tt
 
 body-refusal : (s : List ℕ) → PacketRefusal (bodyAt s)
 unfolding bodyAt
 body-refusal s = go (eqb (length s) payloadPlace) (integerAt s payloadPlace) (integer-refusal s payloadPlace (integerAt s payloadPlace) refl)
   where
     go : (t : Bool) (r : NumberRead) → NumberRefusal r
-        → PacketRefusal (pick t (PacketRead.Packet (Packet.Body (partFrom payloadPlace 0))) (sizedOf (length s) r))
+        → PacketRefusal (pick t (PacketRead.Packet (Packet.Body (bodyOfSize 0))) (sizedOf (length s) r))
     go true r h = tt
     go false (NumberRead.Refused n) h = h
     go false (NumberRead.Number len next) h = sized-refusal (length s) len

@@ -152,12 +152,13 @@ pub record SendHeadersHanded (s : List ℕ) (h : SendHeaders) (places : List ℕ
 abbrev pub bodySizeRead : List ℕ → NumberRead
 bodySizeRead s = pick (eqb (length s) payloadPlace) (NumberRead.Number 0 payloadPlace) (integerAt s payloadPlace)
 
--- a body packet: its size is what is read, and so many bytes stand behind it, the rest of the packet; it is empty where it has no payload
--- and nowhere else
+-- a body packet: its size is what is read, and so many bytes stand behind it, the rest of the packet; they are the part that is handed out,
+-- which is told at the payload's place where there are none
 pub record BodyHanded (s : List ℕ) (p : Part) (places : List ℕ) : Type 0 where
-  pub size-read : bodySizeRead s ≡ NumberRead.Number (p .len) (p .start .0)
-  pub rest : p .start .0 + p .len ≡ length s
-  pub empty : eqb (p .len) 0 ≡ eqb (length s) payloadPlace
+  pub behind : ℕ
+  pub size-read : bodySizeRead s ≡ NumberRead.Number (p .len) behind
+  pub rest : behind + p .len ≡ length s
+  pub start-is : p .start .0 ≡ pick (eqb (p .len) 0) payloadPlace behind
   pub no-places : places ≡ []
 
 -- a chunk: its length is the integer behind the code, and so many bytes stand behind it, all but the packet's last byte, which is zero

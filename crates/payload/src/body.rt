@@ -1,6 +1,6 @@
-// A body packet: without payload it is empty, else it holds a size and so many bytes.
+// A body packet: without payload it is empty, else it holds a size and so many bytes, which may be none.
 ghost use mathlib.Core.Path.{_≡_};
-ghost use Rattle.payload.specs.Body.{bodyAt, sizedAt};
+ghost use Rattle.payload.specs.Body.{bodyOfSize, bodyAt, sizedAt};
 use crate::found::PacketRead;
 use packet::Packet;
 use packet::Part;
@@ -18,10 +18,7 @@ pub fn read(packet: &[u8]) -> PacketRead
     ensures { λ r. ⌜ r ≡ bodyAt (now (packet .entry)) ⌝ }
 {
     if packet.len() == PAYLOAD_PLACE {
-        return PacketRead::Packet(Packet::Body(Part {
-            start: Place(PAYLOAD_PLACE as u16),
-            len: 0,
-        }));
+        return PacketRead::Packet(Packet::Body(of_size(0)));
     }
     match integer(packet, PAYLOAD_PLACE) {
         NumberRead::Refused(n) => PacketRead::Refused(n),
@@ -29,7 +26,7 @@ pub fn read(packet: &[u8]) -> PacketRead
     }
 }
 
-// A body packet of `size` bytes in all, whose own size is `len`. A size of 0 is refused: an empty body packet has no size.
+// A body packet of `size` bytes in all, whose own size is `len`.
 fn sized(size: usize, len: u16) -> PacketRead
     ensures { λ r. ⌜ r ≡ sizedAt size len ⌝ }
 {
@@ -40,11 +37,20 @@ fn sized(size: usize, len: u16) -> PacketRead
     if end < size {
         return PacketRead::Refused(refusal::LEFT_OVER);
     }
+    PacketRead::Packet(Packet::Body(of_size(len)))
+}
+
+// The part of a body packet that holds `len` bytes of body. Where there are none it is told at the payload's place, whether the packet has a
+// size or not.
+fn of_size(len: u16) -> Part
+    ensures { λ r. ⌜ r ≡ bodyOfSize len ⌝ }
+{
+    let mut start = BODY_START;
     if len == 0 {
-        return PacketRead::Refused(refusal::BODY_SIZE_WRONG);
+        start = PAYLOAD_PLACE as u16;
     }
-    PacketRead::Packet(Packet::Body(Part {
-        start: Place(BODY_START),
+    Part {
+        start: Place(start),
         len,
-    }))
+    }
 }

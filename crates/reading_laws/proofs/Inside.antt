@@ -34,7 +34,7 @@ use Rattle.packet.specs.declared.Packet.{Packet}
 use Rattle.payload.specs.declared.Context.{Context}
 use Rattle.payload.specs.declared.found.PacketRead.{PacketRead}
 use Rattle.payload.specs.Handed.{StringEnds, StringThere, ForwardHanded}
-use Rattle.payload.proofs.Handed.{forward-handed, forward-places, send-headers-handed, send-headers-places, body-handed, chunk-handed}
+use Rattle.payload.proofs.Handed.{forward-handed, forward-places, send-headers-handed, send-headers-places, body-inside, chunk-handed}
 use Rattle.payload.proofs.Parsed.{parsed-kind}
 use Rattle.reader.specs.Meaning.{headersIn, attributesIn}
 use Rattle.reading_laws.specs.Inside.{AllBelow, FieldsInside, PacketInside}
@@ -136,7 +136,7 @@ own-inside context s (Packet.Forward forward) e =
       places-most = omega (arith, f .headers-most, f .attributes-most);
     }
 own-inside context s (Packet.Body part) e =
-    plain-inside (length s) (Packet.Body part) refl refl (omega (arith, body-handed s part e .rest))
+    plain-inside (length s) (Packet.Body part) refl refl (body-inside s part e)
 own-inside context s (Packet.GetBody asked) e = plain-inside (length s) (Packet.GetBody asked) refl refl tt
 own-inside context s (Packet.SendHeaders response) e =
     let f = send-headers-places s response e in

@@ -2,17 +2,22 @@
 -- Assumes nothing.
 use borrow.Author.Tests.{eq-eqb, ne-eqb}
 use borrow.Author.Needs.{needs}
-use mathlib.Core.Path.{refl, sym, _∙_}
+use mathlib.Core.Path.{refl, sym, ap, _∙_}
 use mathlib.Core.Bool.{true, false}
+use Rattle.packet.specs.declared.Part.{Part}
+use Rattle.packet.specs.declared.Packet.{Packet}
+use Rattle.payload.specs.declared.found.PacketRead.{PacketRead}
 use Rattle.payload.proofs.Laws.{body-is}
 use Rattle.payload.proofs.body.read.Statement.{statement}
 use Rattle.payload.proofs.body.read.Tie as tie
 
-cast-t7 : tie.Need-cast-t7
-cast-t7 c = search needs
+of-size-requires : tie.Need-of-size-requires
+of-size-requires c κs = search needs
 
 returns : tie.Need-returns
-returns c = sym (body-is _ true _ (eq-eqb _ _ (c .if1 .taken)) refl)
+returns c =
+    ap (λ (p : Part). PacketRead.Packet (Packet.Body p)) (c .of-size .ensures)
+    ∙ sym (body-is _ true _ (eq-eqb _ _ (c .before .if1 .taken)) refl)
 
 integer-requires : tie.Need-integer-requires
 integer-requires c κs = search needs
@@ -43,7 +48,7 @@ pub read-spec : {M : Type 1} → statement M
 read-spec =
     tie.close
     (tie.spec
-    cast-t7
+    of-size-requires
     returns
     integer-requires
     enum-known-n

@@ -1,11 +1,14 @@
--- `body::sized` meets its contract, by its three tests.
+-- `body::sized` meets its contract, by its two tests.
 -- Assumes nothing.
-use borrow.Author.Tests.{lt-ltb, le-ltb, eq-eqb, ne-eqb}
+use borrow.Author.Tests.{lt-ltb, le-ltb}
 use borrow.Author.Needs.{needs}
-use mathlib.Core.Path.{refl}
+use mathlib.Core.Path.{refl, ap, _∙_}
 use mathlib.Core.Bool.{true, false}
 use Prim.Native.Nat.{_+_}
-use lib.Dec.{ltb, eqb}
+use lib.Dec.{ltb}
+use Rattle.packet.specs.declared.Part.{Part}
+use Rattle.packet.specs.declared.Packet.{Packet}
+use Rattle.payload.specs.declared.found.PacketRead.{PacketRead}
 use Rattle.payload.specs.Body.{bodyStart}
 use Rattle.payload.proofs.Laws.{sized-by}
 use Rattle.payload.proofs.body.sized.Statement.{statement}
@@ -20,26 +23,21 @@ add-end c = search needs
 returns : tie.Need-returns
 returns c =
     let a = c .before .args in
-    sized-by (a .size) (a .len) true (ltb (bodyStart + a .len) (a .size)) (eqb (a .len) 0)
-    (lt-ltb _ _ (c .if1 .taken)) refl refl
+    sized-by (a .size) (a .len) true (ltb (bodyStart + a .len) (a .size)) (lt-ltb _ _ (c .if1 .taken)) refl
 
 returns-2 : tie.Need-returns-2
 returns-2 c =
     let a = c .before .before .args in
-    sized-by (a .size) (a .len) false true (eqb (a .len) 0)
-    (le-ltb _ _ (c .before .if1 .left)) (lt-ltb _ _ (c .if2 .taken)) refl
+    sized-by (a .size) (a .len) false true (le-ltb _ _ (c .before .if1 .left)) (lt-ltb _ _ (c .if2 .taken))
+
+of-size-requires : tie.Need-of-size-requires
+of-size-requires c κs = search needs
 
 returns-3 : tie.Need-returns-3
 returns-3 c =
     let a = c .before .before .before .args in
-    sized-by (a .size) (a .len) false false true
-    (le-ltb _ _ (c .before .before .if1 .left)) (le-ltb _ _ (c .before .if2 .left)) (eq-eqb _ _ (c .if3 .taken))
-
-returns-4 : tie.Need-returns-4
-returns-4 c =
-    let a = c .before .before .before .args in
-    sized-by (a .size) (a .len) false false false
-    (le-ltb _ _ (c .before .before .if1 .left)) (le-ltb _ _ (c .before .if2 .left)) (ne-eqb _ _ (c .if3 .left))
+    ap (λ (p : Part). PacketRead.Packet (Packet.Body p)) (c .of-size .ensures)
+    ∙ sized-by (a .size) (a .len) false false (le-ltb _ _ (c .before .before .if1 .left)) (le-ltb _ _ (c .before .if2 .left))
 
 pub sized-spec : {M : Type 1} → statement M
-sized-spec = tie.close (tie.spec cast-end add-end returns returns-2 returns-3 returns-4)
+sized-spec = tie.close (tie.spec cast-end add-end returns returns-2 of-size-requires returns-3)
