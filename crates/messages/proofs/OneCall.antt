@@ -110,7 +110,7 @@ module _ (c : Connection) (m : Move) (payload buffer : List ℕ) where
       subst (OneWritten c m payload buffer w) (d .1) (done-written w (d .0))
 
   -- the call is done where the connection allows its move and the packet fits, and then it leaves the packet at the start of the buffer
-  one-done : allowed c m ≡ true → length (packetOf m payload) ≤ maxPacket → length (packetOf m payload) ≤ length buffer
+  pub one-done : allowed c m ≡ true → length (packetOf m payload) ≤ maxPacket → length (packetOf m payload) ≤ length buffer
       → oneCall (sending c m payload) buffer
       ≡ wrote (record { size = length (packetOf m payload); connection = after c m }) (over buffer 0 (packetOf m payload))
   one-done a most room =
@@ -273,7 +273,7 @@ unfolding writing endCall messageBytes
 end-calls reuse = record { call-is = λ c buffer. refl; bytes-are = refl }
 
 -- a body packet is, with as many bytes as the part has
-body-calls : (bytes : List ℕ) (p : Part) → length bytes ≡ p .len → Calls (body bytes) (Packet.Body p)
+pub body-calls : (bytes : List ℕ) (p : Part) → length bytes ≡ p .len → Calls (body bytes) (Packet.Body p)
 unfolding writing bodyCall messageBytes
 body-calls bytes p e = record {
   call-is = λ c buffer. ap (λ (k : ℕ). oneCall (sending c (Move.Body k) (bodyPayload bytes)) buffer) e;
@@ -369,7 +369,7 @@ one-forth m one c buffer w left fit e =
     stands-back (one-stands k (one-written c (packetMove (k .packet)) (payloadOf m) buffer w left (sym (k .calls .call-is c buffer) ∙ e)))
 
 -- bytes are the same as themselves
-same-self : (s : List ℕ) → sameBytes s s ≡ true
+pub same-self : (s : List ℕ) → sameBytes s s ≡ true
 unfolding sameBytes
 same-self [] = refl
 same-self (x ∷ xs) = rw (eq-eqb x x refl) (same-self xs)
