@@ -2,13 +2,16 @@
 -- body packet's bytes are all that stands behind its size, and an empty one has none.
 -- Assumes nothing.
 use native.Mathlib.Omega.{arith}
+use borrow.Author.Tests.{eqb-true}
 use mathlib.Core.Path.{_≡_, refl, sym, ap, subst, _∙_}
-use mathlib.Core.Bool.{Bool}
+use mathlib.Core.Bool.{Bool, true, false}
 use mathlib.Core.List.{List, [], _++_}
-use Prim.Native.Nat.{ℕ, _+_}
+use Prim.Native.Nat.{ℕ, _+_, _≤_}
+use lib.Dec.{eqb}
 use lib.ListN.{length, drop, length-drop, drop-of-length-le}
 use Rattle.wire.specs.Pick.{pick}
 use Rattle.wire.specs.Bytes.{part}
+use Rattle.wire.specs.Packet.{payloadPlace}
 use Rattle.packet.specs.declared.Direction.{Direction}
 use Rattle.wire.proofs.Bytes.{part-middle}
 use Rattle.wire.proofs.Parts.{rest-part}
@@ -16,6 +19,7 @@ use Rattle.connection.specs.Cycle.{directionOf}
 use Rattle.connection.specs.declared.Move.{Move}
 use Rattle.places.specs.Entries.{maxPlaces}
 use Rattle.payload.specs.Body.{bodyStart, bodyAt}
+use Rattle.payload.specs.Packet.{partFrom}
 use Rattle.payload.specs.Kinds.{packetAt, packetKind, packetMove}
 use Rattle.packet.specs.declared.Packet as payload
 use Rattle.payload.specs.declared.found.PacketRead.{PacketRead}
@@ -33,20 +37,30 @@ use Rattle.two_ends_laws.specs.Readable.{Carries, counting, Readable}
 abbrev Behind : List ℕ → Part → Type 0
 Behind s p = (part s (p .start .0) (p .len) ≡ drop bodyStart s) × (length (drop bodyStart s) ≡ p .len)
 
--- whether it is empty or tells its size
+-- whether it has no payload or tells its size, which may be 0
 body-behind : (s : List ℕ) (p : Part) → BodyRead s p → Behind s p
 unfolding part
 body-behind s p (empty e) =
     let none : drop bodyStart s ≡ [] = drop-of-length-le s {i = bodyStart} (omega (arith, e)) in
     (sym none, ap length none)
-body-behind s p (sized n e some size) = (sym (rest-part s bodyStart n size), omega (arith, length-drop bodyStart s, size))
+body-behind s p (sized n e size) = go (eqb n 0) refl
+  where
+    behind : length (drop bodyStart s) ≡ n
+    behind = omega (arith, length-drop bodyStart s, size)
+
+    go : (t : Bool) → eqb n 0 ≡ t → Behind s (partFrom (pick t payloadPlace bodyStart) n)
+    go true none =
+        let zero : n ≡ 0 = eqb-true n 0 none in
+        let all : drop bodyStart s ≡ [] = drop-of-length-le s {i = bodyStart} (omega (arith, size, zero)) in
+        (ap (part s payloadPlace) zero ∙ sym all, behind)
+    go false some = (sym (rest-part s bodyStart n size), behind)
 
 -- with bytes behind the packet too
 body-handed : (s rest : List ℕ) (p : Part) → bodyAt s ≡ PacketRead.Packet (payload.Packet.Body p)
     → part (s ++ rest) (p .start .0) (p .len) ≡ drop bodyStart s
 body-handed s rest p e =
     let first : part (s ++ rest) 0 (length s) ≡ s = part-middle [] s rest in
-    let inside : p .start .0 + p .len ≡ length s = handed.body-handed s p e .rest in
+    let inside : p .start .0 + p .len ≤ length s = handed.body-inside s p e in
     bytes-lent (s ++ rest) (length s) (p .start .0) (p .len) (rw first (omega arith))
     ∙ ap (λ (l : List ℕ). part l (p .start .0) (p .len)) first ∙ body-behind s p (body-read s p e) .0
 

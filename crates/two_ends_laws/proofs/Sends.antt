@@ -19,7 +19,7 @@ use Rattle.connection.specs.declared.Kind.{Kind}
 use Rattle.connection.specs.declared.Move.{Move}
 use Rattle.connection.proofs.Commute.{body-within}
 use Rattle.places.specs.Entries.{maxPlaces}
-use Rattle.payload.specs.Body.{bodyStart}
+use Rattle.payload.specs.Body.{bodyStart, bodyOfSize}
 use Rattle.payload.specs.Kinds.{packetKind, packetMove}
 use Rattle.packet.specs.declared.Packet as payload
 use Rattle.building.specs.Call.{done}
@@ -131,7 +131,7 @@ send-made c (cping buffer) w e =
     one-made (cping buffer) payload.Packet.CPing (done-written c Move.CPing (barePayload Move.CPing) buffer w e) refl refl cping-parses refl refl
 send-made c (body buffer bytes) w e =
     let wrote = done-written c (Move.Body (length bytes)) (bodyPayload bytes) buffer w e in
-    one-made (body buffer bytes) (payload.Packet.Body (one.bodyPart bytes)) wrote (ap Move.Body (one.body-long bytes)) refl
+    one-made (body buffer bytes) (payload.Packet.Body (bodyOfSize (length bytes))) wrote refl refl
     (body-parses bytes (body-within c (length bytes) (wrote .allows) .of-packet)) refl (body-held bytes)
 send-made c (closeForward r buffer) w e =
     close-made c (closeForward r buffer) (recordOf BuildingKind.Forward r) buffer w e refl refl refl forward-move
