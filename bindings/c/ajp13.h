@@ -209,7 +209,8 @@ enum {
  *   Busy, headers sent, none due   End Response      Idle where the connection is to be reused, else Closed
  *
  * Nothing else is allowed (AJP13_NOT_NOW). A body packet holds at least one byte and at most ajp13_largest_body; where
- * that is 0, the body packet is empty (else AJP13_BODY_SIZE_WRONG).
+ * that is 0, the body packet is empty (else AJP13_BODY_SIZE_WRONG). An empty one is written as 12 34 00 00; with a size
+ * of 0, as 12 34 00 02 00 00, it is read as the same packet.
  *
  * A Forward declares a body by its header content-length, and none without it. The server sends the first body packet
  * unasked, right behind the Forward, and each further one when a Get Body Chunk came. The container need not ask for
@@ -314,7 +315,8 @@ enum {
     AJP13_ANSWER_STATUS = 2,
     AJP13_ANSWER_MESSAGE = 3, /* place */
 
-    /* Body packet and Send Body Chunk: the bytes delivered are packet + start. */
+    /* Body packet and Send Body Chunk: the bytes delivered are packet + start. Of an empty body packet start is 4, in
+       either of its forms. */
     AJP13_ANSWER_START = 2,
     AJP13_ANSWER_LENGTH = 3,
 

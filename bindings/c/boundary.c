@@ -488,6 +488,48 @@ static void largest(void)
     }
 }
 
+static uint32_t at_container(const uint8_t *bytes, size_t size)
+{
+    return ajp13_read_at_container(&lent.connection, bytes, size, lent.table, AJP13_MAX_PLACES, &lent.answer);
+}
+
+/* The two forms of an empty body packet: one answer but for the bytes taken, and only the short one is written. */
+static void empty_bodies(void)
+{
+    static const uint8_t shorter[] = {0x12, 0x34, 0, 0}, longer[] = {0x12, 0x34, 0, 2, 0, 0, 0x12};
+    static const uint8_t byte_behind[] = {0x12, 0x34, 0, 3, 0, 0, 'a'};
+    static const struct {
+        const uint8_t *bytes;
+        size_t size, taken;
+        uint32_t none_due;
+    } rows[] = {
+        {shorter, sizeof shorter, 4, AJP13_CUT_SHORT},
+        {longer, sizeof longer, 6, AJP13_CODE_WRONG},
+    };
+    size_t i;
+
+    for (i = 0; i < COUNT(rows); i++) {
+        connection(AJP13_STATE_BUSY, 5, 1, 0, 1);
+        IS(at_container(rows[i].bytes, rows[i].size), AJP13_DONE);
+        IS(lent.answer.words[AJP13_ANSWER_KIND], AJP13_KIND_BODY);
+        IS(lent.answer.words[AJP13_ANSWER_BYTES], rows[i].taken);
+        IS(lent.answer.words[AJP13_ANSWER_START], 4);
+        IS(lent.answer.words[AJP13_ANSWER_LENGTH], 0);
+        IS(connection_is(AJP13_STATE_BUSY, 5, 0, 0, 1), 1);
+        connection(AJP13_STATE_BUSY, 5, 1, 1, 1);
+        LEFT(at_container(rows[i].bytes, rows[i].size), AJP13_BODY_SIZE_WRONG);
+        connection(AJP13_STATE_BUSY, 5, 0, 0, 1);
+        LEFT(at_container(rows[i].bytes, rows[i].size), rows[i].none_due);
+        connection(AJP13_STATE_IDLE, 0, 0, 0, 0);
+        LEFT(at_container(rows[i].bytes, rows[i].size), rows[i].none_due);
+    }
+    connection(AJP13_STATE_BUSY, 5, 1, 0, 1);
+    LEFT(at_container(byte_behind, sizeof byte_behind), AJP13_LEFT_OVER);
+    IS(ajp13_body(&lent.connection, OUT, NULL, 0, &lent.answer), AJP13_DONE);
+    IS(lent.answer.words[AJP13_ANSWER_BYTES], sizeof shorter);
+    IS(memcmp(lent.buffer, shorter, sizeof shorter) == 0, 1);
+}
+
 /* ---- Views and strings ------------------------------------------------------------------------------------------- */
 
 static void text_is(int line, uint32_t start, uint32_t length, uint32_t null)
@@ -819,6 +861,7 @@ int main(void)
     lengths();
     arguments();
     largest();
+    empty_bodies();
     texts();
     strings();
     statuses();

@@ -221,7 +221,7 @@ impl Connection {
 
     /// Writes a body packet to the start of `buffer` and hands out its bytes. From the server's end, where one is due:
     /// the first behind a Forward that declares a body, each further one when a Get Body Chunk came. It holds 1 to
-    /// [`largest_body`](Self::largest_body) bytes; none where that is 0.
+    /// [`largest_body`](Self::largest_body) bytes; none where that is 0, and then it is `12 34 00 00`.
     #[inline]
     pub fn body<'b>(&mut self, buffer: &'b mut [u8], bytes: &[u8]) -> Result<&'b [u8], Refusal> {
         sent(buffer, |buffer, answer| {

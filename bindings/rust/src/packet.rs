@@ -140,7 +140,8 @@ pub enum Packet<'a> {
     CPong,
     /// Forward Request.
     Forward(Forward<'a>),
-    /// Body packet: a part of the request's body, as it stands in the lent bytes.
+    /// Body packet: a part of the request's body, as it stands in the lent bytes. An empty one is read in two forms,
+    /// `12 34 00 00` and `12 34 00 02 00 00`, which are told apart by the bytes taken alone.
     Body(&'a [u8]),
     /// Get Body Chunk: how many bytes of the request's body the container asks for.
     GetBody(u16),

@@ -1,6 +1,7 @@
 //! Two ends of a connection and the two pipes between them, over the library alone: millions of
 //! random events, and after each of them what has to hold of the ends and the pipes. What crosses at
-//! the server's end is a capture: the checker goes along and has to accept every packet of it.
+//! the server's end is a capture: the checker goes along and has to accept every packet of it. And
+//! wherever the container's end stands, the two forms of an empty body packet come to the same.
 //!
 //! An event is one of the eight sends, with arguments that are often right and often not, or a
 //! delivery of the first packet of a pipe, alone or with those behind it. The environment sets the
@@ -127,6 +128,9 @@ struct Counts {
     both_pipes_empty: u64,
     server_idle: u64,
     checked: u64,
+    /// How often both forms of an empty body packet would have been accepted, and how often refused by their size.
+    empty_accepted: u64,
+    empty_refused: u64,
 }
 
 /// Both ends, the pipes between them, and what was sent and received.
@@ -582,11 +586,43 @@ impl TwoEnds {
         for connection in [&self.server, &self.container] {
             assert_eq!(raw::largest_body(connection), largest_body(connection));
         }
+        self.check_empty_bodies();
         // The body bytes that are sent and not received are those in the pipe, in order.
         let in_pipe = self.to_container.iter().flat_map(|packet| packet.body());
         assert!(in_pipe.eq(&self.unread));
         assert!(self.got <= self.declared);
     }
+
+    /// The two forms of an empty body packet, were one to come to the container's end now: with one due, the same
+    /// answer and the same connection after it; with none due, each refused by its own number.
+    fn check_empty_bodies(&mut self) {
+        let short = read_alone(self.container, &[0x12, 0x34, 0, 0]);
+        let long = read_alone(self.container, &[0x12, 0x34, 0, 2, 0, 0]);
+        if !Kind::Body.is_allowed(&self.container) {
+            assert_eq!((short.0, long.0), (3, 4));
+            assert_eq!((short.1, long.1), (self.container, self.container));
+            return;
+        }
+        assert_eq!((short.0, short.1, &short.2), (long.0, long.1, &long.2));
+        if raw::largest_body(&self.container) == 0 {
+            self.counts.empty_accepted += 1;
+            assert_eq!(short.0, raw::DONE);
+            assert_eq!((short.3, long.3), (4, 6));
+            assert_eq!(short.2[raw::ANSWER_START], 4);
+        } else {
+            self.counts.empty_refused += 1;
+            assert_eq!(short.0, 14);
+        }
+    }
+}
+
+/// What the container's end returns and then has, were these bytes to come: its status, its connection, and the answer
+/// but for the bytes taken, which come last.
+fn read_alone(mut connection: Connection, bytes: &[u8]) -> (u32, Connection, Vec<u32>, u32) {
+    let mut answer = [0; raw::SIZE_ANSWER];
+    let status = raw::read_at_container(&mut connection, bytes, &mut [], &mut answer);
+    let taken = std::mem::take(&mut answer[raw::ANSWER_BYTES]);
+    (status, connection, answer.to_vec(), taken)
 }
 
 /// The bytes of a pipe's first packet, alone or with those behind it; its kind and its length.
@@ -633,6 +669,10 @@ impl Counts {
             "  both pipes empty {} times, server's end Idle {} times, {} packets checked",
             self.both_pipes_empty, self.server_idle, self.checked
         );
+        println!(
+            "  an empty body in either form accepted {} times, refused {} times",
+            self.empty_accepted, self.empty_refused
+        );
     }
 
     /// Every kind of event has to happen often; in a short run it may not.
@@ -661,6 +701,8 @@ impl Counts {
             self.both_pipes_empty,
             self.server_idle,
             self.checked,
+            self.empty_accepted,
+            self.empty_refused,
         ] {
             assert!(times > often, "some kind of event seldom happened");
         }

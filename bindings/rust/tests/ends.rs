@@ -59,9 +59,13 @@ fn packets_to_the_container() {
     assert_eq!(packet, Packet::Body(b"hi"));
     assert_eq!(connection, busy(0, None, false));
 
-    let mut connection = busy(0, Some(8186), false);
-    let packet = at_container(&mut connection, b"\x12\x34\x00\x00", &mut places);
-    assert_eq!(packet, Packet::Body(b""));
+    // The two forms of an empty body packet.
+    for bytes in [&b"\x12\x34\x00\x00"[..], b"\x12\x34\x00\x02\x00\x00"] {
+        let mut connection = busy(0, Some(8186), false);
+        let packet = at_container(&mut connection, bytes, &mut places);
+        assert_eq!(packet, Packet::Body(b""));
+        assert_eq!(connection, busy(0, None, false));
+    }
 
     let mut connection = Connection::fresh();
     let Packet::Forward(forward) = at_container(&mut connection, GET, &mut places) else {

@@ -155,7 +155,7 @@ pub fn cpong(connection: Connection, buffer: &mut [u8]) -> Sent
     bare(connection, buffer, Move::CPong)
 }
 
-// Sends a body packet with these bytes. Without any it is the empty body packet.
+// Sends a body packet with these bytes. Without any it is the empty body packet, in the form that has no payload.
 pub fn body(connection: Connection, buffer: &mut [u8], bytes: &[u8]) -> Sent
     ensures { λ r. ⌜ sentOutcome r ≡ outcome (bodyCall connection (now (bytes .entry))) (length (now (buffer .entry))) ⌝ }
     ensures { λ _. ⌜ now (buffer .exit) ≡ bufferAfter (bodyCall connection (now (bytes .entry))) (now (buffer .entry)) ⌝ }

@@ -174,7 +174,7 @@ impl Grammar<'_> {
         }
     }
 
-    /// A body packet; an empty one has no size.
+    /// A body packet; an empty one has no size, or a size of 0.
     fn body(&mut self, length: usize) {
         let mut size = length as u16;
         if self.fault() {
@@ -183,7 +183,7 @@ impl Grammar<'_> {
                 1 => size.wrapping_sub(1),
                 _ => 0,
             };
-        } else if length == 0 && !self.fault() {
+        } else if length == 0 && self.rng.one_in(2) {
             return;
         }
         let body = self.rng.bytes(length);

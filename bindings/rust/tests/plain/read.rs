@@ -193,21 +193,23 @@ fn to_server(
     }
 }
 
-/// Reads a body packet, which has no code.
+/// Reads a body packet, which has no code. An empty one has no payload, or a size of 0 and nothing more: the two are the
+/// same message, and the second one's place is told as the first one's.
 fn body(cursor: &mut Cursor, connection: &Connection) -> Result<Packet, Refusal> {
+    let empty = Packet::Body { start: 4, len: 0 };
     if cursor.is_at_end() {
         connection.check_body(0)?;
-        return Ok(Packet::Body { start: 4, len: 0 });
+        return Ok(empty);
     }
     let len = cursor.u16()?;
     let start = cursor.place();
     cursor.take(usize::from(len))?;
     cursor.finish()?;
-    if len == 0 {
-        return Err(Refusal::BODY_SIZE);
-    }
     connection.check_body(usize::from(len))?;
-    Ok(Packet::Body { start, len })
+    Ok(match len {
+        0 => empty,
+        _ => Packet::Body { start, len },
+    })
 }
 
 /// Reads a Send Body Chunk after its code.
