@@ -5,7 +5,7 @@ use mathlib.Core.Path.{_≡_, refl, sym, ap, subst, _∙_}
 use mathlib.Core.Bool.{Bool, true, false}
 use mathlib.Core.List.{List}
 use Prim.Native.Nat.{ℕ, _+_, _≤_, _<_}
-use borrow.Author.Tests.{le-leb, lt-leb, ne-eqb}
+use borrow.Author.Tests.{le-leb, lt-leb, ne-eqb, eqb-true}
 use lib.Dec.{leb, ltb, eqb}
 use lib.ListN.{length, getD}
 use Rattle.wire.specs.Pick.{pick, both, either}
@@ -96,16 +96,19 @@ pub body-is : (s : List ℕ) (t : Bool) (r : NumberRead) → eqb (length s) payl
 unfolding bodyAt
 body-is s t r p q = rw (p, q)
 
--- the part of a body packet, by whether it has bytes of body
-pub of-size-by : (len : ℕ) (t : Bool) → eqb len 0 ≡ t → partFrom (pick t payloadPlace bodyStart) len ≡ bodyOfSize len
-of-size-by len t p = rw p
-
 -- a body packet that tells its size, by its two tests; a return that does not reach a test says `refl`
 pub sized-by : (size len : ℕ) (a b : Bool) → ltb size (bodyStart + len) ≡ a → ltb (bodyStart + len) size ≡ b
     → pick a (PacketRead.Refused cutShort) (pick b (PacketRead.Refused leftOver) (PacketRead.Packet (Packet.Body (bodyOfSize len))))
     ≡ sizedAt size len
 unfolding sizedAt
 sized-by size len a b p q = rw (p, q)
+
+-- and where both tests say that it has just so many bytes, by whether there are any
+pub sized-whole : (size len : ℕ) (t : Bool) → ltb size (bodyStart + len) ≡ false → ltb (bodyStart + len) size ≡ false → eqb len 0 ≡ t
+    → PacketRead.Packet (Packet.Body (pick t (bodyOfSize 0) (partFrom bodyStart len))) ≡ sizedAt size len
+sized-whole size len true p q e =
+    ap (λ (n : ℕ). PacketRead.Packet (Packet.Body (bodyOfSize n))) (sym (eqb-true len 0 e)) ∙ sized-by size len false false p q
+sized-whole size len false p q e = rw e at (sized-by size len false false p q)
 
 -- the outcomes of a chunk's bytes
 module _ (s : List ℕ) (len : ℕ) where

@@ -1,5 +1,7 @@
 // A body packet: without payload it is empty, else it holds a size and so many bytes, which may be none.
 ghost use mathlib.Core.Path.{_≡_};
+ghost use Rattle.packet.specs.declared.Packet.{Packet};
+ghost use Rattle.payload.specs.declared.found.PacketRead.{PacketRead};
 ghost use Rattle.payload.specs.Body.{bodyOfSize, bodyAt, sizedAt};
 use crate::found::PacketRead;
 use packet::Packet;
@@ -18,7 +20,7 @@ pub fn read(packet: &[u8]) -> PacketRead
     ensures { λ r. ⌜ r ≡ bodyAt (now (packet .entry)) ⌝ }
 {
     if packet.len() == PAYLOAD_PLACE {
-        return PacketRead::Packet(Packet::Body(of_size(0)));
+        return empty();
     }
     match integer(packet, PAYLOAD_PLACE) {
         NumberRead::Refused(n) => PacketRead::Refused(n),
@@ -37,20 +39,21 @@ fn sized(size: usize, len: u16) -> PacketRead
     if end < size {
         return PacketRead::Refused(refusal::LEFT_OVER);
     }
-    PacketRead::Packet(Packet::Body(of_size(len)))
+    if len == 0 {
+        return empty();
+    }
+    PacketRead::Packet(Packet::Body(Part {
+        start: Place(BODY_START),
+        len,
+    }))
 }
 
-// The part of a body packet that holds `len` bytes of body. Where there are none it is told at the payload's place, whether the packet has a
-// size or not.
-fn of_size(len: u16) -> Part
-    ensures { λ r. ⌜ r ≡ bodyOfSize len ⌝ }
+// An empty body packet, told at the payload's place, whether it has a size or not.
+fn empty() -> PacketRead
+    ensures { λ r. ⌜ r ≡ PacketRead.Packet (Packet.Body (bodyOfSize 0)) ⌝ }
 {
-    let mut start = BODY_START;
-    if len == 0 {
-        start = PAYLOAD_PLACE as u16;
-    }
-    Part {
-        start: Place(start),
-        len,
-    }
+    PacketRead::Packet(Packet::Body(Part {
+        start: Place(PAYLOAD_PLACE as u16),
+        len: 0,
+    }))
 }

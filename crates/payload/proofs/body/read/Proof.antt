@@ -2,22 +2,18 @@
 -- Assumes nothing.
 use borrow.Author.Tests.{eq-eqb, ne-eqb}
 use borrow.Author.Needs.{needs}
-use mathlib.Core.Path.{refl, sym, ap, _∙_}
+use mathlib.Core.Path.{refl, sym, _∙_}
 use mathlib.Core.Bool.{true, false}
-use Rattle.packet.specs.declared.Part.{Part}
-use Rattle.packet.specs.declared.Packet.{Packet}
-use Rattle.payload.specs.declared.found.PacketRead.{PacketRead}
 use Rattle.payload.proofs.Laws.{body-is}
 use Rattle.payload.proofs.body.read.Statement.{statement}
 use Rattle.payload.proofs.body.read.Tie as tie
 
-of-size-requires : tie.Need-of-size-requires
-of-size-requires c κs = search needs
+empty-requires : tie.Need-empty-requires
+empty-requires c κs = search needs
 
 returns : tie.Need-returns
 returns c =
-    ap (λ (p : Part). PacketRead.Packet (Packet.Body p)) (c .of-size .ensures)
-    ∙ sym (body-is _ true _ (eq-eqb _ _ (c .before .if1 .taken)) refl)
+    c .empty .ensures ∙ sym (body-is _ true _ (eq-eqb _ _ (c .before .if1 .taken)) refl)
 
 integer-requires : tie.Need-integer-requires
 integer-requires c κs = search needs
@@ -48,7 +44,7 @@ pub read-spec : {M : Type 1} → statement M
 read-spec =
     tie.close
     (tie.spec
-    of-size-requires
+    empty-requires
     returns
     integer-requires
     enum-known-n

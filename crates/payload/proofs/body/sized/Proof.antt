@@ -1,16 +1,13 @@
--- `body::sized` meets its contract, by its two tests.
+-- `body::sized` meets its contract, by its three tests.
 -- Assumes nothing.
-use borrow.Author.Tests.{lt-ltb, le-ltb}
+use borrow.Author.Tests.{lt-ltb, le-ltb, eq-eqb, ne-eqb}
 use borrow.Author.Needs.{needs}
-use mathlib.Core.Path.{refl, ap, _∙_}
+use mathlib.Core.Path.{refl, _∙_}
 use mathlib.Core.Bool.{true, false}
 use Prim.Native.Nat.{_+_}
 use lib.Dec.{ltb}
-use Rattle.packet.specs.declared.Part.{Part}
-use Rattle.packet.specs.declared.Packet.{Packet}
-use Rattle.payload.specs.declared.found.PacketRead.{PacketRead}
 use Rattle.payload.specs.Body.{bodyStart}
-use Rattle.payload.proofs.Laws.{sized-by}
+use Rattle.payload.proofs.Laws.{sized-by, sized-whole}
 use Rattle.payload.proofs.body.sized.Statement.{statement}
 use Rattle.payload.proofs.body.sized.Tie as tie
 
@@ -30,14 +27,21 @@ returns-2 c =
     let a = c .before .before .args in
     sized-by (a .size) (a .len) false true (le-ltb _ _ (c .before .if1 .left)) (lt-ltb _ _ (c .if2 .taken))
 
-of-size-requires : tie.Need-of-size-requires
-of-size-requires c κs = search needs
+empty-requires : tie.Need-empty-requires
+empty-requires c κs = search needs
 
 returns-3 : tie.Need-returns-3
 returns-3 c =
+    let a = c .before .before .before .before .args in
+    c .empty .ensures
+    ∙ sized-whole (a .size) (a .len) true (le-ltb _ _ (c .before .before .before .if1 .left)) (le-ltb _ _ (c .before .before .if2 .left))
+    (eq-eqb _ _ (c .before .if3 .taken))
+
+returns-4 : tie.Need-returns-4
+returns-4 c =
     let a = c .before .before .before .args in
-    ap (λ (p : Part). PacketRead.Packet (Packet.Body p)) (c .of-size .ensures)
-    ∙ sized-by (a .size) (a .len) false false (le-ltb _ _ (c .before .before .if1 .left)) (le-ltb _ _ (c .before .if2 .left))
+    sized-whole (a .size) (a .len) false (le-ltb _ _ (c .before .before .if1 .left)) (le-ltb _ _ (c .before .if2 .left))
+    (ne-eqb _ _ (c .if3 .left))
 
 pub sized-spec : {M : Type 1} → statement M
-sized-spec = tie.close (tie.spec cast-end add-end returns returns-2 of-size-requires returns-3)
+sized-spec = tie.close (tie.spec cast-end add-end returns returns-2 empty-requires returns-3 returns-4)
