@@ -3,7 +3,7 @@
 -- the bytes that are written for the message that it shows.
 -- Assumes nothing.
 use native.Mathlib.Omega.{arith}
-use borrow.Author.Tests.{le-ltb, eq-eqb, ne-eqb, eqb-true}
+use borrow.Author.Tests.{le-ltb, eq-eqb, eqb-true}
 use mathlib.Core.Path.{_≡_, refl, sym, ap, subst, _∙_}
 use mathlib.Core.Bool.{Bool, true, false, false≢true}
 use mathlib.Core.List.{List, [], _∷_, _++_}
@@ -37,7 +37,7 @@ use Rattle.payload.specs.BodyChunk.{chunkStart}
 use Rattle.packet.specs.declared.Part.{Part}
 use Rattle.packet.specs.declared.Packet.{Packet}
 use Rattle.payload.specs.declared.found.PacketRead.{PacketRead}
-use Rattle.payload.proofs.Laws.{get-is, chunk-is, chunk-closed, body-is, sized-by}
+use Rattle.payload.proofs.Laws.{get-is, chunk-is, chunk-closed, body-is, body-sized, sized-by}
 use Rattle.payload.specs.Handed.{BareHanded}
 use Rattle.payload.proofs.Handed.{bare-handed, get-handed, end-handed, body-handed, chunk-handed}
 use Rattle.building.specs.Field.{opening}
@@ -176,7 +176,7 @@ sized-fields : (bytes : List ℕ) → length bytes ≤ maxBody
 sized-fields bytes most =
     let n : ℕ = length bytes in
     let s : List ℕ = packet Direction.ToContainer (integerBytes n ++ bytes) in
-    body-is s false (NumberRead.Number n bodyStart) (ne-eqb (length s) payloadPlace (λ e. omega (arith, e)))
+    body-sized s (NumberRead.Number n bodyStart) (omega arith)
     (integer-written (packetHead Direction.ToContainer (length (integerBytes n ++ bytes))) bytes n (omega arith))
     ∙ sym (sized-by (length s) n false false (le-ltb (length s) (bodyStart + n) (omega arith)) (le-ltb (bodyStart + n) (length s) (omega arith)))
 

@@ -3,18 +3,18 @@
 -- form's bytes is this body packet and no other, and writing its message gives the short form.
 -- Assumes nothing.
 use native.Mathlib.Omega.{arith}
-use borrow.Author.Tests.{le-leb, le-ltb, lt-ltb, ne-eqb, eqb-true}
+use borrow.Author.Tests.{le-ltb, lt-ltb, eqb-true}
 use mathlib.Core.Path.{_≡_, refl, sym, ap, subst, _∙_}
 use mathlib.Core.Bool.{Bool, true, false, false≢true}
 use mathlib.Core.List.{List, [], _∷_, _++_}
 use Prim.Native.Nat.{ℕ, _+_, _≤_, _<_}
-use lib.Dec.{leb, eqb}
+use lib.Dec.{eqb}
 use lib.ListN.{length, getD, drop}
 use lib.Seq.{take-length}
-use Rattle.wire.specs.Pick.{pick, both}
-use Rattle.wire.specs.Bytes.{part, over, integerIn, integerBytes}
+use Rattle.wire.specs.Pick.{pick}
+use Rattle.wire.specs.Bytes.{part, over, integerBytes}
 use Rattle.wire.specs.Field.{byteAt}
-use Rattle.wire.specs.Packet.{packetHead, packet, payloadPlace, codePlace, afterCodePlace}
+use Rattle.wire.specs.Packet.{packetHead, packet, codePlace, afterCodePlace}
 use Rattle.wire.specs.Facts.{Bytes}
 use Rattle.wire.specs.Refusal.{cutShort, codeWrong, leftOver, bodySizeWrong}
 use Rattle.wire.specs.declared.read.NumberRead.{NumberRead}
@@ -24,8 +24,8 @@ use Rattle.wire.proofs.RoundTrip.{byte-written, integer-written}
 use Rattle.packet.specs.declared.Direction.{Direction}
 use Rattle.packet.specs.declared.Part.{Part}
 use Rattle.packet.specs.declared.Packet.{Packet}
-use Rattle.connection.specs.Connection.{maxBody, maxPacket, bodyDue}
-use Rattle.connection.specs.Cycle.{moveKind, directionOf, inState, inSize, allowed, after}
+use Rattle.connection.specs.Connection.{maxBody, bodyDue}
+use Rattle.connection.specs.Cycle.{directionOf, inState, inSize, allowed, after}
 use Rattle.connection.specs.declared.Connection.{Connection}
 use Rattle.connection.specs.declared.Kind.{Kind}
 use Rattle.connection.specs.declared.Move.{Move}
@@ -35,26 +35,23 @@ use Rattle.payload.specs.Kinds.{packetKind, packetMove}
 use Rattle.payload.specs.Body.{bodyStart, bodyOfSize, bodyAt}
 use Rattle.payload.specs.declared.KindRead.{KindRead}
 use Rattle.payload.specs.declared.found.PacketRead.{PacketRead}
-use Rattle.payload.proofs.Laws.{kind-is, body-is, sized-by}
+use Rattle.payload.proofs.Laws.{body-sized, sized-by}
 use Rattle.reader.specs.Frame.{frameAt}
-use Rattle.reader.specs.Meaning.{Meaning, needs, refused, accepted}
-use Rattle.reader.specs.Reading.{contextOf, parseWhole, parse, accepting, reading, tableAfter}
+use Rattle.reader.specs.Meaning.{refused, accepted}
+use Rattle.reader.specs.Reading.{parseWhole, parse, accepting, reading, tableAfter}
 use Rattle.reader.specs.declared.frame.FrameRead.{FrameRead}
 use Rattle.reading_laws.specs.Acceptance.{Answered}
 use Rattle.reading_laws.proofs.Acceptance.{refused-keeps}
 use Rattle.reading_laws.proofs.Later.{later-answer}
 use Rattle.writer.specs.Sending.{bodyPayload}
-use Rattle.messages.specs.Message.{Message, body, messageDirection}
-use Rattle.messages.specs.Bytes.{messageBytes}
-use Rattle.messages.specs.Writing.{writing}
 use Rattle.messages.specs.Shown.{messageShown}
 use Rattle.messages.specs.ReadOnly.{shortEmpty, longEmpty, sameBytes, isReadOnly}
 use Rattle.messages.specs.RoundTrips.{WrittenBack}
 use Rattle.messages.specs.TwoForms.{emptyTold, emptyAnswer, TwoForms}
 use Rattle.messages.proofs.Frames.{frame-written}
-use Rattle.messages.proofs.Parses.{isBody, Parses, AcceptedAs, parses-alone, accepted-parses, coded-kept}
+use Rattle.messages.proofs.Parses.{isBody, Parses, parses-alone, accepted-parses, coded-kept}
 use Rattle.messages.proofs.Tables.{table-filled}
-use Rattle.messages.proofs.OneCall.{sized-parses, empty-parses, body-calls, one-done, BodyRead, empty, sized, body-read, same-self}
+use Rattle.messages.proofs.OneCall.{sized-parses, empty-parses, body-calls, one-done, BodyRead, empty, sized, body-read}
 
 -- bytes that a test finds to be the same are
 same-bytes : (l r : List ℕ) → sameBytes l r ≡ true → l ≡ r
@@ -147,7 +144,7 @@ more-fields : (more : List ℕ) → 0 < length more → length more ≤ maxBody
     → bodyAt (packet Direction.ToContainer (integerBytes 0 ++ more)) ≡ PacketRead.Refused leftOver
 more-fields more some most =
     let s : List ℕ = packet Direction.ToContainer (integerBytes 0 ++ more) in
-    body-is s false (NumberRead.Number 0 bodyStart) (ne-eqb (length s) payloadPlace (λ e. omega (arith, e)))
+    body-sized s (NumberRead.Number 0 bodyStart) (omega arith)
     (integer-written (packetHead Direction.ToContainer (length (integerBytes 0 ++ more))) more 0 (omega arith))
     ∙ sym (sized-by (length s) 0 false true (le-ltb (length s) (bodyStart + 0) (omega arith)) (lt-ltb (bodyStart + 0) (length s) (omega arith)))
 

@@ -18,7 +18,7 @@ use Rattle.connection.specs.declared.Move.{Move}
 use Rattle.payload.specs.Body.{bodyOfSize}
 use Rattle.reader.specs.Meaning.{Meaning, refused, accepted}
 use Rattle.reader.specs.Reading.{reading, tableAfter}
-use Rattle.messages.specs.Message.{Message, body}
+use Rattle.messages.specs.Message.{body}
 use Rattle.messages.specs.Shown.{messageShown}
 use Rattle.messages.specs.ReadOnly.{shortEmpty, longEmpty}
 

@@ -5,17 +5,20 @@ use mathlib.Core.Path.{_≡_, refl, sym, ap, subst, _∙_}
 use mathlib.Core.Bool.{Bool, true, false}
 use mathlib.Core.List.{List}
 use Prim.Native.Nat.{ℕ, _+_, _≤_, _<_}
+use native.Mathlib.Omega.{arith}
 use borrow.Author.Tests.{le-leb, lt-leb, ne-eqb, eqb-true}
 use lib.Dec.{leb, ltb, eqb}
 use lib.ListN.{length, getD}
 use Rattle.wire.specs.Pick.{pick, both, either}
 use Rattle.wire.specs.Refusal.{cutShort, codeWrong, codeNotServed, stringWrong, leftOver}
+use Rattle.wire.specs.Bytes.{integerIn}
 use Rattle.wire.specs.Field.{byteAt, integerAt, booleanAt, stringAt, isOptional}
 use Rattle.packet.specs.declared.Direction.{Direction}
 use Rattle.wire.specs.declared.StringField.{StringField}
 use Rattle.wire.specs.declared.read.NumberRead.{NumberRead}
 use Rattle.wire.specs.declared.read.BooleanRead.{BooleanRead}
 use Rattle.wire.specs.declared.read.StringRead.{StringRead}
+use Rattle.wire.proofs.Field.{number-short}
 use Rattle.connection.specs.declared.Kind.{Kind}
 use Rattle.connection.specs.Cycle.{directionOf}
 use Rattle.payload.specs.declared.Context.{Context}
@@ -95,6 +98,15 @@ pub body-is : (s : List ℕ) (t : Bool) (r : NumberRead) → eqb (length s) payl
     → bodyAt s ≡ pick t (PacketRead.Packet (Packet.Body (bodyOfSize 0))) (sizedOf (length s) r)
 unfolding bodyAt
 body-is s t r p q = rw (p, q)
+
+-- where a size is there, by what it reads as
+pub body-sized : (s : List ℕ) (r : NumberRead) → bodyStart ≤ length s → integerAt s payloadPlace ≡ r → bodyAt s ≡ sizedOf (length s) r
+body-sized s r h q = body-is s false r (ne-eqb (length s) payloadPlace (λ e. omega (arith, e, h))) q
+
+-- where none is there, and something follows the length
+pub body-short : (s : List ℕ) → length s < bodyStart → eqb (length s) payloadPlace ≡ false → PacketRead.Refused cutShort ≡ bodyAt s
+unfolding integerAt
+body-short s h e = sym (body-is s false (NumberRead.Refused cutShort) e (sym (number-short 2 (integerIn s payloadPlace) s payloadPlace h)))
 
 -- a body packet that tells its size, by its two tests; a return that does not reach a test says `refl`
 pub sized-by : (size len : ℕ) (a b : Bool) → ltb size (bodyStart + len) ≡ a → ltb (bodyStart + len) size ≡ b

@@ -19,8 +19,12 @@ pub const BODY_START: u16 = 6;
 pub fn read(packet: &[u8]) -> PacketRead
     ensures { λ r. ⌜ r ≡ bodyAt (now (packet .entry)) ⌝ }
 {
-    if packet.len() == PAYLOAD_PLACE {
-        return empty();
+    if packet.len() < BODY_START as usize {
+        // No size is there: the packet has no payload, or a payload of one byte.
+        if packet.len() == PAYLOAD_PLACE {
+            return empty();
+        }
+        return PacketRead::Refused(refusal::CUT_SHORT);
     }
     match integer(packet, PAYLOAD_PLACE) {
         NumberRead::Refused(n) => PacketRead::Refused(n),
@@ -36,11 +40,14 @@ fn sized(size: usize, len: u16) -> PacketRead
     if size < end {
         return PacketRead::Refused(refusal::CUT_SHORT);
     }
+    if len == 0 {
+        if end < size {
+            return PacketRead::Refused(refusal::LEFT_OVER);
+        }
+        return empty();
+    }
     if end < size {
         return PacketRead::Refused(refusal::LEFT_OVER);
-    }
-    if len == 0 {
-        return empty();
     }
     PacketRead::Packet(Packet::Body(Part {
         start: Place(BODY_START),

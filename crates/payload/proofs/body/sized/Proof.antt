@@ -1,4 +1,4 @@
--- `body::sized` meets its contract, by its three tests.
+-- `body::sized` meets its contract, by its tests.
 -- Assumes nothing.
 use borrow.Author.Tests.{lt-ltb, le-ltb, eq-eqb, ne-eqb}
 use borrow.Author.Needs.{needs}
@@ -24,8 +24,8 @@ returns c =
 
 returns-2 : tie.Need-returns-2
 returns-2 c =
-    let a = c .before .before .args in
-    sized-by (a .size) (a .len) false true (le-ltb _ _ (c .before .if1 .left)) (lt-ltb _ _ (c .if2 .taken))
+    let a = c .before .before .before .args in
+    sized-by (a .size) (a .len) false true (le-ltb _ _ (c .before .before .if1 .left)) (lt-ltb _ _ (c .if3 .taken))
 
 empty-requires : tie.Need-empty-requires
 empty-requires c κs = search needs
@@ -34,14 +34,19 @@ returns-3 : tie.Need-returns-3
 returns-3 c =
     let a = c .before .before .before .before .args in
     c .empty .ensures
-    ∙ sized-whole (a .size) (a .len) true (le-ltb _ _ (c .before .before .before .if1 .left)) (le-ltb _ _ (c .before .before .if2 .left))
-    (eq-eqb _ _ (c .before .if3 .taken))
+    ∙ sized-whole (a .size) (a .len) true (le-ltb _ _ (c .before .before .before .if1 .left)) (le-ltb _ _ (c .before .if3 .left))
+    (eq-eqb _ _ (c .before .before .if2 .taken))
 
 returns-4 : tie.Need-returns-4
 returns-4 c =
     let a = c .before .before .before .args in
-    sized-whole (a .size) (a .len) false (le-ltb _ _ (c .before .before .if1 .left)) (le-ltb _ _ (c .before .if2 .left))
-    (ne-eqb _ _ (c .if3 .left))
+    sized-by (a .size) (a .len) false true (le-ltb _ _ (c .before .before .if1 .left)) (lt-ltb _ _ (c .if4 .taken))
+
+returns-5 : tie.Need-returns-5
+returns-5 c =
+    let a = c .before .before .before .args in
+    sized-whole (a .size) (a .len) false (le-ltb _ _ (c .before .before .if1 .left)) (le-ltb _ _ (c .if4 .left))
+    (ne-eqb _ _ (c .before .if2 .left))
 
 pub sized-spec : {M : Type 1} → statement M
-sized-spec = tie.close (tie.spec cast-end add-end returns returns-2 empty-requires returns-3 returns-4)
+sized-spec = tie.close (tie.spec cast-end add-end returns returns-2 empty-requires returns-3 returns-4 returns-5)
