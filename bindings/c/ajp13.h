@@ -32,10 +32,10 @@
 
 #include "ajp13_words.h"
 
-#define AJP13_VERSION "0.2.1"
+#define AJP13_VERSION "0.2.2"
 #define AJP13_VERSION_MAJOR 0
 #define AJP13_VERSION_MINOR 2
-#define AJP13_VERSION_PATCH 1
+#define AJP13_VERSION_PATCH 2
 
 #ifdef __cplusplus
 extern "C" {
