@@ -1,7 +1,7 @@
 /*
  * What a call answers to numbers out of range, to words that do not count, to impossible building records and checks,
- * to captures that are as long as can be and to arrays of the wrong length. Every status is looked at, and where a call
- * is not done, that everything lent is as it was.
+ * to both forms of an empty body packet, to captures that are as long as can be and to arrays of the wrong length. Every
+ * status is looked at, and where a call is not done, that everything lent is as it was.
  *
  * Prints how many calls were looked at, and a line for each that is wrong. It is C and C++ alike.
  */
@@ -500,21 +500,26 @@ static void empty_bodies(void)
     static const uint8_t byte_behind[] = {0x12, 0x34, 0, 3, 0, 0, 'a'};
     static const struct {
         const uint8_t *bytes;
-        size_t size, taken;
-        uint32_t none_due;
+        size_t size;
+        uint32_t taken, none_due;
     } rows[] = {
         {shorter, sizeof shorter, 4, AJP13_CUT_SHORT},
         {longer, sizeof longer, 6, AJP13_CODE_WRONG},
     };
+    ajp13_answer empty;
     size_t i;
 
     for (i = 0; i < COUNT(rows); i++) {
         connection(AJP13_STATE_BUSY, 5, 1, 0, 1);
+        memset(&lent.answer, 0x5A, sizeof lent.answer);
+        memset(&empty, 0, sizeof empty);
+        empty.words[AJP13_ANSWER_KIND] = AJP13_KIND_BODY;
+        empty.words[AJP13_ANSWER_BYTES] = rows[i].taken;
+        empty.words[AJP13_ANSWER_START] = 4;
+        keep();
         IS(at_container(rows[i].bytes, rows[i].size), AJP13_DONE);
-        IS(lent.answer.words[AJP13_ANSWER_KIND], AJP13_KIND_BODY);
-        IS(lent.answer.words[AJP13_ANSWER_BYTES], rows[i].taken);
-        IS(lent.answer.words[AJP13_ANSWER_START], 4);
-        IS(lent.answer.words[AJP13_ANSWER_LENGTH], 0);
+        IS(memcmp(&lent.answer, &empty, sizeof empty) == 0, 1);
+        IS(memcmp(lent.table, before.table, sizeof lent.table) == 0, 1);
         IS(connection_is(AJP13_STATE_BUSY, 5, 0, 0, 1), 1);
         connection(AJP13_STATE_BUSY, 5, 1, 1, 1);
         LEFT(at_container(rows[i].bytes, rows[i].size), AJP13_BODY_SIZE_WRONG);
@@ -523,11 +528,14 @@ static void empty_bodies(void)
         connection(AJP13_STATE_IDLE, 0, 0, 0, 0);
         LEFT(at_container(rows[i].bytes, rows[i].size), rows[i].none_due);
     }
+    LEFT(at_container(byte_behind, sizeof byte_behind), AJP13_CODE_WRONG);
     connection(AJP13_STATE_BUSY, 5, 1, 0, 1);
     LEFT(at_container(byte_behind, sizeof byte_behind), AJP13_LEFT_OVER);
+    memset(lent.buffer, 0x5A, sizeof lent.buffer);
     IS(ajp13_body(&lent.connection, OUT, NULL, 0, &lent.answer), AJP13_DONE);
     IS(lent.answer.words[AJP13_ANSWER_BYTES], sizeof shorter);
     IS(memcmp(lent.buffer, shorter, sizeof shorter) == 0, 1);
+    IS(lent.buffer[sizeof shorter], 0x5A);
 }
 
 /* ---- Views and strings ------------------------------------------------------------------------------------------- */

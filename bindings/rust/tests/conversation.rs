@@ -596,33 +596,67 @@ impl TwoEnds {
     /// The two forms of an empty body packet, were one to come to the container's end now: with one due, the same
     /// answer and the same connection after it; with none due, each refused by its own number.
     fn check_empty_bodies(&mut self) {
-        let short = read_alone(self.container, &[0x12, 0x34, 0, 0]);
-        let long = read_alone(self.container, &[0x12, 0x34, 0, 2, 0, 0]);
-        if !Kind::Body.is_allowed(&self.container) {
-            assert_eq!((short.0, long.0), (3, 4));
-            assert_eq!((short.1, long.1), (self.container, self.container));
-            return;
-        }
-        assert_eq!((short.0, short.1, &short.2), (long.0, long.1, &long.2));
-        if raw::largest_body(&self.container) == 0 {
-            self.counts.empty_accepted += 1;
-            assert_eq!(short.0, raw::DONE);
-            assert_eq!((short.3, long.3), (4, 6));
-            assert_eq!(short.2[raw::ANSWER_START], 4);
-        } else {
+        let before = self.container;
+        let short = Tried::at(before, &[0x12, 0x34, 0, 0]);
+        let long = Tried::at(before, &[0x12, 0x34, 0, 2, 0, 0]);
+        if !Kind::Body.is_allowed(&before) {
+            assert_eq!(short, Tried::refused(3, before));
+            assert_eq!(long, Tried::refused(4, before));
+        } else if raw::largest_body(&before) > 0 {
             self.counts.empty_refused += 1;
-            assert_eq!(short.0, 14);
+            assert_eq!(short, Tried::refused(14, before));
+            assert_eq!(long, Tried::refused(14, before));
+        } else {
+            self.counts.empty_accepted += 1;
+            assert_eq!(short, Tried::empty_body(4, before));
+            assert_eq!(long, Tried::empty_body(6, before));
         }
     }
 }
 
-/// What the container's end returns and then has, were these bytes to come: its status, its connection, and the answer
-/// but for the bytes taken, which come last.
-fn read_alone(mut connection: Connection, bytes: &[u8]) -> (u32, Connection, Vec<u32>, u32) {
-    let mut answer = [0; raw::SIZE_ANSWER];
-    let status = raw::read_at_container(&mut connection, bytes, &mut [], &mut answer);
-    let taken = std::mem::take(&mut answer[raw::ANSWER_BYTES]);
-    (status, connection, answer.to_vec(), taken)
+/// What a packet would come to at the container's end: the status, the connection after it and the answer.
+#[derive(Debug, PartialEq, Eq)]
+struct Tried {
+    status: u32,
+    connection: Connection,
+    answer: [u32; raw::SIZE_ANSWER],
+}
+
+impl Tried {
+    /// By reading it.
+    fn at(mut connection: Connection, bytes: &[u8]) -> Tried {
+        let mut answer = [0; raw::SIZE_ANSWER];
+        let status = raw::read_at_container(&mut connection, bytes, &mut [], &mut answer);
+        Tried {
+            status,
+            connection,
+            answer,
+        }
+    }
+
+    /// A refusal changes nothing.
+    fn refused(status: u32, connection: Connection) -> Tried {
+        Tried {
+            status,
+            connection,
+            answer: [0; raw::SIZE_ANSWER],
+        }
+    }
+
+    /// An empty body packet takes its bytes and is no longer due.
+    fn empty_body(taken: u32, mut connection: Connection) -> Tried {
+        connection[raw::CONNECTION_DUE] = 0;
+        connection[raw::CONNECTION_ASKED] = 0;
+        let mut answer = [0; raw::SIZE_ANSWER];
+        answer[raw::ANSWER_KIND] = raw::KIND_BODY;
+        answer[raw::ANSWER_BYTES] = taken;
+        answer[raw::ANSWER_START] = 4;
+        Tried {
+            status: raw::DONE,
+            connection,
+            answer,
+        }
+    }
 }
 
 /// The bytes of a pipe's first packet, alone or with those behind it; its kind and its length.

@@ -1,6 +1,6 @@
 -- The packets that one call writes, there and back. The call is done exactly where the connection allows its move and the packet fits, and
 -- then the packet stands in the buffer. Each of these packets parses as what was written, and each packet of these kinds that parses has
--- the bytes that are written for the message that it shows.
+-- the bytes that are written for the message that it shows, but for the long form of an empty body packet.
 -- Assumes nothing.
 use native.Mathlib.Omega.{arith}
 use borrow.Author.Tests.{le-ltb, eq-eqb, eqb-true}

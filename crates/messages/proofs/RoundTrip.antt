@@ -1,5 +1,5 @@
 -- The two round trips, kind by kind: what was written reads back as the message that it was written for, and the message that was read is
--- written to the bytes that it was read from. Here is what each kind has to show; the files of the kinds show it.
+-- written to the bytes that it was read from, unless they are only read. Here is what each kind has to show; the files of the kinds show it.
 -- Assumes nothing.
 use native.Mathlib.Omega.{arith}
 use mathlib.Core.Path.{_≡_, sym, ap, subst}

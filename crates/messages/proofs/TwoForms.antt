@@ -44,14 +44,15 @@ use Rattle.reading_laws.specs.Acceptance.{Answered}
 use Rattle.reading_laws.proofs.Acceptance.{refused-keeps}
 use Rattle.reading_laws.proofs.Later.{later-answer}
 use Rattle.writer.specs.Sending.{bodyPayload}
+use Rattle.messages.specs.Message.{Message}
 use Rattle.messages.specs.Shown.{messageShown}
-use Rattle.messages.specs.ReadOnly.{shortEmpty, longEmpty, sameBytes, isReadOnly}
+use Rattle.messages.specs.ReadOnly.{shortEmpty, longEmpty, sameBytes, isReadOnly, OnlyLong}
 use Rattle.messages.specs.RoundTrips.{WrittenBack}
 use Rattle.messages.specs.TwoForms.{emptyTold, emptyAnswer, TwoForms}
 use Rattle.messages.proofs.Frames.{frame-written}
 use Rattle.messages.proofs.Parses.{isBody, Parses, parses-alone, accepted-parses, coded-kept}
 use Rattle.messages.proofs.Tables.{table-filled}
-use Rattle.messages.proofs.OneCall.{sized-parses, empty-parses, body-calls, one-done, BodyRead, empty, sized, body-read}
+use Rattle.messages.proofs.OneCall.{sized-parses, empty-parses, body-calls, one-done, BodyRead, empty, sized, body-read, same-self}
 
 -- bytes that a test finds to be the same are
 same-bytes : (l r : List ℕ) → sameBytes l r ≡ true → l ≡ r
@@ -240,12 +241,19 @@ only-by-bytes (Packet.SendHeaders h) table bytes r = sym (coded-other bytes r re
 only-by-bytes (Packet.BodyChunk p) table bytes r = sym (coded-other bytes r refl (λ e. omega (arith, e)))
 only-by-bytes (Packet.End reuse) table bytes r = sym (coded-other bytes r refl (λ e. omega (arith, e)))
 
+-- so it is one exactly where they are the long form's
+only-long : (m : Message) (s : List ℕ) → isReadOnly m s ≡ sameBytes s longEmpty → OnlyLong m s
+only-long m s e = record {
+  only = λ t. same-bytes s longEmpty (sym e ∙ t);
+  long = λ same. e ∙ ap (λ (l : List ℕ). sameBytes l longEmpty) same ∙ same-self longEmpty;
+}
+
 -- an accepted packet is read and not written exactly where its bytes are those of the long form of an empty body packet
 pub read-only-is : (d : Direction) (c : Connection) (s table : List ℕ) (p : Packet) (n : ℕ) (next : Connection) → Bytes s
-    → reading d c s (length table) ≡ accepted p n next
-    → isReadOnly (messageShown p (part s 0 n) (tableAfter d c s table)) (part s 0 n) ≡ sameBytes (part s 0 n) longEmpty
+    → reading d c s (length table) ≡ accepted p n next → OnlyLong (messageShown p (part s 0 n) (tableAfter d c s table)) (part s 0 n)
 read-only-is d c s table p n next bytes e =
-    only-by-bytes p (tableAfter d c s table) (bytes-part s 0 n bytes) (accepted-parses d c s (length table) p n next e .parses)
+    only-long (messageShown p (part s 0 n) (tableAfter d c s table)) (part s 0 n)
+    (only-by-bytes p (tableAfter d c s table) (bytes-part s 0 n bytes) (accepted-parses d c s (length table) p n next e .parses))
 
 -- the message of the long form, written
 long-writes : {d : Direction} (c : Connection) (table buffer : List ℕ) → Parses d longEmpty emptyTold → allowed c (Move.Body 0) ≡ true

@@ -2,6 +2,7 @@
 -- it out (`RoundTrips`).
 -- Document 02, A2: the other empty packet.
 -- Assumes nothing.
+use mathlib.Core.Path.{_≡_}
 use mathlib.Core.Bool.{Bool, true, false}
 use mathlib.Core.List.{List, [], _∷_}
 use Prim.Native.Nat.{ℕ}
@@ -35,3 +36,8 @@ isReadOnly (getBody asked) s = false
 isReadOnly (sendHeaders response) s = false
 isReadOnly (bodyChunk bytes) s = false
 isReadOnly (end reuse) s = false
+
+-- a packet that shows this message and has these bytes is read and not written exactly where they are the long form's
+pub record OnlyLong (m : Message) (s : List ℕ) : Type 0 where
+  pub only : isReadOnly m s ≡ true → s ≡ longEmpty
+  pub long : s ≡ longEmpty → isReadOnly m s ≡ true

@@ -7,7 +7,7 @@ use Prim.Native.Nat.{ℕ, _≤_, _<_}
 use lib.ListN.{length}
 use Rattle.wire.specs.Pick.{pick}
 use Rattle.wire.specs.Bytes.{integerBytes}
-use Rattle.wire.specs.Packet.{packet}
+use Rattle.wire.specs.Packet.{packet, payloadPlace}
 use Rattle.wire.specs.Refusal.{cutShort, codeWrong, leftOver, bodySizeWrong}
 use Rattle.packet.specs.declared.Direction.{Direction}
 use Rattle.packet.specs.declared.Packet.{Packet}
@@ -15,7 +15,7 @@ use Rattle.connection.specs.Connection.{maxBody, bodyDue}
 use Rattle.connection.specs.Cycle.{inSize, after}
 use Rattle.connection.specs.declared.Connection.{Connection}
 use Rattle.connection.specs.declared.Move.{Move}
-use Rattle.payload.specs.Body.{bodyOfSize}
+use Rattle.payload.specs.Packet.{partFrom}
 use Rattle.reader.specs.Meaning.{Meaning, refused, accepted}
 use Rattle.reader.specs.Reading.{reading, tableAfter}
 use Rattle.messages.specs.Message.{body}
@@ -24,7 +24,7 @@ use Rattle.messages.specs.ReadOnly.{shortEmpty, longEmpty}
 
 -- what both forms are told to be: a body of no bytes, at the payload's place
 abbrev pub emptyTold : Packet
-emptyTold = Packet.Body (bodyOfSize 0)
+emptyTold = Packet.Body (partFrom payloadPlace 0)
 
 -- the answer to an empty body packet of `size` bytes in all: where a body packet is due, it is accepted if an empty one may come, and else it
 -- is 14; where none is due, it is refused with the number given

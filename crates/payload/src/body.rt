@@ -32,7 +32,7 @@ pub fn read(packet: &[u8]) -> PacketRead
     }
 }
 
-// A body packet of `size` bytes in all, whose own size is `len`.
+// A body packet of `size` bytes in all, whose own size is `len`. A size of 0 is looked for before bytes that are left over, for speed.
 fn sized(size: usize, len: u16) -> PacketRead
     ensures { λ r. ⌜ r ≡ sizedAt size len ⌝ }
 {
@@ -41,7 +41,7 @@ fn sized(size: usize, len: u16) -> PacketRead
         return PacketRead::Refused(refusal::CUT_SHORT);
     }
     if len == 0 {
-        if end < size {
+        if size > BODY_START as usize {
             return PacketRead::Refused(refusal::LEFT_OVER);
         }
         return empty();

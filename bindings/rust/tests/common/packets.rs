@@ -181,6 +181,7 @@ impl Grammar<'_> {
             size = match self.rng.below(3) {
                 0 => size.wrapping_add(1),
                 1 => size.wrapping_sub(1),
+                _ if length == 0 => 255,
                 _ => 0,
             };
         } else if length == 0 && self.rng.one_in(2) {
