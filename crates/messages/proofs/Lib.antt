@@ -1,6 +1,7 @@
 pub mod Fine
 pub mod Judged
 pub mod Fixed
+pub mod SameBytes
 pub mod Frames
 pub mod Parses
 pub mod Tables

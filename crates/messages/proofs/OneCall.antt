@@ -53,6 +53,7 @@ use Rattle.messages.specs.Bytes.{payloadOf, messageBytes}
 use Rattle.messages.specs.Writing.{wrote, wroteBy, oneCall, writing}
 use Rattle.messages.specs.Shown.{messageShown}
 use Rattle.messages.specs.ReadOnly.{longEmpty, sameBytes, isReadOnly}
+use Rattle.messages.proofs.SameBytes.{same-self}
 use Rattle.messages.proofs.Frames.{frame-written, head-kept}
 use Rattle.messages.proofs.Parses.{isBody, Parses, parses-most, coded-parses, coded-kept}
 use Rattle.messages.proofs.Tables.{tableOf}
@@ -368,12 +369,6 @@ one-forth m one c buffer w left fit e =
     let k = one-packet m one fit in
     stands-back (one-stands k (one-written c (packetMove (k .packet)) (payloadOf m) buffer w left (sym (k .calls .call-is c buffer) ∙ e)))
 
--- bytes are the same as themselves
-pub same-self : (s : List ℕ) → sameBytes s s ≡ true
-unfolding sameBytes
-same-self [] = refl
-same-self (x ∷ xs) = rw (eq-eqb x x refl) (same-self xs)
-
 -- what a body packet was read from: nothing behind the packet's head, or a size and so many bytes, which may be none
 pub data BodyRead (s : List ℕ) : Part → Type 0 where
   empty : length s ≡ payloadPlace → BodyRead s (bodyOfSize 0)
@@ -406,7 +401,7 @@ body-read s p e =
         (sized (integerIn s payloadPlace) refl (omega (arith, long, place, all)))
     go false false behind some read all starts = absurd (let z : _≡_ {A = ℕ} 0 1 = cc in omega arith)
 
--- behind its head such a packet has nothing, or the size and the bytes
+-- behind its head a body packet that tells its size has the size and the bytes
 sized-payload : (s : List ℕ) (n : ℕ) → Bytes s → integerIn s payloadPlace ≡ n → length s ≡ bodyStart + n
     → drop payloadPlace s ≡ integerBytes n ++ part s bodyStart n
 sized-payload s n bytes e size =

@@ -3,12 +3,11 @@
 -- form's bytes is this body packet and no other, and writing its message gives the short form.
 -- Assumes nothing.
 use native.Mathlib.Omega.{arith}
-use borrow.Author.Tests.{le-ltb, lt-ltb, eqb-true}
+use borrow.Author.Tests.{le-ltb, lt-ltb}
 use mathlib.Core.Path.{_≡_, refl, sym, ap, subst, _∙_}
-use mathlib.Core.Bool.{Bool, true, false, false≢true}
+use mathlib.Core.Bool.{Bool, true, false}
 use mathlib.Core.List.{List, [], _∷_, _++_}
 use Prim.Native.Nat.{ℕ, _+_, _≤_, _<_}
-use lib.Dec.{eqb}
 use lib.ListN.{length, getD, drop}
 use lib.Seq.{take-length}
 use Rattle.wire.specs.Pick.{pick}
@@ -18,7 +17,6 @@ use Rattle.wire.specs.Packet.{packetHead, packet, codePlace, afterCodePlace}
 use Rattle.wire.specs.Facts.{Bytes}
 use Rattle.wire.specs.Refusal.{cutShort, codeWrong, leftOver, bodySizeWrong}
 use Rattle.wire.specs.declared.read.NumberRead.{NumberRead}
-use Rattle.wire.proofs.Tests.{both-first, both-second}
 use Rattle.wire.proofs.Parts.{bytes-part}
 use Rattle.wire.proofs.RoundTrip.{byte-written, integer-written}
 use Rattle.packet.specs.declared.Direction.{Direction}
@@ -49,28 +47,19 @@ use Rattle.messages.specs.Shown.{messageShown}
 use Rattle.messages.specs.ReadOnly.{shortEmpty, longEmpty, sameBytes, isReadOnly, OnlyLong}
 use Rattle.messages.specs.RoundTrips.{WrittenBack}
 use Rattle.messages.specs.TwoForms.{emptyTold, emptyAnswer, TwoForms}
+use Rattle.messages.proofs.SameBytes.{same-self, same-bytes}
 use Rattle.messages.proofs.Frames.{frame-written}
 use Rattle.messages.proofs.Parses.{isBody, Parses, parses-alone, accepted-parses, coded-kept}
 use Rattle.messages.proofs.Tables.{table-filled}
-use Rattle.messages.proofs.OneCall.{sized-parses, empty-parses, body-calls, one-done, BodyRead, empty, sized, body-read, same-self}
+use Rattle.messages.proofs.OneCall.{sized-parses, empty-parses, body-calls, one-done, BodyRead, empty, sized, body-read}
 
--- bytes that a test finds to be the same are
-same-bytes : (l r : List ℕ) → sameBytes l r ≡ true → l ≡ r
-unfolding sameBytes
-same-bytes [] [] e = refl
-same-bytes [] (y ∷ ys) e = absurd (false≢true e)
-same-bytes (x ∷ xs) [] e = absurd (false≢true e)
-same-bytes (x ∷ xs) (y ∷ ys) e =
-    let first : x ≡ y = eqb-true x y (both-first (eqb x y) (sameBytes xs ys) e) in
-    let later : xs ≡ ys = same-bytes xs ys (both-second (eqb x y) (sameBytes xs ys) e) in
-    rw (first, later)
-
--- the long form parses as the short one does
-long-parses : Parses Direction.ToContainer longEmpty emptyTold
-long-parses = sized-parses [] (omega arith)
-
+-- the short form parses as an empty body
 short-parses : Parses Direction.ToContainer shortEmpty emptyTold
 short-parses = empty-parses
+
+-- so does the long one
+long-parses : Parses Direction.ToContainer longEmpty emptyTold
+long-parses = sized-parses [] (omega arith)
 
 -- a whole packet of the server's, alone
 module _ (c : Connection) (s : List ℕ) (room : ℕ) (whole : frameAt Direction.ToContainer s ≡ FrameRead.Whole (length s)) where

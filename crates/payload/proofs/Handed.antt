@@ -625,19 +625,21 @@ body-handed s p = by-length (eqb (length s) payloadPlace) refl
 
 -- a body packet that is read has its part inside it
 pub body-inside : (s : List ℕ) (p : Part) → bodyAt s ≡ PacketRead.Packet (Packet.Body p) → p .start .0 + p .len ≤ length s
-body-inside s p e = let h = body-handed s p e in go h (eqb (length s) payloadPlace) refl (eqb (p .len) 0) refl (h .size-read) (h .start-is)
+body-inside s p e =
+    let h = body-handed s p e in
+    go (h .behind) (eqb (length s) payloadPlace) (eqb (p .len) 0) refl (h .size-read) (h .rest) (h .start-is)
   where
-    -- the size ends behind the payload's place, if not there
+    -- the size ends at the payload's place or behind it
     far : (t : Bool) (behind : ℕ) → pick t (NumberRead.Number 0 payloadPlace) (integerAt s payloadPlace) ≡ NumberRead.Number (p .len) behind
         → payloadPlace ≤ behind
     far true behind q = let z : payloadPlace ≡ behind = cc in omega (arith, z)
     far false behind q = omega (arith, integer-inside s payloadPlace (NumberRead.Number (p .len) behind) q .0)
 
-    go : (h : BodyHanded s p []) (t : Bool) → eqb (length s) payloadPlace ≡ t → (none : Bool) → eqb (p .len) 0 ≡ none
-        → pick t (NumberRead.Number 0 payloadPlace) (integerAt s payloadPlace) ≡ NumberRead.Number (p .len) (h .behind)
-        → p .start .0 ≡ pick none payloadPlace (h .behind) → p .start .0 + p .len ≤ length s
-    go h t u true n q starts = omega (arith, eqb-true (p .len) 0 n, starts, far t (h .behind) q, h .rest)
-    go h t u false n q starts = omega (arith, starts, h .rest)
+    go : (behind : ℕ) (t none : Bool) → eqb (p .len) 0 ≡ none
+        → pick t (NumberRead.Number 0 payloadPlace) (integerAt s payloadPlace) ≡ NumberRead.Number (p .len) behind
+        → behind + p .len ≡ length s → p .start .0 ≡ pick none payloadPlace behind → p .start .0 + p .len ≤ length s
+    go behind t true n q all starts = omega (arith, eqb-true (p .len) 0 n, starts, far t behind q, all)
+    go behind t false n q all starts = omega (arith, starts, all)
 
 -- a chunk
 pub chunk-handed : (s : List ℕ) (p : Part) → chunkAt s ≡ PacketRead.Packet (Packet.BodyChunk p) → ChunkHanded s p []
