@@ -7,5 +7,6 @@ pub mod Field
 pub mod RoundTrip
 pub mod Parts
 pub mod Blocks
+pub mod Clear
 pub mod Refusals
 pub mod Bits

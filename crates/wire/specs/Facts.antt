@@ -1,5 +1,5 @@
--- What the laws of reading and writing say: what is answered lies inside the packet, what a string is that was read, and what one that was
--- written reads as.
+-- What the laws of reading and writing say: what is answered lies inside the packet, what a string is that was read, what one that was
+-- written reads as, and what no string holds.
 -- Assumes nothing.
 use mathlib.Core.Path.{_≡_}
 use mathlib.Core.Bool.{Bool, true, false}
@@ -53,3 +53,11 @@ Bytes s = (i : ℕ) → getD s i 0 < 256
 -- what reading a string that was written answers
 abbrev pub written : ℕ → Bool → List ℕ → StringRead
 written at null text = pick null (StringRead.Null (at + 2)) (StringRead.Text (at + 2) (length text) (at + 2 + length text + 1))
+
+-- a byte that ends neither a string nor a line: not 0, not 10 (line feed), not 13 (carriage return)
+abbrev pub ClearByte : ℕ → Type 0
+ClearByte b = (b ≡ 0 → ⊥) × (b ≡ 10 → ⊥) × (b ≡ 13 → ⊥)
+
+-- a text with none but such bytes, at every place
+abbrev pub Clear : List ℕ → Type 0
+Clear text = (i : ℕ) → i < length text → ClearByte (getD text i 0)

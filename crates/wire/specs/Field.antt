@@ -1,6 +1,7 @@
 -- The fields of a packet: byte, integer, boolean and string; what reading one at a place answers, and what bytes it is.
 -- The packet is a list that ends where the packet ends, so a field that runs past it is cut short (3).
--- Document 01, 'Bytes and numbers', and from 'Refusal numbers' the order in which a string's faults are judged: 3, 6, 3, 6.
+-- Document 01, 'Bytes and numbers', and from 'Refusal numbers' the order in which a string's faults are judged: 3, 6, 3, 6. Document 02, A3: no
+-- line ends in strings.
 -- Assumes nothing.
 use mathlib.Core.Bool.{Bool, true, false, not}
 use mathlib.Core.List.{List, [], _∷_, _++_}
@@ -50,9 +51,17 @@ booleanBytes value = booleanNumber value ∷ []
 abbrev pub nullLength : ℕ
 nullLength = 65535
 
--- what a string may not hold
+-- the bytes that end a line
+abbrev pub lineFeed : ℕ
+lineFeed = 10
+
+abbrev pub carriageReturn : ℕ
+carriageReturn = 13
+
+-- what no string may hold: a zero, and what ends a line. Names, values, attributes, messages and the fixed strings all go by this one; a body's
+-- or a chunk's bytes are no string
 abbrev pub barred : ℕ → Bool
-barred b = eqb b 0
+barred b = either (eqb b 0) (either (eqb b lineFeed) (eqb b carriageReturn))
 
 -- a text with such a byte in it
 abbrev pub holdsBarred : List ℕ → Bool

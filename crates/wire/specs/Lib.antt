@@ -5,3 +5,4 @@ pub mod Field
 pub mod Packet
 pub mod Facts
 pub mod Bits
+pub mod Private

@@ -8,6 +8,7 @@ ghost use lib.ListN.{length};
 ghost use Rattle.wire.specs.Bytes.{part};
 ghost use Rattle.wire.specs.Field.{isOptional, lacks, barred, holdsBarred, stringAllowed};
 ghost use Rattle.wire.specs.Packet.{leading};
+ghost use Rattle.wire.specs.Private.{low, holdsLow};
 use packet::Direction;
 
 pub mod read;
@@ -44,7 +45,17 @@ pub const CODE_PLACE: usize = PAYLOAD_PLACE;
 
 pub const AFTER_CODE_PLACE: usize = 5;
 
-// How many bytes of a text are judged at once: those of a vector register, a half of them and a quarter.
+// The bytes that end a line.
+const LINE_FEED: u8 = 10;
+
+const CARRIAGE_RETURN: u8 = 13;
+
+// The number above those of all bytes that are barred from strings.
+const ABOVE_BARRED: u8 = 14;
+
+// How many bytes of a text are judged at once: those of two vector registers, of one, a half of them and a quarter.
+const DOUBLE_BLOCK: usize = 32;
+
 const BLOCK: usize = 16;
 
 const HALF_BLOCK: usize = 8;
@@ -111,70 +122,103 @@ fn lacks(optional: bool, null: bool, len: usize) -> bool
     !optional & (null | (len == 0))
 }
 
-// Whether a byte is barred from strings.
+// Whether a byte is barred from strings: a zero, or what ends a line.
 fn is_barred(b: u8) -> bool
     ensures { λ r. ⌜ r ≡ barred b ⌝ }
 {
-    b == 0
+    (b == 0) | ((b == LINE_FEED) | (b == CARRIAGE_RETURN))
 }
 
-// Whether `count` bytes from a place on hold a barred one. There is no early way out: for a constant count the loop becomes one comparison.
-fn part_holds_barred(text: &[u8], at: usize, count: usize) -> bool
+// Whether a byte is below the number above all barred ones. Every barred byte is, and of the others hardly one stands in a string.
+fn is_low(b: u8) -> bool
+    ensures { λ r. ⌜ r ≡ low b ⌝ }
+{
+    b < ABOVE_BARRED
+}
+
+// Whether `count` bytes from a place on hold a low one. There is no early way out: for a constant count the loop becomes one comparison.
+fn part_holds_low(text: &[u8], at: usize, count: usize) -> bool
     requires { ⌜ at + count ≤ length (now text) ⌝ }
-    ensures { λ r. ⌜ r ≡ holdsBarred (part (now (text .entry)) at count) ⌝ }
+    ensures { λ r. ⌜ r ≡ holdsLow (part (now (text .entry)) at count) ⌝ }
 {
     let mut found = false;
     let mut i = 0;
     while i < count {
-        found = found | is_barred(text[at + i]);
+        found = found | is_low(text[at + i]);
         i += 1;
     }
     found
 }
 
-// `holds_barred` for a text of one to two blocks of `count` bytes: the first and the last block, which may overlap.
-fn ends_hold_barred(text: &[u8], count: usize) -> bool
+// `holds_low` for a text of one to two blocks of `count` bytes: the first and the last block, which may overlap.
+fn ends_hold_low(text: &[u8], count: usize) -> bool
     requires { ⌜ count ≤ length (now text) ⌝ }
     requires { ⌜ length (now text) ≤ count + count ⌝ }
-    ensures { λ r. ⌜ r ≡ holdsBarred (now (text .entry)) ⌝ }
+    ensures { λ r. ⌜ r ≡ holdsLow (now (text .entry)) ⌝ }
 {
     let last = text.len() - count;
-    part_holds_barred(text, 0, count) | part_holds_barred(text, last, count)
+    part_holds_low(text, 0, count) | part_holds_low(text, last, count)
 }
 
-// `holds_barred` for a text of one block of `count` bytes or more: block after block, then the last one, which may overlap the one before it.
+// `holds_low` for a text of one block of `count` bytes or more: block after block, then the last one, which may overlap the one before it.
 // The early way out is behind a whole block, so that the bytes of a block are judged together.
-fn blocks_hold_barred(text: &[u8], count: usize) -> bool
+fn blocks_hold_low(text: &[u8], count: usize) -> bool
     requires { ⌜ 0 < count ⌝ }
     requires { ⌜ count ≤ length (now text) ⌝ }
-    ensures { λ r. ⌜ r ≡ holdsBarred (now (text .entry)) ⌝ }
+    ensures { λ r. ⌜ r ≡ holdsLow (now (text .entry)) ⌝ }
 {
     let last = text.len() - count;
     let mut i = 0;
     while i < last {
-        if part_holds_barred(text, i, count) {
+        if part_holds_low(text, i, count) {
             return true;
         }
         i += count;
     }
-    part_holds_barred(text, last, count)
+    part_holds_low(text, last, count)
 }
 
-// Whether a text holds a byte that no string may hold. Only a text that is shorter than the least block is judged byte by byte.
+// Whether a text holds a low byte. Only a text that is shorter than the least block is judged byte by byte.
+fn holds_low(text: &[u8]) -> bool
+    ensures { λ r. ⌜ r ≡ holdsLow (now (text .entry)) ⌝ }
+{
+    let n = text.len();
+    if DOUBLE_BLOCK <= n {
+        return blocks_hold_low(text, DOUBLE_BLOCK);
+    }
+    if BLOCK <= n {
+        return ends_hold_low(text, BLOCK);
+    }
+    if HALF_BLOCK <= n {
+        return ends_hold_low(text, HALF_BLOCK);
+    }
+    if QUARTER_BLOCK <= n {
+        return ends_hold_low(text, QUARTER_BLOCK);
+    }
+    part_holds_low(text, 0, n)
+}
+
+// `holds_barred` for a text that may hold a barred byte: each byte is held against all of them.
+fn finds_barred(text: &[u8]) -> bool
+    ensures { λ r. ⌜ r ≡ holdsBarred (now (text .entry)) ⌝ }
+{
+    let mut found = false;
+    let mut i = 0;
+    while i < text.len() {
+        found = found | is_barred(text[i]);
+        i += 1;
+    }
+    found
+}
+
+// Whether a text holds a byte that no string may hold. Only a text with a low byte is looked through for one.
 pub fn holds_barred(text: &[u8]) -> bool
     ensures { λ r. ⌜ r ≡ holdsBarred (now (text .entry)) ⌝ }
 {
-    let n = text.len();
-    if BLOCK <= n {
-        return blocks_hold_barred(text, BLOCK);
+    if holds_low(text) {
+        return finds_barred(text);
     }
-    if HALF_BLOCK <= n {
-        return ends_hold_barred(text, HALF_BLOCK);
-    }
-    if QUARTER_BLOCK <= n {
-        return ends_hold_barred(text, QUARTER_BLOCK);
-    }
-    part_holds_barred(text, 0, n)
+    false
 }
 
 // Whether a string may stand in a field, judged for building as reading judges it.
