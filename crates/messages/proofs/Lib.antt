@@ -19,3 +19,4 @@ pub mod InPieces
 pub mod RoundTrips
 pub mod TwoForms
 pub mod Declared
+pub mod Clear

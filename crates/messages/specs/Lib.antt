@@ -6,3 +6,4 @@ pub mod Declared
 pub mod ReadOnly
 pub mod TwoForms
 pub mod RoundTrips
+pub mod Clear

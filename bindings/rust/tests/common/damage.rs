@@ -21,7 +21,7 @@ pub fn damage(rng: &mut Rng, bytes: &mut Vec<u8>) {
         // A byte that means something at many places.
         2 | 3 => {
             let at = place(rng, bytes);
-            bytes[at] = rng.of(&[0, 1, 2, 3, 8, 0x0A, 0x0B, 0xA0, 0xFF]);
+            bytes[at] = rng.of(&[0, 1, 2, 3, 8, 0x0A, 0x0B, 0x0D, 0xA0, 0xFF]);
         }
         // A length, or any other number, changed by one.
         4 => {

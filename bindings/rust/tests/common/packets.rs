@@ -439,8 +439,7 @@ impl Grammar<'_> {
         let length = text.len() as u16;
         match self.rng.below(7) {
             0 | 1 if length > 0 => {
-                let at = start + 2 + self.rng.below(text.len());
-                self.bytes[at] = 0;
+                strings::bar(self.rng, &mut self.bytes[start + 2..last]);
             }
             2 => self.bytes[last] = self.rng.byte(),
             3 => self.put_integer(start, length.wrapping_add(1)),

@@ -4,7 +4,13 @@ use super::packets::Kind;
 use super::rng::Rng;
 use crate::plain;
 
-/// Text that may stand in any string: letters mostly, any bytes but zero at times.
+/// The bytes that no string may hold: a zero, a line feed, a carriage return.
+pub const BARRED: [u8; 3] = [0, b'\n', b'\r'];
+
+/// Bytes that are close to those, as numbers or by what they are for, and may stand in any string.
+const NEAR: [u8; 9] = [1, b'\t', 11, 12, 14, 15, 0x7F, 0x85, 0x8D];
+
+/// Text that may stand in any string: letters mostly; at times any bytes but the barred ones, or bytes close to those.
 pub fn text(rng: &mut Rng) -> Vec<u8> {
     let length = rng.length();
     text_of(rng, length)
@@ -13,15 +19,40 @@ pub fn text(rng: &mut Rng) -> Vec<u8> {
 /// Such a text of so many bytes.
 pub fn text_of(rng: &mut Rng, length: usize) -> Vec<u8> {
     let mut text = rng.bytes(length);
-    let any = rng.one_in(8);
-    for byte in &mut text {
-        if any {
-            *byte = (*byte).max(1);
-        } else {
-            *byte = b'a' + *byte % 26;
+    match rng.below(16) {
+        0 | 1 => {
+            for byte in &mut text {
+                if BARRED.contains(byte) {
+                    *byte = rng.of(&NEAR);
+                }
+            }
+        }
+        2 => {
+            for byte in &mut text {
+                *byte = rng.of(&NEAR);
+            }
+        }
+        _ => {
+            for byte in &mut text {
+                *byte = b'a' + *byte % 26;
+            }
         }
     }
     text
+}
+
+/// A text with a byte in it that no string may hold.
+pub fn barred_text(rng: &mut Rng) -> Vec<u8> {
+    let mut text = text(rng);
+    text.push(b'a');
+    bar(rng, &mut text);
+    text
+}
+
+/// Puts a byte that no string may hold into a text that is not empty.
+pub fn bar(rng: &mut Rng, text: &mut [u8]) {
+    let at = rng.below(text.len());
+    text[at] = rng.of(&BARRED);
 }
 
 /// A string for a field that may be null or empty.
@@ -84,16 +115,26 @@ pub fn other_case(rng: &mut Rng, name: &[u8]) -> Vec<u8> {
     name
 }
 
-/// A spelled name that is refused: no token, listed for this packet, or transfer-encoding.
+/// A spelled name that is refused: no token, listed for this packet, transfer-encoding, or one with a barred byte, beside which it may have
+/// a fault of its own.
 pub fn bad_name(rng: &mut Rng, kind: Kind) -> Vec<u8> {
-    match rng.below(4) {
+    match rng.below(5) {
         0 => listed_name(rng, kind),
         1 => other_case(rng, b"transfer-encoding"),
         2 => other_case(rng, b"Content-Length"),
+        3 => {
+            let mut name = match rng.below(3) {
+                0 => listed_name(rng, kind),
+                1 => b"not a token".to_vec(),
+                _ => token(rng),
+            };
+            bar(rng, &mut name);
+            name
+        }
         _ => {
             let mut name = token(rng);
             let at = rng.below(name.len());
-            name[at] = rng.of(b" \t\r\n\"(),/:;<=>?@[\\]{}\x01\x1f\x7f\x80\xa0\xff");
+            name[at] = rng.of(b" \t\"(),/:;<=>?@[\\]{}\x01\x0b\x0c\x0e\x1f\x7f\x80\xa0\xff");
             name
         }
     }
@@ -114,9 +155,9 @@ pub fn content_length(rng: &mut Rng) -> Vec<u8> {
     }
 }
 
-/// A content-length that is refused.
+/// A content-length that is refused, by its own rule or by that of strings.
 pub fn bad_content_length(rng: &mut Rng) -> Option<Vec<u8>> {
-    let text: &[u8] = match rng.below(12) {
+    let text: &[u8] = match rng.below(16) {
         0 => return None,
         1 => b"",
         2 => b"4294967296",
@@ -128,6 +169,10 @@ pub fn bad_content_length(rng: &mut Rng) -> Option<Vec<u8>> {
         8 => b"0x10",
         9 => b"1,2",
         10 => b"/",
+        11 => b"1\t",
+        12 => b"1\n",
+        13 => b"\r1",
+        14 => b"+1\r\n",
         _ => b":",
     };
     Some(text.to_vec())

@@ -186,14 +186,8 @@ pub fn answer(rng: &mut Rng) -> Array<u32> {
 /// A string as an argument. Where it is null, its bytes are anything.
 pub fn text(rng: &mut Rng) -> Text {
     match rng.below(40) {
-        // A zero inside.
-        0 | 1 => {
-            let mut bytes = strings::text(rng);
-            bytes.push(0);
-            let at = rng.below(bytes.len());
-            bytes[at] = 0;
-            Text::of(&bytes)
-        }
+        // A zero or a line end inside.
+        0 | 1 => Text::of(&strings::barred_text(rng)),
         // Longer than any packet.
         2 if rng.one_in(12) => {
             let length = rng.of(&[8185, 8192, 65534, 65535, 65536, 70_000]);

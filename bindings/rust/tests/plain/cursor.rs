@@ -92,7 +92,7 @@ impl<'a> Cursor<'a> {
     /// Takes a string's bytes and its last zero, after its length.
     fn string_of(&mut self, length: u16) -> Result<&'a [u8], Refusal> {
         match self.take(usize::from(length) + 1)? {
-            [text @ .., 0] if !text.contains(&0) => Ok(text),
+            [text @ .., 0] if fields::is_text(text) => Ok(text),
             _ => Err(Refusal::STRING),
         }
     }

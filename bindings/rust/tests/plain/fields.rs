@@ -35,18 +35,23 @@ fn is_token_byte(byte: &u8) -> bool {
     )
 }
 
-/// Refuses a string with a zero inside.
+/// Whether a string's bytes are those that a string may have: no zero, no carriage return and no line feed.
+pub(super) fn is_text(bytes: &[u8]) -> bool {
+    !bytes.iter().any(|byte| matches!(byte, 0 | b'\r' | b'\n'))
+}
+
+/// Refuses a string with a zero or a line end inside.
 pub(super) fn check_string(value: Option<&[u8]>) -> Result<(), Refusal> {
     match value {
-        Some(text) if text.contains(&0) => Err(Refusal::STRING),
+        Some(text) if !is_text(text) => Err(Refusal::STRING),
         _ => Ok(()),
     }
 }
 
-/// The bytes of a string that may be neither null nor empty nor have a zero inside.
+/// The bytes of a string that may be neither null nor empty nor have a zero or a line end inside.
 pub(super) fn required(value: Option<&[u8]>) -> Result<&[u8], Refusal> {
     match value {
-        Some(text) if !text.is_empty() && !text.contains(&0) => Ok(text),
+        Some(text) if !text.is_empty() && is_text(text) => Ok(text),
         _ => Err(Refusal::STRING),
     }
 }
