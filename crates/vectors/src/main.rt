@@ -15,7 +15,7 @@ use vectors_text::text;
 use wire::part_of;
 
 // The list is shorter than this.
-const LIST: usize = 524288;
+const LIST: usize = 1048576;
 
 fn room_for_list() -> [u8; LIST] {
     [0; LIST]
