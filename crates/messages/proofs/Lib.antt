@@ -20,3 +20,4 @@ pub mod RoundTrips
 pub mod TwoForms
 pub mod Declared
 pub mod Clear
+pub mod Barred

@@ -7,3 +7,4 @@ pub mod ReadOnly
 pub mod TwoForms
 pub mod RoundTrips
 pub mod Clear
+pub mod Barred
