@@ -1,7 +1,9 @@
 //! Two ends of a connection and the two pipes between them, over the library alone: millions of
 //! random events, and after each of them what has to hold of the ends and the pipes. What crosses at
-//! the server's end is a capture: the checker goes along and has to accept every packet of it. And
-//! wherever the container's end stands, the two forms of an empty body packet come to the same.
+//! the server's end is a capture: the checker goes along and has to accept every packet of it.
+//! Wherever the container's end stands, the two forms of an empty body packet come to the same. And no
+//! string that a delivered packet hands out has a zero or a line end in it, though pieces with such
+//! strings are tried and such bytes are put into the buffer before closing.
 //!
 //! An event is one of the eight sends, with arguments that are often right and often not, or a
 //! delivery of the first packet of a pipe, alone or with those behind it. The environment sets the
@@ -13,7 +15,7 @@ mod common {
     pub mod settings;
 }
 
-use ajp13::{raw, Refusal};
+use ajp13::{raw, Attribute, HeaderName, Packet as Shown, Places, Received, Refusal};
 use common::rng::Rng;
 use common::settings;
 use std::collections::{BTreeMap, VecDeque};
@@ -131,6 +133,9 @@ struct Counts {
     /// How often both forms of an empty body packet would have been accepted, and how often refused by their size.
     empty_accepted: u64,
     empty_refused: u64,
+    /// Pieces with a line end or a zero in a string, which were refused; strings that were handed out.
+    barred_pieces: u64,
+    strings: u64,
 }
 
 /// Both ends, the pipes between them, and what was sent and received.
@@ -430,14 +435,48 @@ impl TwoEnds {
             );
         }
         for _ in 0..self.rng.below(3) {
-            let length = self.rng.length().min(3000);
-            let value = vec![b'v'; length];
+            let value = self.value();
+            self.refused_piece(&building, &value);
             raw::header_spelled(&mut building, &mut self.buffer, b"x-a", 0, &value, 0);
         }
         for _ in 0..self.rng.below(3) {
             raw::attribute_pair(&mut building, &mut self.buffer, 0x0A, b"a", 0, b"b", 0);
         }
         building
+    }
+
+    /// A header's value: letters, at times with a tab among them.
+    fn value(&mut self) -> Vec<u8> {
+        let length = self.rng.length().min(3000);
+        let mut value = vec![b'v'; length];
+        if length > 0 && self.rng.one_in(4) {
+            value[self.rng.below(length)] = b'\t';
+        }
+        value
+    }
+
+    /// Tries a header with a barred byte in its name or its value: it is refused with 6, where headers may come at all, and the
+    /// building record and the buffer are as they were.
+    fn refused_piece(&mut self, building: &Building, value: &[u8]) {
+        if building[raw::BUILDING_NEXT] == 0 {
+            return;
+        }
+        let mut name = b"x-a".to_vec();
+        let mut value = value.to_vec();
+        let byte = self.rng.of(&[0, b'\n', b'\r']);
+        if value.is_empty() || self.rng.one_in(4) {
+            name[self.rng.below(3)] = byte;
+        } else {
+            let at = self.rng.below(value.len());
+            value[at] = byte;
+        }
+        let mut after = *building;
+        let before = self.buffer.clone();
+        let status = raw::header_spelled(&mut after, &mut self.buffer, &name, 0, &value, 0);
+        assert_eq!(status, Refusal::StringWrong.number().into());
+        assert_eq!(after, *building);
+        assert!(self.buffer == before);
+        self.counts.barred_pieces += 1;
     }
 
     /// Builds a Send Headers in pieces, up to closing, in the same way.
@@ -447,8 +486,8 @@ impl TwoEnds {
         raw::begin_send_headers(&mut building, &mut self.buffer, status, b"OK", 0);
         for _ in 0..self.rng.below(4) {
             let code = 0xA000 + self.rng.between(1, 11) as u32;
-            let length = self.rng.length().min(3000);
-            let value = vec![b'v'; length];
+            let value = self.value();
+            self.refused_piece(&building, &value);
             raw::header_coded(&mut building, &mut self.buffer, code, &value, 0);
         }
         building
@@ -456,7 +495,7 @@ impl TwoEnds {
 
     /// Changes the building record or the buffer, so that closing is refused mostly.
     fn spoil(&mut self, building: &mut Building) {
-        match self.rng.below(5) {
+        match self.rng.below(7) {
             0 => {
                 let word = self.rng.between(1, 3);
                 building[word] = self.rng.short().into();
@@ -468,7 +507,11 @@ impl TwoEnds {
                 let built = (building[raw::BUILDING_NEXT] as usize).min(self.buffer.len());
                 if built > 0 {
                     let at = self.rng.below(built);
-                    self.buffer[at] = self.rng.byte();
+                    self.buffer[at] = if self.rng.one_in(3) {
+                        self.rng.byte()
+                    } else {
+                        self.rng.of(&[0, b'\n', b'\r'])
+                    };
                 }
             }
         }
@@ -510,6 +553,7 @@ impl TwoEnds {
             }
             _ => {}
         }
+        self.counts.strings += clear_strings(&bytes[..length], true);
         self.counts.delivered_to_container += 1;
         self.counts.delivered_with_others += u64::from(bytes.len() > length);
         self.to_container.pop_front();
@@ -529,6 +573,7 @@ impl TwoEnds {
         assert_eq!(status, raw::DONE, "a packet was not accepted: {bytes:02x?}");
         assert_eq!(answer[raw::ANSWER_BYTES] as usize, length);
         assert_eq!(answer[raw::ANSWER_KIND], kind);
+        self.counts.strings += clear_strings(&bytes[..length], false);
         self.counts.delivered_to_server += 1;
         self.counts.delivered_with_others += u64::from(bytes.len() > length);
         self.to_server.pop_front();
@@ -671,6 +716,62 @@ fn lent(pipe: &VecDeque<Packet>, first: &Packet, alone: bool) -> (Vec<u8>, u32, 
     (bytes, first.kind, first.bytes.len())
 }
 
+/// Reads a Forward or a Send Headers once more and looks at every string that it hands out: none has a zero or a line end in it.
+/// Answers how many there are.
+fn clear_strings(packet: &[u8], to_container: bool) -> u64 {
+    let mut places = Places::new();
+    let mut connection = ajp13::Connection::fresh();
+    let mut strings: Vec<&[u8]> = Vec::new();
+    let read = if to_container {
+        connection.read_at_container(packet, &mut places)
+    } else {
+        connection = ajp13::Connection::from_fields(ajp13::State::Busy, 0, false, 0, false);
+        connection.read_at_server(packet, &mut places)
+    };
+    let headers = match read {
+        Ok(Received::Accepted {
+            packet: Shown::Forward(forward),
+            ..
+        }) => {
+            strings.extend([forward.protocol(), forward.req_uri()]);
+            strings.extend(forward.remote_addr());
+            strings.extend(forward.remote_host());
+            strings.extend(forward.server_name());
+            for attribute in forward.attributes() {
+                match attribute {
+                    Attribute::Text { value, .. } => strings.extend(value),
+                    Attribute::Pair { name, value } => {
+                        strings.push(name);
+                        strings.extend(value);
+                    }
+                    _ => {}
+                }
+            }
+            forward.headers()
+        }
+        Ok(Received::Accepted {
+            packet: Shown::SendHeaders(response),
+            ..
+        }) => {
+            strings.extend(response.message());
+            response.headers()
+        }
+        // Any other packet has no strings.
+        _ => return 0,
+    };
+    for header in headers {
+        if let HeaderName::Spelled(name) = header.name {
+            strings.push(name);
+        }
+        strings.extend(header.value);
+    }
+    for string in &strings {
+        let barred = string.iter().any(|byte| [0, b'\n', b'\r'].contains(byte));
+        assert!(!barred, "{string:02x?} was handed out");
+    }
+    strings.len() as u64
+}
+
 impl Counts {
     /// Prints what happened.
     fn print(&self, seconds: f64) {
@@ -707,6 +808,10 @@ impl Counts {
             "  an empty body in either form accepted {} times, refused {} times",
             self.empty_accepted, self.empty_refused
         );
+        println!(
+            "  {} strings handed out, {} pieces with a zero or a line end refused",
+            self.strings, self.barred_pieces
+        );
     }
 
     /// Every kind of event has to happen often; in a short run it may not.
@@ -719,7 +824,7 @@ impl Counts {
             assert!(self.written[index] > often, "{kind:?} seldom written");
             assert!(self.refused[index] > often, "{kind:?} seldom refused");
         }
-        for number in [2, 7, 13, 14, 15, 16] {
+        for number in [2, 6, 7, 13, 14, 15, 16] {
             let times = self.refusals.get(&number).copied().unwrap_or_default();
             assert!(times > often / 10, "seldom refused by {number}");
         }
@@ -737,6 +842,8 @@ impl Counts {
             self.checked,
             self.empty_accepted,
             self.empty_refused,
+            self.barred_pieces,
+            self.strings,
         ] {
             assert!(times > often, "some kind of event seldom happened");
         }
