@@ -32,10 +32,10 @@
 
 #include "ajp13_words.h"
 
-#define AJP13_VERSION "0.2.2"
+#define AJP13_VERSION "0.3.0"
 #define AJP13_VERSION_MAJOR 0
-#define AJP13_VERSION_MINOR 2
-#define AJP13_VERSION_PATCH 2
+#define AJP13_VERSION_MINOR 3
+#define AJP13_VERSION_PATCH 0
 
 #ifdef __cplusplus
 extern "C" {
@@ -65,8 +65,9 @@ enum {
     AJP13_CUT_SHORT = 3,              /* the payload ends inside a field, or before a code that is due */
     AJP13_CODE_WRONG = 4,             /* the packet's code is not one of this direction */
     AJP13_CODE_NOT_SERVED = 5,        /* Shutdown (7) or Ping (8), which are not served */
-    AJP13_STRING_WRONG = 6,           /* a string that is null or empty where it may not be, that holds a zero, or
-                                         whose last byte is not zero; also a body chunk's last byte */
+    AJP13_STRING_WRONG = 6,           /* a string that is null or empty where it may not be, that holds a zero or a line
+                                         end (a line feed, a carriage return), or whose last byte is not zero; also a
+                                         body chunk's last byte */
     AJP13_OUT_OF_RANGE = 7,           /* a method, a boolean or a status out of range */
     AJP13_NAME_WRONG = 8,             /* a header's name: a code that is not listed, not a token, or listed but
                                          spelled out */
@@ -127,7 +128,7 @@ static inline const char *ajp13_status_text(uint32_t status)
     case AJP13_CUT_SHORT: return "cut short";
     case AJP13_CODE_WRONG: return "code not of this direction";
     case AJP13_CODE_NOT_SERVED: return "code not served";
-    case AJP13_STRING_WRONG: return "bad string";
+    case AJP13_STRING_WRONG: return "bad string, or a zero or a line end in one";
     case AJP13_OUT_OF_RANGE: return "number out of range";
     case AJP13_NAME_WRONG: return "bad header name";
     case AJP13_ATTRIBUTE_WRONG: return "bad attribute code";
@@ -573,8 +574,9 @@ static inline uint32_t ajp13_end(ajp13_connection *connection, uint8_t *buffer, 
  * ------------------------------------------------------------------------------------------------------------------ */
 
 /*
- * A string as it is given to the calls that build: its bytes, which may not hold a zero (AJP13_STRING_WRONG), and
- * whether it is null. A null string is not the same as an empty one.
+ * A string as it is given to the calls that build: its bytes, and whether it is null. A null string is not the same as
+ * an empty one. Among its bytes may be no zero, no line feed (10) and no carriage return (13): such a string is refused
+ * with AJP13_STRING_WRONG, whichever field it is for. A certificate in PEM form has line ends.
  *
  *   bytes   may be NULL: the string has no bytes then, whatever length says.
  *   length  how many bytes there are; no zero behind them is needed, and none is counted.
@@ -845,6 +847,9 @@ static inline uint32_t ajp13_close(ajp13_connection *connection, const ajp13_bui
  *   packet  the bytes that were read; there may be more behind the packet.
  *   place   a place from the answer or from the table, at most 65535 (else AJP13_ERROR_ARGUMENT). Any place gets an
  *           answer; at those that reading told it is the packet's field.
+ *
+ * No string of a packet that was accepted holds a zero, a line feed or a carriage return, so none can end a line or
+ * become a second header where it is passed on. The bytes of bodies and chunks may be any.
  *
  * With h headers, header i has its name's place in table[2 * i] and its value's in table[2 * i + 1]; attribute j has
  * its code's place in table[2 * (h + j)] and its value's in table[2 * (h + j) + 1].

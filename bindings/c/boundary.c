@@ -196,6 +196,65 @@ static void forwards(void)
     }
 }
 
+/* A zero or a line end in a string, of each field: refused as a string, before what a name or a length is refused with. */
+static void line_ends(void)
+{
+    static const unsigned char barred[] = {0, 10, 13};
+    static const unsigned char others[] = {9, 11, 12, 14, 127, 255};
+    ajp13_string a = ajp13_chars("a");
+    ajp13_forward forward;
+    unsigned char text[40];
+    ajp13_string with;
+    size_t i;
+
+    memset(text, '7', sizeof text);
+    with = ajp13_bytes(text, sizeof text);
+    for (i = 0; i < COUNT(barred); i++) {
+        text[COUNT(text) - 1 - i * 16] = barred[i];
+        forward = request();
+        forward.protocol = with;
+        LEFT(ajp13_begin_forward(&lent.building, OUT, &forward), AJP13_STRING_WRONG);
+        forward = request();
+        forward.req_uri = with;
+        LEFT(ajp13_begin_forward(&lent.building, OUT, &forward), AJP13_STRING_WRONG);
+        forward = request();
+        forward.remote_addr = with;
+        LEFT(ajp13_begin_forward(&lent.building, OUT, &forward), AJP13_STRING_WRONG);
+        forward = request();
+        forward.remote_host = with;
+        LEFT(ajp13_begin_forward(&lent.building, OUT, &forward), AJP13_STRING_WRONG);
+        forward = request();
+        forward.server_name = with;
+        LEFT(ajp13_begin_forward(&lent.building, OUT, &forward), AJP13_STRING_WRONG);
+        LEFT(ajp13_begin_send_headers(&lent.building, OUT, 200, with), AJP13_STRING_WRONG);
+
+        begin_forward();
+        LEFT(ajp13_header_named(&lent.building, OUT, with, a), AJP13_STRING_WRONG);
+        LEFT(ajp13_header_spelled(&lent.building, OUT, with, a), AJP13_STRING_WRONG);
+        LEFT(ajp13_header_named(&lent.building, OUT, ajp13_chars("Content-Length"), with), AJP13_STRING_WRONG);
+        LEFT(ajp13_header_coded(&lent.building, OUT, 0xA001, with), AJP13_STRING_WRONG);
+        LEFT(ajp13_attribute_text(&lent.building, OUT, AJP13_ATTRIBUTE_SSL_CERT, with), AJP13_STRING_WRONG);
+        LEFT(ajp13_attribute_pair(&lent.building, OUT, AJP13_ATTRIBUTE_REQ_ATTRIBUTE, with, a), AJP13_STRING_WRONG);
+        LEFT(ajp13_attribute_pair(&lent.building, OUT, AJP13_ATTRIBUTE_REQ_ATTRIBUTE, a, with), AJP13_STRING_WRONG);
+
+        /* The same byte put into the buffer behind a piece: closing finds it. */
+        IS(ajp13_header_coded(&lent.building, OUT, 0xA001, ajp13_chars("7777")), AJP13_DONE);
+        lent.buffer[lent.building.words[AJP13_BUILDING_NEXT] - 3] = barred[i];
+        connection(AJP13_STATE_IDLE, 0, 0, 0, 0);
+        LEFT(ajp13_close(&lent.connection, &lent.building, OUT, &lent.answer), AJP13_STRING_WRONG);
+        text[COUNT(text) - 1 - i * 16] = '7';
+    }
+    for (i = 0; i < COUNT(others); i++) {
+        text[i] = others[i];
+        begin_forward();
+        LEFT(ajp13_header_spelled(&lent.building, OUT, with, a), AJP13_NAME_WRONG);
+        LEFT(ajp13_header_coded(&lent.building, OUT, 0xA008, with), AJP13_CONTENT_LENGTH_WRONG);
+        IS(ajp13_header_coded(&lent.building, OUT, 0xA001, with), AJP13_DONE);
+        IS(ajp13_attribute_text(&lent.building, OUT, AJP13_ATTRIBUTE_SSL_CERT, with), AJP13_DONE);
+    }
+    IS(strcmp(ajp13_status_text(AJP13_STRING_WRONG), "bad string, or a zero or a line end in one"), 0);
+}
+
 /* Codes and a status above 65535: those of a number that is not listed or out of range. None is cut to 16 bits. */
 static void codes(void)
 {
@@ -863,6 +922,7 @@ int main(void)
     building_records();
     ends();
     forwards();
+    line_ends();
     codes();
     words_that_do_not_count();
     connections_out_of_range();

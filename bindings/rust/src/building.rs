@@ -503,6 +503,9 @@ impl<'b> ForwardAttributes<'b> {
 /// let head = SendHeadersHead { status: 200, message: Some(b"OK") };
 /// let mut headers = head.begin(&mut buffer)?;
 /// headers.header(b"content-length", Some(b"2"))?;
+/// // No zero and no line end may stand in a string: a label would become a second header.
+/// let label = b"tree 12\r\nSet-Cookie: a=b";
+/// assert_eq!(headers.header(b"X-Label", Some(label)).unwrap_err(), Refusal::StringWrong);
 /// let packet = headers.close(&mut container)?;
 /// assert_eq!(packet, b"AB\x00\x10\x04\x00\xC8\x00\x02OK\0\x00\x01\xA0\x03\x00\x012\0");
 /// assert!(container.headers_sent());

@@ -131,7 +131,9 @@ impl<'a> Received<'a> {
 
 /// A packet that was accepted.
 ///
-/// The container's end gets `CPing`, `Forward` and `Body`, the server's end the others.
+/// The container's end gets `CPing`, `Forward` and `Body`, the server's end the others. No string of it, be it a name, a
+/// value, an attribute, a message or one of the fixed strings, holds a zero, a line feed or a carriage return, so none
+/// can end a line or become a second header where it is passed on. The bytes of `Body` and `BodyChunk` may be any.
 #[derive(Clone, Copy, PartialEq, Eq, Hash)]
 pub enum Packet<'a> {
     /// CPing.

@@ -34,8 +34,8 @@ pub enum Refusal {
     CodeWrong = 4,
     /// Shutdown or Ping, which are not served.
     CodeNotServed = 5,
-    /// A string that is null or empty where it may not be, that holds a zero, or whose last byte is not zero; also a
-    /// body chunk's last byte.
+    /// A string that is null or empty where it may not be, that holds a zero or a line end (a line feed, a carriage
+    /// return), or whose last byte is not zero; also a body chunk's last byte.
     StringWrong = 6,
     /// A method, a boolean or a status out of range.
     OutOfRange = 7,
@@ -148,7 +148,7 @@ impl fmt::Display for Refusal {
             Refusal::CutShort => "cut short",
             Refusal::CodeWrong => "code not of this direction",
             Refusal::CodeNotServed => "code not served",
-            Refusal::StringWrong => "bad string",
+            Refusal::StringWrong => "bad string, or a zero or a line end in one",
             Refusal::OutOfRange => "number out of range",
             Refusal::NameWrong => "bad header name",
             Refusal::AttributeWrong => "bad attribute code",

@@ -431,8 +431,11 @@ fn a_refused_piece_adds_nothing() {
             .header(b"content-length", Some(b"4294967296"))
             .unwrap_err(),
         headers.header(b"x", Some(&[b'x'; 8192])).unwrap_err(),
+        headers.header(b"x", Some(b"tree\r\nx: y")).unwrap_err(),
+        headers.header(b"content\rtype", None).unwrap_err(),
+        headers.header(b"content-length", Some(b"1\n")).unwrap_err(),
     ];
-    assert_eq!(refused.map(Refusal::number), [8, 8, 6, 10, 10, 2]);
+    assert_eq!(refused.map(Refusal::number), [8, 8, 6, 10, 10, 2, 6, 6, 6]);
     assert_eq!(headers.building(), &before);
 
     let mut attributes = headers.attributes();
@@ -444,8 +447,14 @@ fn a_refused_piece_adds_nothing() {
         attributes
             .text(attribute::ROUTE, Some(b"a\0b"))
             .unwrap_err(),
+        attributes
+            .text(
+                attribute::SSL_CERT,
+                Some(b"-----BEGIN CERTIFICATE-----\nMIIB"),
+            )
+            .unwrap_err(),
     ];
-    assert_eq!(refused.map(Refusal::number), [9, 9, 9, 6, 6]);
+    assert_eq!(refused.map(Refusal::number), [9, 9, 9, 6, 6, 6]);
     assert_eq!(attributes.building(), &before);
     assert_eq!(attributes.close(&mut server).unwrap(), GET);
     assert_eq!(server, busy(0, None, false));
