@@ -8,8 +8,7 @@ use mathlib.Core.Bool.{Bool, true, false, not, false≢true}
 use mathlib.Core.List.{List, [], _∷_, _++_, append-assoc}
 use Prim.Native.Nat.{ℕ, suc, _+_, _<_}
 use lib.Dec.{eqb}
-use lib.ListN.{length, getD, length-append}
-use lib.Seq.{getD-append-seam, getD-append-add}
+use lib.ListN.{length, length-append}
 use Rattle.wire.specs.Pick.{pick, both}
 use Rattle.wire.specs.Bytes.{integerBytes}
 use Rattle.wire.specs.Field.{isOptional, lacks, holdsBarred, textAt, stringOf, stringAt, stringBytes, stringAllowed, nullLength}
@@ -17,20 +16,18 @@ use Rattle.wire.specs.declared.StringField.{StringField}
 use Rattle.wire.specs.declared.read.NumberRead.{NumberRead}
 use Rattle.wire.specs.declared.read.StringRead.{StringRead}
 use Rattle.wire.proofs.Bytes.{part-middle}
-use Rattle.wire.proofs.Field.{string-is, after-is, text-closed}
+use Rattle.wire.proofs.Field.{string-is, after-is, text-barred}
 use Rattle.wire.proofs.RoundTrip.{integer-written, string-written}
-use Rattle.wire.specs.Facts.{written}
 use Rattle.wire.specs.Refusal.{stringWrong}
 use Rattle.building.specs.Fault.{stringFault}
 use Rattle.building.specs.Judged.{judged}
 
--- a text that holds a byte which no string may hold
-text-barred : (p t b : List ℕ) → holdsBarred t ≡ true → textAt (p ++ (t ++ (0 ∷ b))) (length p) (length t) ≡ StringRead.Refused stringWrong
-text-barred p t b held =
+-- a text that holds a byte which no string may hold, and is written with a zero behind it
+written-barred : (p t b : List ℕ) → holdsBarred t ≡ true → textAt (p ++ (t ++ (0 ∷ b))) (length p) (length t) ≡ StringRead.Refused stringWrong
+written-barred p t b held =
     let s : List ℕ = p ++ (t ++ (0 ∷ b)) in
     let n : length s ≡ length p + (length t + suc (length b)) = length-append p (t ++ (0 ∷ b)) ∙ ap (λ (m : ℕ). length p + m) (length-append t (0 ∷ b)) in
-    let last : getD s (length p + length t) 0 ≡ 0 = getD-append-add p (t ++ (0 ∷ b)) (length t) 0 ∙ getD-append-seam t 0 b 0 in
-    sym (text-closed s (length p) (length t) true (omega arith) last (sym (ap holdsBarred (part-middle p t (0 ∷ b)) ∙ held)))
+    sym (text-barred s (length p) (length t) (omega arith) (ap holdsBarred (part-middle p t (0 ∷ b)) ∙ held))
 
 -- a text that may not stand in the field
 text-refused : (a b : List ℕ) (optional : Bool) (text : List ℕ) → length text < nullLength → stringAllowed optional false text ≡ false
@@ -68,7 +65,7 @@ text-refused a b optional text h bad = go (lacks optional false n) (holdsBarred 
         ∙ sym (after-is s optional n (length a + 2) false false (ap (λ (t : Bool). lacks optional t n) some ∙ e) some)
         ∙ ap (λ (l : List ℕ). textAt l (length a + 2) n) parted
         ∙ ap (λ (i : ℕ). textAt (p ++ (text ++ (0 ∷ b))) i n) (sym two)
-        ∙ text-barred p text b f
+        ∙ written-barred p text b f
     go false false e f g = absurd (false≢true (sym g))
 
 -- a string that may not stand in the field

@@ -6,36 +6,26 @@ use mathlib.Core.Bool.{Bool, true, false, not}
 use mathlib.Core.List.{List}
 use Prim.Native.Nat.{ℕ, _+_, _≤_}
 use native.Mathlib.Omega.{arith}
-use borrow.Author.Tests.{le-leb, ne-eqb, eqb-true, eqb-false}
+use borrow.Author.Tests.{le-leb, ne-eqb}
 use lib.Dec.{eqb}
 use lib.ListN.{length, getD}
 use Rattle.wire.specs.Pick.{pick, both}
 use Rattle.wire.specs.Refusal.{stringWrong}
-use Rattle.wire.specs.Bytes.{part, integerIn}
-use Rattle.wire.specs.Field.{integerAt, nullLength, isOptional, lacks, holdsBarred, textAt, afterLength, stringAt, stringAllowed}
+use Rattle.wire.specs.Bytes.{integerIn}
+use Rattle.wire.specs.Field.{integerAt, nullLength, isOptional, lacks, holdsBarred, afterLength, stringAt, stringAllowed}
 use Rattle.wire.specs.declared.StringField.{StringField}
 use Rattle.wire.specs.declared.read.NumberRead.{NumberRead}
 use Rattle.wire.specs.declared.read.StringRead.{StringRead}
-use Rattle.wire.proofs.Field.{number-read, string-is, after-is, text-open, text-closed}
+use Rattle.wire.proofs.Field.{number-read, string-is, after-is, text-barred}
 use Rattle.packet.specs.declared.Direction.{Direction}
 use Rattle.names.specs.Header.{beginsCode, spelledFault}
-use Rattle.headers.specs.Headers.{spelledOf, nameAt, headerValueOf, headerValueAt}
+use Rattle.headers.specs.Headers.{spelledOf, nameAt, declaredAfter, headerValueOf, headerValueAt}
 use Rattle.headers.specs.declared.NameRead.{NameRead}
 use Rattle.headers.specs.declared.HeaderRead.{HeaderRead}
 use Rattle.headers.specs.declared.length.Declared.{Declared}
-use Rattle.headers.specs.Headers.{declaredAfter}
 use Rattle.building.specs.Fault.{orElse, stringFault}
-use Rattle.pieces.specs.Header.{spelledName, lengthFault, valueFault}
+use Rattle.pieces.specs.Header.{lengthFault, valueFault}
 use Rattle.messages.specs.Barred.{BarredAt, BarredFirst}
-
--- a text that holds such a byte, whatever the byte behind it is
-text-barred : (s : List ℕ) (start len : ℕ) → start + (len + 1) ≤ length s → holdsBarred (part s start len) ≡ true
-    → textAt s start len ≡ StringRead.Refused stringWrong
-text-barred s start len fits held = go (eqb (getD s (start + len) 0) 0) refl
-  where
-    go : (t : Bool) → eqb (getD s (start + len) 0) 0 ≡ t → textAt s start len ≡ StringRead.Refused stringWrong
-    go true e = sym (text-closed s start len true fits (eqb-true (getD s (start + len) 0) 0 e) (sym held))
-    go false e = sym (text-open s start len fits (eqb-false (getD s (start + len) 0) 0 e))
 
 -- a string that is read
 string-barred : (field : StringField) (s : List ℕ) (at : ℕ) → BarredAt s at → stringAt s at (isOptional field) ≡ StringRead.Refused stringWrong
@@ -56,7 +46,7 @@ string-barred field s at h =
     go false e =
         sym (after-is s (isOptional field) (integerIn s at) (at + 2) false false
         (ap (λ (none : Bool). lacks (isOptional field) none (integerIn s at)) some ∙ e) some)
-        ∙ text-barred s (at + 2) (integerIn s at) (h .whole) (h .held)
+        ∙ sym (text-barred s (at + 2) (integerIn s at) (h .whole) (h .held))
 
 -- a header's name that is read
 name-barred : (d : Direction) (s : List ℕ) (at : ℕ) → beginsCode (getD s at 0) ≡ false → BarredAt s at → nameAt d s at ≡ NameRead.Refused stringWrong

@@ -10,12 +10,13 @@ use Prim.Native.Nat.{ℕ, _+_, _≤_}
 use lib.Dec.{leb, ltb, eqb}
 use lib.ListN.{length, getD, drop, length-drop, take-append-drop}
 use lib.Seq.{getD-take}
-use Rattle.wire.specs.Pick.{pick, either}
+use Rattle.wire.specs.Pick.{pick}
 use Rattle.wire.specs.Bytes.{part, integerIn}
 use Rattle.wire.specs.Field.{integerAt}
 use Rattle.wire.specs.Packet.{leading, packetHead, packet, payloadPlace, lengthPlace}
 use Rattle.packet.specs.declared.Direction.{Direction}
 use Rattle.wire.specs.declared.read.NumberRead.{NumberRead}
+use Rattle.wire.proofs.Tests.{neither-first, neither-second}
 use Rattle.wire.proofs.Field.{number-read}
 use Rattle.wire.proofs.Bytes.{length-part, part-add, part-one}
 use Rattle.wire.proofs.RoundTrip.{integer-kept}
@@ -61,16 +62,6 @@ byte-same s at byte h e = go (eqb (getD s at 0) byte) refl (rw (le-leb (at + 1) 
     go : (t : Bool) → eqb (getD s at 0) byte ≡ t → not t ≡ false → getD s at 0 ≡ byte
     go true p q = eqb-true (getD s at 0) byte p
     go false p q = absurd (false≢true (sym q))
-
--- of two tests of which none holds, the first does not
-neither-first : (a b : Bool) → either a b ≡ false → a ≡ false
-neither-first false b e = refl
-neither-first true b e = e
-
--- nor does the second
-neither-second : (a b : Bool) → either a b ≡ false → b ≡ false
-neither-second false b e = e
-neither-second true b e = absurd (false≢true (sym e))
 
 -- a length whose packet is whole is told by the frame
 length-whole : (there payload n : ℕ) → lengthAt there payload ≡ FrameRead.Whole n → payloadPlace + payload ≡ n

@@ -60,6 +60,14 @@ module _ (s : List ℕ) (start len : ℕ) where
   text-closed true h z e = simp (le-leb, z, ← e)
   text-closed false h z e = simp (le-leb, z, ← e)
 
+  -- with a barred byte among them, whatever the byte behind them is
+  pub text-barred : start + (len + 1) ≤ length s → holdsBarred (part s start len) ≡ true → StringRead.Refused stringWrong ≡ textAt s start len
+  text-barred h held = go (eqb (getD s (start + len) 0) 0) refl
+    where
+      go : (t : Bool) → eqb (getD s (start + len) 0) 0 ≡ t → StringRead.Refused stringWrong ≡ textAt s start len
+      go true e = text-closed true h (eqb-true (getD s (start + len) 0) 0 e) (sym held)
+      go false e = text-open h (eqb-false (getD s (start + len) 0) 0 e)
+
 -- the test on a string to be written, by its tests; a proof that does not reach a test says `refl`
 pub allowed-is : (optional null : Bool) (text : List ℕ) (lack none barred : Bool) → lacks optional null (length text) ≡ lack → null ≡ none
     → holdsBarred text ≡ barred → both (not lack) (either none (not barred)) ≡ stringAllowed optional null text

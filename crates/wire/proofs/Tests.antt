@@ -1,6 +1,6 @@
 -- Facts about two tests.
 -- Assumes nothing.
-use mathlib.Core.Path.{_≡_, refl}
+use mathlib.Core.Path.{_≡_, refl, sym}
 use mathlib.Core.Bool.{Bool, true, false, false≢true}
 use Rattle.wire.specs.Pick.{both, either}
 
@@ -28,3 +28,12 @@ both-first false b e = e
 pub both-second : (a b : Bool) → both a b ≡ true → b ≡ true
 both-second true b e = e
 both-second false b e = absurd (false≢true e)
+
+-- of two tests of which none holds, neither does
+pub neither-first : (a b : Bool) → either a b ≡ false → a ≡ false
+neither-first true b e = e
+neither-first false b e = refl
+
+pub neither-second : (a b : Bool) → either a b ≡ false → b ≡ false
+neither-second true b e = absurd (false≢true (sym e))
+neither-second false b e = e
