@@ -846,7 +846,7 @@ static inline uint32_t ajp13_close(ajp13_connection *connection, const ajp13_bui
  *
  *   packet  the bytes that were read; there may be more behind the packet.
  *   place   a place from the answer or from the table, at most 65535 (else AJP13_ERROR_ARGUMENT). Any place gets an
- *           answer; at those that reading told it is the packet's field.
+ *           answer; at those that reading told for a field of that sort it is the packet's field.
  *
  * No string of a packet that was accepted holds a zero, a line feed or a carriage return, so none can end a line or
  * become a second header where it is passed on. The bytes of bodies and chunks may be any.

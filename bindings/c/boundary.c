@@ -1,7 +1,8 @@
 /*
- * What a call answers to numbers out of range, to words that do not count, to impossible building records and checks,
- * to both forms of an empty body packet, to captures that are as long as can be and to arrays of the wrong length. Every
- * status is looked at, and where a call is not done, that everything lent is as it was.
+ * What a call answers to numbers out of range, to a zero or a line end in a string, to words that do not count, to
+ * impossible building records and checks, to both forms of an empty body packet, to captures that are as long as can be
+ * and to arrays of the wrong length. Every status is looked at, and where a call is not done, that everything lent is as
+ * it was.
  *
  * Prints how many calls were looked at, and a line for each that is wrong. It is C and C++ alike.
  */

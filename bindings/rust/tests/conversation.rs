@@ -553,7 +553,9 @@ impl TwoEnds {
             }
             _ => {}
         }
-        self.counts.strings += clear_strings(&bytes[..length], true);
+        if kind == raw::KIND_FORWARD {
+            self.counts.strings += clear_strings(&bytes[..length], true);
+        }
         self.counts.delivered_to_container += 1;
         self.counts.delivered_with_others += u64::from(bytes.len() > length);
         self.to_container.pop_front();
@@ -573,7 +575,9 @@ impl TwoEnds {
         assert_eq!(status, raw::DONE, "a packet was not accepted: {bytes:02x?}");
         assert_eq!(answer[raw::ANSWER_BYTES] as usize, length);
         assert_eq!(answer[raw::ANSWER_KIND], kind);
-        self.counts.strings += clear_strings(&bytes[..length], false);
+        if kind == raw::KIND_SEND_HEADERS {
+            self.counts.strings += clear_strings(&bytes[..length], false);
+        }
         self.counts.delivered_to_server += 1;
         self.counts.delivered_with_others += u64::from(bytes.len() > length);
         self.to_server.pop_front();
@@ -756,8 +760,7 @@ fn clear_strings(packet: &[u8], to_container: bool) -> u64 {
             strings.extend(response.message());
             response.headers()
         }
-        // Any other packet has no strings.
-        _ => return 0,
+        other => panic!("{other:?}"),
     };
     for header in headers {
         if let HeaderName::Spelled(name) = header.name {

@@ -18,15 +18,19 @@ enum Sort {
     RequestValue,
     SpelledValue,
     NamedValue,
+    UnlistedValue,
     AttributeText,
     PairName,
     PairValue,
     Message,
     ResponseName,
+    ResponseNamedName,
     ResponseValue,
+    ResponseSpelledValue,
+    ResponseNamedValue,
 }
 
-const SORTS: [Sort; 16] = [
+const SORTS: [Sort; 20] = [
     Sort::Protocol,
     Sort::ReqUri,
     Sort::RemoteAddr,
@@ -37,20 +41,25 @@ const SORTS: [Sort; 16] = [
     Sort::RequestValue,
     Sort::SpelledValue,
     Sort::NamedValue,
+    Sort::UnlistedValue,
     Sort::AttributeText,
     Sort::PairName,
     Sort::PairValue,
     Sort::Message,
     Sort::ResponseName,
+    Sort::ResponseNamedName,
     Sort::ResponseValue,
+    Sort::ResponseSpelledValue,
+    Sort::ResponseNamedValue,
 ];
 
 /// The byte that a text is made of; it stands nowhere else in a packet.
 const FILL: u8 = b'Z';
 
-/// The refusals of a string and of a name.
+/// The refusals of a string, of a name and of a content-length.
 const STRING_WRONG: u32 = 6;
 const NAME_WRONG: u32 = 8;
+const LENGTH_WRONG: u32 = 10;
 
 /// A building record and the buffer in which its packet stands so far.
 #[derive(Clone, Debug, PartialEq, Eq)]
@@ -63,14 +72,19 @@ impl Sort {
     fn is_response(self) -> bool {
         matches!(
             self,
-            Sort::Message | Sort::ResponseName | Sort::ResponseValue
+            Sort::Message
+                | Sort::ResponseName
+                | Sort::ResponseNamedName
+                | Sort::ResponseValue
+                | Sort::ResponseSpelledValue
+                | Sort::ResponseNamedValue
         )
     }
 
     fn is_name(self) -> bool {
         matches!(
             self,
-            Sort::RequestName | Sort::NamedName | Sort::ResponseName
+            Sort::RequestName | Sort::NamedName | Sort::ResponseName | Sort::ResponseNamedName
         )
     }
 
@@ -120,12 +134,18 @@ impl Sort {
             Sort::RequestName | Sort::ResponseName => {
                 raw::header_spelled(building, buffer, text, 0, b"v", 0)
             }
-            Sort::NamedName => raw::header_named(building, buffer, text, b"v", 0),
+            Sort::NamedName | Sort::ResponseNamedName => {
+                raw::header_named(building, buffer, text, b"v", 0)
+            }
             Sort::RequestValue | Sort::ResponseValue => {
                 raw::header_coded(building, buffer, 0xA001, text, 0)
             }
-            Sort::SpelledValue => raw::header_spelled(building, buffer, b"x", 0, text, 0),
+            Sort::SpelledValue | Sort::ResponseSpelledValue => {
+                raw::header_spelled(building, buffer, b"x", 0, text, 0)
+            }
             Sort::NamedValue => raw::header_named(building, buffer, b"Host", text, 0),
+            Sort::ResponseNamedValue => raw::header_named(building, buffer, b"Location", text, 0),
+            Sort::UnlistedValue => raw::header_named(building, buffer, b"x-label", text, 0),
             Sort::AttributeText => raw::attribute_text(building, buffer, 0x07, text, 0),
             Sort::PairName => raw::attribute_pair(building, buffer, 0x0A, text, 0, b"v", 0),
             Sort::PairValue => raw::attribute_pair(building, buffer, 0x0A, b"n", 0, text, 0),
@@ -259,23 +279,87 @@ fn every_place_in_longer_strings() {
     }
 }
 
-/// Text beside a barred byte that makes the rest look through it: no other byte of a text takes a barred one's place.
+/// Barred bytes among other low ones: the second look at a text tells them apart at every place.
 #[test]
-fn barred_bytes_among_others_near_them() {
+fn barred_bytes_among_other_low_ones() {
     for sort in SORTS {
         if sort.is_name() {
             continue;
         }
         for length in 1..=70 {
-            let near: Vec<u8> = (0..length).map(|at| [9, 11, 12, 14][at % 4]).collect();
-            assert!(sort.build(&near).is_ok(), "{sort:?} of {length}");
+            let low: Vec<u8> = (0..length).map(|at| [9, 11, 12, 14][at % 4]).collect();
+            let built = sort.build(&low).expect("these bytes may stand there");
+            let packet = built.clone().close(sort).expect("the packet is right");
+            assert_eq!(sort.read(&packet), raw::DONE);
+            // A text of as many other bytes shows where it stands.
+            let other = sort
+                .build(&vec![FILL; length])
+                .expect("the fill byte may stand anywhere");
+            let in_buffer = place_of(&other.buffer, length);
+            let in_packet = place_of(&other.close(sort).expect("the packet is right"), length);
             for at in 0..length {
                 for byte in [0, b'\n', b'\r'] {
-                    let mut text = near.clone();
+                    let mut text = low.clone();
                     text[at] = byte;
                     assert_eq!(sort.build(&text), Err(STRING_WRONG), "{sort:?} of {length}");
+
+                    let mut changed = built.clone();
+                    changed.buffer[in_buffer + at] = byte;
+                    assert_eq!(
+                        changed.close(sort),
+                        Err(STRING_WRONG),
+                        "{sort:?} of {length}"
+                    );
+
+                    let mut changed = packet.clone();
+                    changed[in_packet + at] = byte;
+                    assert_eq!(sort.read(&changed), STRING_WRONG, "{sort:?} of {length}");
                 }
             }
+        }
+    }
+}
+
+/// In a content-length a barred byte is refused as in any string, and any other byte that is no digit as no length.
+#[test]
+fn every_byte_in_a_content_length() {
+    let sort = Sort::RequestValue;
+    let with = |value: &[u8], coded: bool| {
+        let mut built = Sort::ReqUri
+            .build(b"/")
+            .expect("the fixed fields are right");
+        built
+            .add(|building, buffer| {
+                if coded {
+                    raw::header_coded(building, buffer, 0xA008, value, 0)
+                } else {
+                    raw::header_named(building, buffer, b"Content-Length", value, 0)
+                }
+            })
+            .map(|()| built)
+    };
+    let built = with(b"77777", true).expect("the length is right");
+    let packet = built.clone().close(sort).expect("the packet is right");
+    for at in 0..5 {
+        for byte in 0..=255 {
+            let expected = match byte {
+                0 | b'\n' | b'\r' => STRING_WRONG,
+                b'0'..=b'9' => raw::DONE,
+                _ => LENGTH_WRONG,
+            };
+            let mut value = *b"77777";
+            value[at] = byte;
+            for coded in [true, false] {
+                assert_eq!(with(&value, coded).err().unwrap_or(raw::DONE), expected);
+            }
+            // Behind the value stands its zero; in the packet the FF stands behind that.
+            let mut changed = built.clone();
+            let end = changed.building[raw::BUILDING_NEXT] as usize - 1;
+            changed.buffer[end - 5 + at] = byte;
+            assert_eq!(changed.close(sort).err().unwrap_or(raw::DONE), expected);
+            let mut changed = packet.clone();
+            changed[packet.len() - 7 + at] = byte;
+            assert_eq!(sort.read(&changed), expected);
         }
     }
 }

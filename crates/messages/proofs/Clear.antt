@@ -1,7 +1,7 @@
 -- No zero and no line end in any string, all by the one rule of strings (`allowed-clear` in `wire`): a string that reading let by, or that
 -- building found no fault in, may stand in its field, and a text that may is clear.
 -- Assumes nothing.
-use mathlib.Core.Path.{_≡_, refl, sym, ap, subst}
+use mathlib.Core.Path.{_≡_, refl, sym, ap, subst, _∙_}
 use mathlib.Core.Bool.{Bool, true, false}
 use mathlib.Core.List.{List, [], _∷_, _++_}
 use Prim.Native.Nat.{ℕ, _+_, _≤_}
@@ -40,9 +40,9 @@ use Rattle.payload.specs.declared.found.PacketRead.{PacketRead}
 use Rattle.payload.specs.Handed.{StringEnds, NameEnds, StringThere, HeadersHanded, ValueThere, AttributesHanded}
 use Rattle.payload.proofs.Handed.{NameFine, name-fine, forward-handed, send-headers-handed}
 use Rattle.building.specs.Fault.{stringFault, firstFault}
-use Rattle.building.specs.Call.{Call, refused, done, outcome, refusalOf}
+use Rattle.building.specs.Call.{Call, withFault, refused, done, outcome, refusalOf}
 use Rattle.building.specs.Sent.{Written}
-use Rattle.building.proofs.Faults.{faultless}
+use Rattle.building.proofs.Faults.{faultless, faults-append}
 use Rattle.building.proofs.Sizes.{or-first}
 use Rattle.building_record.specs.declared.Building.{Building}
 use Rattle.building_record.specs.Record.{directionIn}
@@ -57,7 +57,7 @@ use Rattle.closing.specs.Closing.{closedPacket, closeOutcome, closeBuffer}
 use Rattle.closing.proofs.Laws.{close-done}
 use Rattle.messages.specs.Message.{null, text, MessageName}
 use Rattle.messages.specs.Shown.{textShown, nameBy, nameShown, headersShown, valueBy, attributesShown, attributePlaces, shownBy, messageShown}
-use Rattle.messages.specs.Clear.{AllClear, textsOf, nameTexts, headersTexts, valueTexts, attributesTexts, textsIn, Piece, beginForward, beginSendHeaders, headerCoded, headerSpelled, headerNamed, attributeText, attributeInteger, attributePair, given, namedTexts, pieceRow, ShownClear, StringsClear}
+use Rattle.messages.specs.Clear.{AllClear, textsOf, nameTexts, headersTexts, valueTexts, attributesTexts, textsIn, Piece, beginForward, beginForwardWith, beginSendHeaders, headerCoded, headerSpelled, headerNamed, attributeText, attributeInteger, attributePair, given, namedTexts, pieceRow, ShownClear, StringsClear}
 use Rattle.messages.proofs.Parses.{contextFor, accepted-parses}
 use Rattle.messages.proofs.Tables.{tableOf, table-filled, forward-table, send-headers-table}
 
@@ -217,20 +217,25 @@ unfolding valueFault
 value-fine isLength noValue value e = fault-clear StringField.HeaderValue noValue value (or-first (stringFault StringField.HeaderValue noValue value) _ e)
 
 -- a header by its code
-coded-clear : (r : Building) (buffer : List ℕ) (code : ℕ) (noValue : Bool) (value : List ℕ) → firstFault (codedCall r buffer code noValue value .faults) ≡ 0
+coded-piece-clear : (r : Building) (buffer : List ℕ) (code : ℕ) (noValue : Bool) (value : List ℕ) → firstFault (codedCall r buffer code noValue value .faults) ≡ 0
     → AllClear (given noValue value)
 unfolding codedCall
-coded-clear r buffer code noValue value e = value-fine (declares (directionIn r) code) noValue value (faultless (codedCall r buffer code noValue value .faults) e .1 .1 .0)
+coded-piece-clear r buffer code noValue value e = value-fine (declares (directionIn r) code) noValue value (faultless (codedCall r buffer code noValue value .faults) e .1 .1 .0)
 
 -- a header with a spelled name
-spelled-clear : (r : Building) (buffer : List ℕ) (noName : Bool) (name : List ℕ) (noValue : Bool) (value : List ℕ)
+spelled-piece-clear : (r : Building) (buffer : List ℕ) (noName : Bool) (name : List ℕ) (noValue : Bool) (value : List ℕ)
     → firstFault (spelledCall r buffer noName name noValue value .faults) ≡ 0 → AllClear (given noName name ++ given noValue value)
 unfolding spelledCall
-spelled-clear r buffer noName name noValue value e =
+spelled-piece-clear r buffer noName name noValue value e =
     let fine = faultless (spelledCall r buffer noName name noValue value .faults) e in
     all-append (given noName name) (given noValue value)
     (fault-clear StringField.HeaderName noName name (or-first (stringFault StringField.HeaderName noName name) (spelledFault (directionIn r) name) (fine .1 .0)))
     (value-fine false noValue value (fine .1 .1 .0))
+
+-- where a call with a fault more has none, the call itself has none
+with-faultless : {A : Type 0} (call : Call A) (fault : ℕ) → firstFault (withFault call fault .faults) ≡ 0 → firstFault (call .faults) ≡ 0
+with-faultless call fault e =
+    or-first (firstFault (call .faults)) fault (sym (faults-append 0 (call .faults) (fault ∷ [])) ∙ e)
 
 -- a piece without fault writes clear strings
 piece-clear : (piece : Piece) → firstFault (pieceRow piece .call .faults) ≡ 0 → AllClear (pieceRow piece .texts)
@@ -247,15 +252,18 @@ piece-clear (beginForward numbers nulls protocol uri addr host name) e =
     (all-append addrs (hosts ++ names) (fault-clear StringField.RemoteAddr (nulls .«remote_addr») addr (fine .1 .1 .1 .1 .0))
     (all-append hosts names (fault-clear StringField.RemoteHost (nulls .«remote_host») host (fine .1 .1 .1 .1 .1 .0))
     (fault-clear StringField.ServerName (nulls .«server_name») name (fine .1 .1 .1 .1 .1 .1 .0)))))
+piece-clear (beginForwardWith fault numbers nulls protocol uri addr host name) e =
+    piece-clear (beginForward numbers nulls protocol uri addr host name)
+    (with-faultless (forwardCall numbers nulls protocol uri addr host name) fault e)
 piece-clear (beginSendHeaders status noMessage message) e =
     fault-clear StringField.Message noMessage message (faultless (sendHeadersCall status noMessage message .faults) e .1 .1 .0)
-piece-clear (headerCoded r buffer code noValue value) e = coded-clear r buffer code noValue value e
-piece-clear (headerSpelled r buffer noName name noValue value) e = spelled-clear r buffer noName name noValue value e
+piece-clear (headerCoded r buffer code noValue value) e = coded-piece-clear r buffer code noValue value e
+piece-clear (headerSpelled r buffer noName name noValue value) e = spelled-piece-clear r buffer noName name noValue value e
 piece-clear (headerNamed r buffer name noValue value) e = go (codeIn (headerNames (directionIn r)) name) e
   where
     go : (found : CodeFound) → firstFault (namedBy r buffer name noValue value found .faults) ≡ 0 → AllClear (namedTexts name noValue value found)
-    go (CodeFound.Code code) h = coded-clear r buffer code noValue value h
-    go CodeFound.NotListed h = spelled-clear r buffer false name noValue value h
+    go (CodeFound.Code code) h = coded-piece-clear r buffer code noValue value h
+    go CodeFound.NotListed h = spelled-piece-clear r buffer false name noValue value h
 piece-clear (attributeText r buffer code noValue value) e =
     fault-clear StringField.AttributeValue noValue value (faultless (textCall r buffer code noValue value .faults) e .1 .1 .0)
 piece-clear (attributeInteger r buffer code value) e = tt

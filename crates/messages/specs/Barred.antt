@@ -1,6 +1,6 @@
 -- A string with a zero or a line end in it is told as 6, in whichever field it stands, read and written; and that comes before the rule of a
 -- name (8, 10) and that of a length (10).
--- Document 02, A3: judged together with the zeros inside, everywhere a string stands.
+-- Document 02, A3: no line ends in strings.
 -- Assumes nothing.
 use mathlib.Core.Path.{_≡_}
 use mathlib.Core.Bool.{Bool, true, false}

@@ -17,7 +17,7 @@ use Rattle.names.specs.Names.{codeIn}
 use Rattle.names.specs.declared.CodeFound.{CodeFound}
 use Rattle.connection.specs.declared.Connection.{Connection}
 use Rattle.places.specs.Entries.{maxPlaces}
-use Rattle.building.specs.Call.{Call, done, outcome}
+use Rattle.building.specs.Call.{Call, withFault, done, outcome}
 use Rattle.building.specs.Sent.{Written}
 use Rattle.building_record.specs.declared.Building.{Building}
 use Rattle.building_record.specs.Record.{directionIn}
@@ -78,9 +78,11 @@ textsIn (sendHeaders response) = textsOf (response .message) ++ headersTexts (re
 textsIn (bodyChunk bytes) = []
 textsIn (end reuse) = []
 
--- a call that adds a piece, with all that it is given: the fixed fields of a Forward or of a Send Headers, a header, an attribute
+-- a call that adds a piece, with all that it is given: the fixed fields of a Forward, also with a fault that its caller found, or of a Send
+-- Headers, a header, an attribute
 pub data Piece : Type 0 where
   beginForward : Numbers → Nulls → (protocol uri addr host name : List ℕ) → Piece
+  beginForwardWith : (fault : ℕ) → Numbers → Nulls → (protocol uri addr host name : List ℕ) → Piece
   beginSendHeaders : (status : ℕ) (noMessage : Bool) (message : List ℕ) → Piece
   headerCoded : Building → (buffer : List ℕ) (code : ℕ) (noValue : Bool) (value : List ℕ) → Piece
   headerSpelled : Building → (buffer : List ℕ) (noName : Bool) (name : List ℕ) (noValue : Bool) (value : List ℕ) → Piece
@@ -98,7 +100,14 @@ abbrev pub namedTexts : List ℕ → Bool → List ℕ → CodeFound → List (L
 namedTexts name noValue value (CodeFound.Code code) = given noValue value
 namedTexts name noValue value CodeFound.NotListed = name ∷ given noValue value
 
--- what is known of a piece: the call, as its promise says it, and the texts of the strings that it writes
+-- the texts of a Forward's fixed strings
+abbrev pub fixedTexts : Nulls → List ℕ → List ℕ → List ℕ → List ℕ → List ℕ → List (List ℕ)
+fixedTexts nulls protocol uri addr host name =
+    given (nulls .protocol) protocol
+    ++ (given (nulls .«req_uri») uri
+    ++ (given (nulls .«remote_addr») addr ++ (given (nulls .«remote_host») host ++ given (nulls .«server_name») name)))
+
+-- what is known of a piece: the call, as its promise says it, and the texts of the strings that are given to it and that its bytes are made of
 pub record PieceRow : Type 0 where
   pub call : Call Building
   pub texts : List (List ℕ)
@@ -107,10 +116,11 @@ pub record PieceRow : Type 0 where
 abbrev pub pieceRow : Piece → PieceRow
 pieceRow (beginForward numbers nulls protocol uri addr host name) = record {
   call = forwardCall numbers nulls protocol uri addr host name;
-  texts =
-      given (nulls .protocol) protocol
-      ++ (given (nulls .«req_uri») uri
-      ++ (given (nulls .«remote_addr») addr ++ (given (nulls .«remote_host») host ++ given (nulls .«server_name») name)));
+  texts = fixedTexts nulls protocol uri addr host name;
+}
+pieceRow (beginForwardWith fault numbers nulls protocol uri addr host name) = record {
+  call = withFault (forwardCall numbers nulls protocol uri addr host name) fault;
+  texts = fixedTexts nulls protocol uri addr host name;
 }
 pieceRow (beginSendHeaders status noMessage message) = record { call = sendHeadersCall status noMessage message; texts = given noMessage message }
 pieceRow (headerCoded r buffer code noValue value) = record { call = codedCall r buffer code noValue value; texts = given noValue value }

@@ -29,11 +29,12 @@ pub both-second : (a b : Bool) → both a b ≡ true → b ≡ true
 both-second true b e = e
 both-second false b e = absurd (false≢true e)
 
--- of two tests of which none holds, neither does
+-- of two tests of which none holds, the first does not
 pub neither-first : (a b : Bool) → either a b ≡ false → a ≡ false
 neither-first true b e = e
 neither-first false b e = refl
 
+-- nor does the second
 pub neither-second : (a b : Bool) → either a b ≡ false → b ≡ false
 neither-second true b e = absurd (false≢true (sym e))
 neither-second false b e = e

@@ -53,7 +53,7 @@ const CARRIAGE_RETURN: u8 = 13;
 // The number above those of all bytes that are barred from strings.
 const ABOVE_BARRED: u8 = 14;
 
-// How many bytes of a text are judged at once: those of two vector registers, of one, a half of them and a quarter.
+// How many bytes of a text are judged at once: those of two vector registers, of one, of half a register and of a quarter.
 const DOUBLE_BLOCK: usize = 32;
 
 const BLOCK: usize = 16;
@@ -136,7 +136,7 @@ fn is_low(b: u8) -> bool
     b < ABOVE_BARRED
 }
 
-// Whether `count` bytes from a place on hold a low one. There is no early way out: for a constant count the loop becomes one comparison.
+// Whether `count` bytes from a place on hold a low one. There is no early way out: for a constant count the loop becomes one comparison of a vector, or two.
 fn part_holds_low(text: &[u8], at: usize, count: usize) -> bool
     requires { ⌜ at + count ≤ length (now text) ⌝ }
     ensures { λ r. ⌜ r ≡ holdsLow (part (now (text .entry)) at count) ⌝ }

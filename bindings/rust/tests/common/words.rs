@@ -196,7 +196,11 @@ pub fn text(rng: &mut Rng) -> Text {
         _ => match strings::string(rng) {
             Some(bytes) => Text::of(&bytes),
             None => Text {
-                bytes: strings::text(rng),
+                bytes: if rng.one_in(2) {
+                    strings::text(rng)
+                } else {
+                    strings::barred_text(rng)
+                },
                 null: 1,
             },
         },

@@ -1,4 +1,4 @@
--- `wire::holds_low` meets its contract: each of the four sorts of texts is judged whole.
+-- `wire::holds_low` meets its contract: each of the five sorts of texts is judged whole.
 -- Assumes nothing.
 use mathlib.Core.Path.{_∙_}
 use borrow.Author.Needs.{needs}
