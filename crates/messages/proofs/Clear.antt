@@ -46,6 +46,8 @@ use Rattle.building.proofs.Faults.{faultless, faults-append}
 use Rattle.building.proofs.Sizes.{or-first}
 use Rattle.building_record.specs.declared.Building.{Building}
 use Rattle.building_record.specs.Record.{directionIn}
+use Rattle.pieces.specs.declared.forward.Numbers.{Numbers}
+use Rattle.pieces.specs.declared.forward.Nulls.{Nulls}
 use Rattle.pieces.specs.Fixed.{forwardCall, sendHeadersCall}
 use Rattle.pieces.specs.Header.{valueFault, codedCall, spelledCall, namedCall, namedBy}
 use Rattle.pieces.specs.Attribute.{textCall, pairCall}
@@ -57,7 +59,7 @@ use Rattle.closing.specs.Closing.{closedPacket, closeOutcome, closeBuffer}
 use Rattle.closing.proofs.Laws.{close-done}
 use Rattle.messages.specs.Message.{null, text, MessageName}
 use Rattle.messages.specs.Shown.{textShown, nameBy, nameShown, headersShown, valueBy, attributesShown, attributePlaces, shownBy, messageShown}
-use Rattle.messages.specs.Clear.{AllClear, textsOf, nameTexts, headersTexts, valueTexts, attributesTexts, textsIn, Piece, beginForward, beginForwardWith, beginSendHeaders, headerCoded, headerSpelled, headerNamed, attributeText, attributeInteger, attributePair, given, namedTexts, pieceRow, ShownClear, StringsClear}
+use Rattle.messages.specs.Clear.{AllClear, textsOf, nameTexts, headersTexts, valueTexts, attributesTexts, textsIn, Piece, beginForward, beginForwardWith, beginSendHeaders, headerCoded, headerSpelled, headerNamed, attributeText, attributeInteger, attributePair, given, namedTexts, fixedTexts, pieceRow, ShownClear, StringsClear}
 use Rattle.messages.proofs.Parses.{contextFor, accepted-parses}
 use Rattle.messages.proofs.Tables.{tableOf, table-filled, forward-table, send-headers-table}
 
@@ -237,10 +239,11 @@ with-faultless : {A : Type 0} (call : Call A) (fault : ℕ) → firstFault (with
 with-faultless call fault e =
     or-first (firstFault (call .faults)) fault (sym (faults-append 0 (call .faults) (fault ∷ [])) ∙ e)
 
--- a piece without fault writes clear strings
-piece-clear : (piece : Piece) → firstFault (pieceRow piece .call .faults) ≡ 0 → AllClear (pieceRow piece .texts)
-unfolding forwardCall sendHeadersCall namedCall textCall pairCall
-piece-clear (beginForward numbers nulls protocol uri addr host name) e =
+-- a Forward's fixed strings
+fixed-clear : (numbers : Numbers) (nulls : Nulls) (protocol uri addr host name : List ℕ)
+    → firstFault (forwardCall numbers nulls protocol uri addr host name .faults) ≡ 0 → AllClear (fixedTexts nulls protocol uri addr host name)
+unfolding forwardCall
+fixed-clear numbers nulls protocol uri addr host name e =
     let fine = faultless (forwardCall numbers nulls protocol uri addr host name .faults) e in
     let names : List (List ℕ) = given (nulls .«server_name») name in
     let hosts : List (List ℕ) = given (nulls .«remote_host») host in
@@ -252,8 +255,13 @@ piece-clear (beginForward numbers nulls protocol uri addr host name) e =
     (all-append addrs (hosts ++ names) (fault-clear StringField.RemoteAddr (nulls .«remote_addr») addr (fine .1 .1 .1 .1 .0))
     (all-append hosts names (fault-clear StringField.RemoteHost (nulls .«remote_host») host (fine .1 .1 .1 .1 .1 .0))
     (fault-clear StringField.ServerName (nulls .«server_name») name (fine .1 .1 .1 .1 .1 .1 .0)))))
+
+-- a piece without fault writes clear strings
+piece-clear : (piece : Piece) → firstFault (pieceRow piece .call .faults) ≡ 0 → AllClear (pieceRow piece .texts)
+unfolding sendHeadersCall namedCall textCall pairCall
+piece-clear (beginForward numbers nulls protocol uri addr host name) e = fixed-clear numbers nulls protocol uri addr host name e
 piece-clear (beginForwardWith fault numbers nulls protocol uri addr host name) e =
-    piece-clear (beginForward numbers nulls protocol uri addr host name)
+    fixed-clear numbers nulls protocol uri addr host name
     (with-faultless (forwardCall numbers nulls protocol uri addr host name) fault e)
 piece-clear (beginSendHeaders status noMessage message) e =
     fault-clear StringField.Message noMessage message (faultless (sendHeadersCall status noMessage message .faults) e .1 .1 .0)
