@@ -38,16 +38,16 @@ unfolding tokenByte
 token-count = refl
 
 -- no token byte is barred from strings: antt looks at all 256
-clear-byte : (b : ℕ) → b < 256 → tokenByte b ≡ true → barred b ≡ false
+token-byte-clear : (b : ℕ) → b < 256 → tokenByte b ≡ true → barred b ≡ false
 unfolding tokenByte
-clear-byte b h e = ap (λ (t : Bool). both t (barred b)) (sym e) ∙ agree (λ (k : ℕ). both (tokenByte k) (barred k)) (λ (k : ℕ). false) false 256 refl b h
+token-byte-clear b h e = ap (λ (t : Bool). both t (barred b)) (sym e) ∙ agree (λ (k : ℕ). both (tokenByte k) (barred k)) (λ (k : ℕ). false) false 256 refl b h
 
 -- so a token holds no barred byte
 pub token-clear : (text : List ℕ) → ((i : ℕ) → getD text i 0 < 256) → isToken text ≡ true → holdsBarred text ≡ false
 unfolding all any
 token-clear [] bytes e = refl
 token-clear (b ∷ text) bytes e =
-    rw (clear-byte b (bytes 0) (both-first (tokenByte b) (isToken text) e))
+    rw (token-byte-clear b (bytes 0) (both-first (tokenByte b) (isToken text) e))
     (token-clear text (λ i. bytes (suc i)) (both-second (tokenByte b) (isToken text) e))
 
 -- and neither does a spelled name that has no fault

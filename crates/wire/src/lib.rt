@@ -136,7 +136,8 @@ fn is_low(b: u8) -> bool
     b < ABOVE_BARRED
 }
 
-// Whether `count` bytes from a place on hold a low one. There is no early way out: for a constant count the loop becomes one comparison of a vector, or two.
+// Whether `count` bytes from a place on hold a low one. There is no early way out: for a constant count the loop becomes one comparison of a
+// vector, or two.
 fn part_holds_low(text: &[u8], at: usize, count: usize) -> bool
     requires { ⌜ at + count ≤ length (now text) ⌝ }
     ensures { λ r. ⌜ r ≡ holdsLow (part (now (text .entry)) at count) ⌝ }
