@@ -18,7 +18,7 @@ use Rattle.connection.specs.declared.Kind.{Kind}
 use Rattle.connection.specs.declared.Move.{Move}
 use Rattle.connection.specs.declared.Step.{Step}
 use Rattle.connection.specs.Connection.{isIdle, isPinged, isBusy, rest, withHeaders, busy, tidy, bodyDue}
-use Rattle.connection.specs.Cycle.{moveKind, directionOf, inState, largestBody, sizeAllowed, inSize, allowed, forwarded, after, stepOf, numberIn, connectionAfterStep}
+use Rattle.connection.specs.Cycle.{moveKind, directionOf, inState, largestBody, sizeAllowed, chunkAllowed, inSize, allowed, forwarded, after, stepOf, numberIn, connectionAfterStep}
 use Rattle.connection.specs.Facts.{Commuting, BodyWithin, Ignored}
 use Rattle.connection.proofs.Laws.{largest-by, step-by}
 
@@ -67,14 +67,14 @@ from-idle c m n q f g =
 -- a record with this state and these answers to whether a body packet is due and headers were sent. With a record's own it is that record,
 -- so that a law goes by their values and each row of the table computes.
 abbrev at : State → Bool → Bool → Connection → Connection
-at s d h c = record { state = s; due = d; headers = h; asked = c .asked; left = c .left }
+at s d h c = record { state = s; due = d; headers = h; head = c .head; asked = c .asked; left = c .left }
 
 -- the server's move of Busy, a body packet
 from-busy : (s : State) (d h : Bool) (c : Connection) (k : ℕ) (n : Move) → directionOf (moveKind n) ≡ Direction.ToServer
     → allowed (at s d h c) (Move.Body k) ≡ true → allowed (at s d h c) n ≡ true → Commuting (at s d h c) (Move.Body k) n
 unfolding largestBody
 from-busy State.Busy true false c k Move.SendHeaders q f g = record { first-then = refl; second-then = f; meets = refl }
-from-busy State.Busy true true c k (Move.BodyChunk j) q f g = record { first-then = refl; second-then = f; meets = refl }
+from-busy State.Busy true true c k (Move.BodyChunk j) q f g = record { first-then = g; second-then = f; meets = refl }
 from-busy State.Busy true true c k Move.SendHeaders q f g = never g
 from-busy State.Busy true false c k (Move.BodyChunk j) q f g = never g
 from-busy State.Busy true h c k (Move.GetBody r) q f g = never g
@@ -140,16 +140,16 @@ settled c (Move.BodyChunk k) = sym (busy-twice c)
 settled c (Move.End true) = refl
 settled c (Move.End false) = refl
 
--- a record and what counts of it have the same state, in Busy the same answer to any test of due and headers, and the same most that may
--- come
+-- a record and what counts of it have the same state, in Busy the same answer to any test of the three marks due, headers and head, and the
+-- same most that may come
 same-state : (s : State) (c : Connection) → tidy (at s (c .due) (c .headers) c) .state ≡ s
 same-state State.Idle c = refl
 same-state State.Pinged c = refl
 same-state State.Busy c = refl
 same-state State.Closed c = refl
 
-same-test : (test : Bool → Bool → Bool) (s : State) (c : Connection) → let d = at s (c .due) (c .headers) c in
-    both (isBusy (tidy d .state)) (test (tidy d .due) (tidy d .headers)) ≡ both (isBusy s) (test (c .due) (c .headers))
+same-test : (test : Bool → Bool → Bool → Bool) (s : State) (c : Connection) → let d = at s (c .due) (c .headers) c in
+    both (isBusy (tidy d .state)) (test (tidy d .due) (tidy d .headers) (tidy d .head)) ≡ both (isBusy s) (test (c .due) (c .headers) (c .head))
 same-test test State.Idle c = refl
 same-test test State.Pinged c = refl
 same-test test State.Busy c = refl
@@ -167,19 +167,19 @@ module _ (c : Connection) where
   state-kept : tidy c .state ≡ c .state
   state-kept = same-state (c .state) c
 
-  test-kept : (test : Bool → Bool → Bool)
-      → both (isBusy (tidy c .state)) (test (tidy c .due) (tidy c .headers)) ≡ both (isBusy (c .state)) (test (c .due) (c .headers))
+  test-kept : (test : Bool → Bool → Bool → Bool)
+      → both (isBusy (tidy c .state)) (test (tidy c .due) (tidy c .headers) (tidy c .head)) ≡ both (isBusy (c .state)) (test (c .due) (c .headers) (c .head))
   test-kept test = same-test test (c .state) c
 
   ignored-state : (k : Kind) → inState (tidy c) k ≡ inState c k
   ignored-state Kind.CPing = ap isIdle state-kept
   ignored-state Kind.CPong = ap isPinged state-kept
   ignored-state Kind.Forward = ap isIdle state-kept
-  ignored-state Kind.Body = test-kept (λ d h. d)
-  ignored-state Kind.GetBody = test-kept (λ d h. not d)
-  ignored-state Kind.SendHeaders = test-kept (λ d h. not h)
-  ignored-state Kind.BodyChunk = test-kept (λ d h. h)
-  ignored-state Kind.End = test-kept (λ d h. both h (not d))
+  ignored-state Kind.Body = test-kept (λ d h m. d)
+  ignored-state Kind.GetBody = test-kept (λ d h m. not d)
+  ignored-state Kind.SendHeaders = test-kept (λ d h m. not h)
+  ignored-state Kind.BodyChunk = test-kept (λ d h m. h)
+  ignored-state Kind.End = test-kept (λ d h m. both h (not d))
 
   ignored-size : (m : Move) → inSize (tidy c) m ≡ inSize c m
   ignored-size Move.CPing = refl
@@ -188,7 +188,7 @@ module _ (c : Connection) where
   ignored-size (Move.Body k) = ap (λ (n : ℕ). sizeAllowed n k) (same-largest (c .state) (c .due) c)
   ignored-size (Move.GetBody r) = refl
   ignored-size Move.SendHeaders = refl
-  ignored-size (Move.BodyChunk k) = refl
+  ignored-size (Move.BodyChunk k) = ap (λ (m : Bool). chunkAllowed m k) (test-kept (λ d h m. m))
   ignored-size (Move.End reuse) = refl
 
   -- a move that is allowed in Busy alone
@@ -205,7 +205,7 @@ module _ (c : Connection) where
   ignored-after (Move.Body k) f = in-busy (Move.Body k) (c .due) (inSize c (Move.Body k)) f refl
   ignored-after (Move.GetBody r) f = in-busy (Move.GetBody r) (not (c .due)) true f refl
   ignored-after Move.SendHeaders f = in-busy Move.SendHeaders (not (c .headers)) true f (busy-twice (withHeaders true c))
-  ignored-after (Move.BodyChunk k) f = in-busy (Move.BodyChunk k) (c .headers) true f (busy-twice c)
+  ignored-after (Move.BodyChunk k) f = in-busy (Move.BodyChunk k) (c .headers) (inSize c (Move.BodyChunk k)) f (busy-twice c)
   ignored-after (Move.End reuse) f = refl
 
 -- a step by what the state and the size say, whose connection matters only where both allow the move

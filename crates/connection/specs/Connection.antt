@@ -1,5 +1,5 @@
 -- A connection's record: what counts of it, and the numbers that bound a packet.
--- Document 01, 'The cycle' and 'Bytes and numbers'.
+-- Document 01, 'The cycle' and 'Bytes and numbers'; document 02, A4.
 -- Assumes nothing.
 use mathlib.Core.Bool.{Bool, true, false}
 use Prim.Native.Nat.{ℕ}
@@ -36,23 +36,27 @@ isBusy State.Closed = false
 
 -- outside Busy nothing but the state counts: the rest is 0
 abbrev pub rest : State → Connection
-rest state = record { state = state; due = false; headers = false; asked = 0; left = record { 0 = 0 } }
+rest state = record { state = state; due = false; headers = false; head = false; asked = 0; left = record { 0 = 0 } }
 
 -- a record with another number of bytes of body left
 abbrev pub withLeft : ℕ → Connection → Connection
-withLeft left c = record { state = c .state; due = c .due; headers = c .headers; asked = c .asked; left = record { 0 = left } }
+withLeft left c = record { state = c .state; due = c .due; headers = c .headers; head = c .head; asked = c .asked; left = record { 0 = left } }
 
 -- with another answer to whether a body packet is due, and to how many bytes were asked for
 abbrev pub withDue : Bool → ℕ → Connection → Connection
-withDue due asked c = record { state = c .state; due = due; headers = c .headers; asked = asked; left = c .left }
+withDue due asked c = record { state = c .state; due = due; headers = c .headers; head = c .head; asked = asked; left = c .left }
 
 -- with another answer to whether headers were sent
 abbrev pub withHeaders : Bool → Connection → Connection
-withHeaders headers c = record { state = c .state; due = c .due; headers = headers; asked = c .asked; left = c .left }
+withHeaders headers c = record { state = c .state; due = c .due; headers = headers; head = c .head; asked = c .asked; left = c .left }
+
+-- with another answer to whether the request is HEAD
+abbrev pub withHead : Bool → Connection → Connection
+withHead head c = record { state = c .state; due = c .due; headers = c .headers; head = head; asked = c .asked; left = c .left }
 
 -- in Busy all counts, and what was asked only where a body packet is due
 abbrev pub busy : Connection → Connection
-busy c = record { state = State.Busy; due = c .due; headers = c .headers; asked = pick (c .due) (c .asked) 0; left = c .left }
+busy c = record { state = State.Busy; due = c .due; headers = c .headers; head = c .head; asked = pick (c .due) (c .asked) 0; left = c .left }
 
 -- what counts of a record
 abbrev pub tidy : Connection → Connection
@@ -65,3 +69,7 @@ fresh = rest State.Idle
 -- a body packet is due
 abbrev pub bodyDue : Connection → Bool
 bodyDue c = both (isBusy (c .state)) (c .due)
+
+-- the request under way is HEAD
+abbrev pub isHead : Connection → Bool
+isHead c = both (isBusy (c .state)) (c .head)

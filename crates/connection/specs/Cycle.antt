@@ -1,11 +1,11 @@
 -- The cycle of a connection, one rule for the end that sends and the end that receives. The table of document 01, 'The cycle',
--- is `inState` (which state and record allow a kind of packet) and `after` (the connection then), a row a line.
+-- is `inState` (which state and record allow a kind of packet) and `after` (the connection then), a row a line. Document 02, A4: `chunkAllowed`.
 -- A record may hold anything in what does not count: a step does not look at it (the law `ignored`) and leaves nothing of it (`settled`).
 -- Assumes nothing.
 use mathlib.Core.Bool.{Bool, true, false, not}
 use Prim.Native.Nat.{ℕ, _-_, min}
 use lib.Dec.{ltb, eqb}
-use Rattle.wire.specs.Pick.{pick, both, between}
+use Rattle.wire.specs.Pick.{pick, both, either, between}
 use Rattle.wire.specs.Refusal.{none, notNow, bodySizeWrong}
 use Rattle.packet.specs.declared.Direction.{Direction}
 use Rattle.connection.specs.declared.State.{State}
@@ -14,7 +14,7 @@ use Rattle.connection.specs.declared.Kind.{Kind}
 use Rattle.connection.specs.declared.ForwardMove.{ForwardMove}
 use Rattle.connection.specs.declared.Move.{Move}
 use Rattle.connection.specs.declared.Step.{Step}
-use Rattle.connection.specs.Connection.{maxBody, isIdle, isPinged, isBusy, rest, withLeft, withDue, withHeaders, busy, bodyDue}
+use Rattle.connection.specs.Connection.{maxBody, isIdle, isPinged, isBusy, rest, withLeft, withDue, withHeaders, withHead, busy, bodyDue, isHead}
 
 -- the kind of packet that makes a move
 abbrev pub moveKind : Move → Kind
@@ -58,6 +58,10 @@ largestBody c = pick (bodyDue c) (min (c .asked) (min maxBody (c .left .0))) 0
 abbrev pub sizeAllowed : ℕ → ℕ → Bool
 sizeAllowed most k = pick (eqb most 0) (eqb k 0) (between 1 most k)
 
+-- a Send Body Chunk of k bytes, by whether the request is HEAD: its response has no body, so only an empty one is allowed
+abbrev pub chunkAllowed : Bool → ℕ → Bool
+chunkAllowed head k = either (not head) (eqb k 0)
+
 -- whether a connection allows a packet of this size, else 14
 abbrev pub inSize : Connection → Move → Bool
 inSize c Move.CPing = true
@@ -66,16 +70,16 @@ inSize c (Move.Forward f) = true
 inSize c (Move.Body k) = sizeAllowed (largestBody c) k
 inSize c (Move.GetBody r) = true
 inSize c Move.SendHeaders = true
-inSize c (Move.BodyChunk k) = true
+inSize c (Move.BodyChunk k) = chunkAllowed (isHead c) k
 inSize c (Move.End reuse) = true
 
 -- whether a connection allows a move
 abbrev pub allowed : Connection → Move → Bool
 allowed c m = both (inState c (moveKind m)) (inSize c m)
 
--- a request as its Forward tells of it: all of its body is left, and a body packet is due where there is any
+-- a request as its Forward tells of it: all of its body is left, a body packet is due where there is any, and whether it is HEAD
 abbrev pub forwarded : ForwardMove → Connection
-forwarded f = withDue (ltb 0 (f .declared .0)) maxBody (withLeft (f .declared .0) (rest State.Busy))
+forwarded f = withHead (f .head) (withDue (ltb 0 (f .declared .0)) maxBody (withLeft (f .declared .0) (rest State.Busy)))
 
 -- the connection after a move that is allowed
 abbrev pub after : Connection → Move → Connection

@@ -1,8 +1,8 @@
 // One end's connection, and the cycle that every packet steps it through. It does not know which end holds it.
 // This crate alone makes a connection record or takes one apart. No call has a condition: any record gets an answer.
 ghost use mathlib.Core.Path.{_≡_};
-ghost use Rattle.connection.specs.Connection.{maxPacket, maxPayload, fresh, rest, withLeft, withDue, withHeaders, busy, isIdle, isPinged, isBusy, bodyDue};
-ghost use Rattle.connection.specs.Cycle.{moveKind, directionOf, inState, largestBody, sizeAllowed, forwarded, stepOf};
+ghost use Rattle.connection.specs.Connection.{maxPacket, maxPayload, fresh, rest, withLeft, withDue, withHeaders, withHead, busy, isIdle, isPinged, isBusy, bodyDue, isHead};
+ghost use Rattle.connection.specs.Cycle.{moveKind, directionOf, inState, largestBody, sizeAllowed, chunkAllowed, forwarded, stepOf};
 ghost use Rattle.wire.specs.Refusal.{notNow};
 ghost use Prim.Native.Nat.{_-_};
 ghost use lib.Dec.{leb};
@@ -25,6 +25,7 @@ pub struct Connection {
     state: State,
     due: bool,
     headers: bool,
+    head: bool,
     asked: u16,
     left: BodyLeft,
 }
@@ -41,9 +42,10 @@ pub enum Kind {
     End,
 }
 
-// A Forward, as far as the cycle goes: the length of body that it declares.
+// A Forward, as far as the cycle goes: the length of body that it declares, and whether its method is HEAD.
 pub struct ForwardMove {
     pub declared: BodyLeft,
+    pub head: bool,
 }
 
 // A packet, as far as the cycle goes: how many bytes, how many asked for, whether the connection is kept.
@@ -178,6 +180,7 @@ impl Connection {
             state,
             due: false,
             headers: false,
+            head: false,
             asked: 0,
             left: BodyLeft(0),
         }
@@ -202,6 +205,7 @@ impl Connection {
             state,
             due,
             headers: self.headers,
+            head: self.head,
             asked,
             left,
         }
@@ -212,6 +216,14 @@ impl Connection {
         ensures { λ r. ⌜ r ≡ withHeaders headers self ⌝ }
     {
         self.headers = headers;
+        self
+    }
+
+    // With whether the request is HEAD.
+    pub fn with_head(mut self, head: bool) -> Connection
+        ensures { λ r. ⌜ r ≡ withHead head self ⌝ }
+    {
+        self.head = head;
         self
     }
 
@@ -249,6 +261,13 @@ impl Connection {
         self.headers
     }
 
+    // Whether the record says that the request is HEAD; in Busy alone it counts.
+    pub fn head(self) -> bool
+        ensures { λ r. ⌜ r ≡ self .head ⌝ }
+    {
+        self.head
+    }
+
     // The record in Busy; what was asked is kept only where a body packet is due.
     fn busy(self) -> Connection
         ensures { λ r. ⌜ r ≡ busy self ⌝ }
@@ -262,6 +281,7 @@ impl Connection {
             state: State::Busy,
             due: self.due,
             headers: self.headers,
+            head: self.head,
             asked,
             left,
         }
@@ -277,6 +297,18 @@ impl Connection {
             return false;
         }
         due
+    }
+
+    // Whether the request under way is HEAD: its response has no body.
+    pub fn is_head(self) -> bool
+        ensures { λ r. ⌜ r ≡ isHead self ⌝ }
+    {
+        let state = self.state;
+        let head = self.head;
+        if !state.is_busy() {
+            return false;
+        }
+        head
     }
 
     // Whether a kind of packet is allowed now, else it is refused with 13.
@@ -353,11 +385,17 @@ impl Connection {
         Step::Next(self.busy().with_left(left.less(k)).with_due(false, 0))
     }
 
-    // A Send Body Chunk of k bytes, in the same way; it may have any size.
+    // A Send Body Chunk of k bytes, in the same way.
     pub fn step_body_chunk(self, k: usize) -> Step
         ensures { λ r. ⌜ r ≡ stepOf self (Move.BodyChunk k) ⌝ }
     {
-        self.step_any_size(Kind::BodyChunk, self.busy())
+        if !self.allows(Kind::BodyChunk) {
+            return Step::Refused(refusal::NOT_NOW);
+        }
+        if !is_chunk_allowed(self.is_head(), k) {
+            return Step::Refused(refusal::BODY_SIZE_WRONG);
+        }
+        Step::Next(self.busy())
     }
 
     // A packet of a kind that may have any size: refused with 13, or the connection that it makes.
@@ -370,7 +408,7 @@ impl Connection {
         Step::Next(after)
     }
 
-    // A request as its Forward tells of it: all of its body is left, and a body packet is due where there is any.
+    // A request as its Forward tells of it: all of its body is left, a body packet is due where there is any, and whether it is HEAD.
     fn forwarded(f: ForwardMove) -> Connection
         ensures { λ r. ⌜ r ≡ forwarded f ⌝ }
     {
@@ -378,6 +416,7 @@ impl Connection {
         Self::rest(State::Busy)
             .with_left(left)
             .with_due(0 < left.0, Self::MAX_BODY)
+            .with_head(f.head)
     }
 
     // The connection after a request's end: Idle where it is used again, else Closed.
@@ -399,4 +438,14 @@ fn is_size_allowed(most: u16, k: usize) -> bool
         return most == 0;
     }
     k <= most as usize
+}
+
+// Whether a Send Body Chunk of k bytes is allowed, by whether the request is HEAD: then only an empty one is.
+fn is_chunk_allowed(head: bool, k: usize) -> bool
+    ensures { λ r. ⌜ r ≡ chunkAllowed head k ⌝ }
+{
+    if head {
+        return k == 0;
+    }
+    true
 }

@@ -20,7 +20,8 @@ use Rattle.names.specs.declared.CodeFound.{CodeFound}
 use Rattle.names.specs.Token.{tokenByte, isToken}
 use Rattle.names.specs.Attribute.{attributeKind, isServed}
 use Rattle.names.specs.Header.{headerNames, isFound, unlistedFault, spelledFault}
-use Rattle.names.specs.Names.{methodNames, requestNames, responseNames, attributeNames, namesIn, firstCode, ignoresCase, isListed, nameFor, letter, sameName, codeFrom, codeIn}
+use Rattle.names.specs.Method.{headMethod}
+use Rattle.names.specs.Names.{ascii, methodNames, requestNames, responseNames, attributeNames, namesIn, firstCode, ignoresCase, isListed, nameFor, letter, sameName, codeFrom, codeIn}
 use Rattle.names.specs.Row.{nameRoom, padded, nameBytes}
 use Rattle.names.specs.Private.{hasAll, alphabetPlace}
 use Rattle.names.proofs.Rule.{values, agree}
@@ -105,6 +106,11 @@ round-trip list n h =
     ap (codeIn list) (name-from list n (firstCode list) refl (w .0))
     ∙ at-place list (n - firstCode list) (omega arith)
     ∙ ap CodeFound.Code e
+
+-- the code that is taken for HEAD has that name in the list, and that name no other code
+pub head-named : (nameFor NameList.Methods headMethod ≡ ascii "HEAD") × (codeIn NameList.Methods (ascii "HEAD") ≡ CodeFound.Code headMethod)
+unfolding methodNames nameFor letter sameName codeFrom codeIn
+head-named = (refl, refl)
 
 -- a code that is found is at a place of the names
 found-within : (ignoring : Bool) (first : ℕ) (names : List (List ℕ)) (text : List ℕ) (n : ℕ)

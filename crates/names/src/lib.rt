@@ -4,6 +4,7 @@
 
 pub mod attribute;
 pub mod header;
+pub mod method;
 pub mod table;
 pub mod token;
 

@@ -1,8 +1,9 @@
 -- What a packet of a kind says, from its bytes alone, with the places that it has for the table; and what a packet is for the cycle.
--- Document 01, 'Server to container', 'Container to server', and 'The cycle'.
+-- Document 01, 'Server to container', 'Container to server', and 'The cycle'; document 02, A4.
 -- Assumes nothing.
 use mathlib.Core.List.{List}
 use Prim.Native.Nat.{ℕ}
+use Rattle.names.specs.Method.{isHeadMethod}
 use Rattle.places.specs.Entries.{Entries, ended}
 use Rattle.connection.specs.declared.Kind.{Kind}
 use Rattle.connection.specs.declared.Move.{Move}
@@ -42,9 +43,9 @@ packetKind (Packet.SendHeaders h) = Kind.SendHeaders
 packetKind (Packet.BodyChunk part) = Kind.BodyChunk
 packetKind (Packet.End reuse) = Kind.End
 
--- what a Forward is for the cycle: what it declares
+-- what a Forward is for the cycle: what it declares, and whether its method is HEAD
 abbrev pub forwardMove : Forward → ForwardMove
-forwardMove forward = record { declared = forward .declared }
+forwardMove forward = record { declared = forward .declared; head = isHeadMethod (forward .method) }
 
 -- what a packet is for the cycle: of a part its size
 abbrev pub packetMove : Packet → Move

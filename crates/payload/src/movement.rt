@@ -3,6 +3,7 @@ ghost use mathlib.Core.Path.{_≡_};
 ghost use Rattle.payload.specs.Kinds.{forwardMove, packetMove};
 use connection::ForwardMove;
 use connection::Move;
+use names::method::is_head;
 use packet::Forward;
 use packet::Packet;
 
@@ -11,7 +12,8 @@ fn forward_move(f: Forward) -> ForwardMove
     ensures { λ r. ⌜ r ≡ forwardMove f ⌝ }
 {
     let declared = f.declared;
-    ForwardMove { declared }
+    let head = is_head(f.method);
+    ForwardMove { declared, head }
 }
 
 // The move that a packet makes.

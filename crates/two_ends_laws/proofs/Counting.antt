@@ -69,7 +69,7 @@ count-move c (Move.Body k) held before f e i =
     (in-busy (c .state) (c .left .0) before (c .due) (inSize c (Move.Body k)) f i))
 count-move c (Move.GetBody r) held before f e i = in-busy (c .state) (c .left .0) before (not (c .due)) true f i
 count-move c Move.SendHeaders held before f e i = in-busy (c .state) (c .left .0) before (not (c .headers)) true f i
-count-move c (Move.BodyChunk k) held before f e i = in-busy (c .state) (c .left .0) before (c .headers) true f i
+count-move c (Move.BodyChunk k) held before f e i = in-busy (c .state) (c .left .0) before (c .headers) (inSize c (Move.BodyChunk k)) f i
 count-move c (Move.End true) held before f e i = counted-within c before i
 count-move c (Move.End false) held before f e i = counted-within c before i
 

@@ -2,11 +2,12 @@
 -- Document 01, 'Two ends and their pipes', and 'The cycle'.
 -- Assumes nothing.
 use mathlib.Core.Path.{_≡_}
-use mathlib.Core.Bool.{true}
+use mathlib.Core.Bool.{Bool, true, false}
 use mathlib.Core.List.{List}
 use Prim.Native.Nat.{ℕ}
 use lib.ListN.{length}
 use Rattle.packet.specs.declared.Packet.{Packet}
+use Rattle.names.specs.Method.{isHeadMethod}
 use Rattle.connection.specs.Cycle.{allowed, after}
 use Rattle.connection.specs.declared.Connection.{Connection}
 use Rattle.connection.specs.declared.ForwardMove.{ForwardMove}
@@ -17,9 +18,20 @@ use Rattle.two_ends_laws.specs.Ends.{PipePacket}
 use Rattle.two_ends_laws.specs.Past.{heldIn}
 use Rattle.two_ends_laws.specs.Readable.{Readable}
 
+-- whether what is told is a Forward whose method is HEAD
+abbrev pub headTold : Packet → Bool
+headTold Packet.CPing = false
+headTold Packet.CPong = false
+headTold (Packet.Forward f) = isHeadMethod (f .method)
+headTold (Packet.Body p) = false
+headTold (Packet.GetBody asked) = false
+headTold (Packet.SendHeaders h) = false
+headTold (Packet.BodyChunk p) = false
+headTold (Packet.End reuse) = false
+
 -- what a Forward is for the cycle, as whoever reads it is told
 abbrev pub forwardTold : Packet → ForwardMove
-forwardTold tells = record { declared = record { 0 = bodyDeclared tells } }
+forwardTold tells = record { declared = record { 0 = bodyDeclared tells }; head = headTold tells }
 
 -- the move of a call: a body packet or a chunk of as many bytes as are given, what is asked for, whether the connection is used again; a
 -- Forward with what is told of it

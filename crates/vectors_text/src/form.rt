@@ -41,14 +41,14 @@ fn passed(is: bool, end: usize) -> usize {
 }
 
 // Whether a text is a connection: the letter of a state, the bytes of body left, whether a body packet is due, the bytes asked for, whether
-// headers were sent, and then, each only behind the one before, whether a HEAD is answered and the edition.
+// headers were sent, and then, each only behind the one before, whether the request is HEAD and the edition.
 pub fn is_connection(s: &[u8]) -> bool {
     is_letter(text::field(s, b',', 0), b"IPBC")
         && is_word(text::field(s, b',', 1), b'D')
         && is_word(text::field(s, b',', 2), b'F')
         && is_word(text::field(s, b',', 3), b'N')
         && is_word(text::field(s, b',', 4), b'F')
-        && (ends_before(s, 5) || is_head(text::field(s, b',', 5)))
+        && (ends_before(s, 5) || is_word(text::field(s, b',', 5), b'F'))
         && (ends_before(s, 6) || is_edition(text::field(s, b',', 6)))
         && ends_before(s, 7)
 }
@@ -56,11 +56,6 @@ pub fn is_connection(s: &[u8]) -> bool {
 // Whether a text has no word of this index.
 fn ends_before(s: &[u8], word: usize) -> bool {
     s.len() < text::start(s, b',', word)
-}
-
-// Whether a word says whether a HEAD is answered. A connection has no field for it yet: only 0 may stand there.
-fn is_head(word: &[u8]) -> bool {
-    text::equal(word, b"0")
 }
 
 // Whether a word is an edition. A connection has no field for it yet: only the new one may stand there.

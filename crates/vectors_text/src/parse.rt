@@ -106,6 +106,7 @@ pub fn connection(s: &[u8]) -> Connection {
         .with_left(BodyLeft(long_number(s, 1)))
         .with_due(flag(s, 2), number(s, 3))
         .with_headers(flag(s, 4))
+        .with_head(flag(s, 5))
 }
 
 fn state(letter: u8) -> State {

@@ -78,14 +78,16 @@ fn places(out: &mut [u8], at: usize, table: &[u16]) -> usize {
     next
 }
 
-// A connection: the state's letter, what is left, whether a body packet is due, what was asked for, whether headers were sent.
+// A connection: the state's letter, what is left, whether a body packet is due, what was asked for, whether headers were sent, whether the
+// request is HEAD.
 pub fn connection(out: &mut [u8], at: usize, c: Connection) -> usize {
     let left = c.left();
     let mut next = letter(out, at, state(c.state()));
     next = word(out, next, left.0 as u64);
     next = word(out, next, flag(c.due()));
     next = word(out, next, c.asked() as u64);
-    word(out, next, flag(c.headers()))
+    next = word(out, next, flag(c.headers()));
+    word(out, next, flag(c.head()))
 }
 
 // A number behind a comma.

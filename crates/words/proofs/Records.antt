@@ -24,7 +24,7 @@ use Rattle.building_record.specs.declared.Building.{Building}
 use Rattle.words.specs.Status as status
 use Rattle.words.specs.Number.{word, lastFlag, isFlag, flagIn, lastNumber, isNumber, capped, numberFault}
 use Rattle.words.specs.Kinds.{kindWord}
-use Rattle.words.specs.ConnectionWords.{stateWord, lastState, stateIn, connectionSize, statePlace, leftPlace, duePlace, askedPlace, headersPlace, areUnused, areBusy, areConnection, connectionRoom, connectionFault, connectionIn, connectionWords, countingWords}
+use Rattle.words.specs.ConnectionWords.{stateWord, lastState, stateIn, connectionSize, statePlace, leftPlace, duePlace, askedPlace, headersPlace, headPlace, areUnused, areBusy, areConnection, connectionRoom, connectionFault, connectionIn, connectionWords, countingWords}
 use Rattle.words.specs.BuildingWords.{isForwardWord, isSendHeadersWord, buildingKindIn, buildingSize, kindPlace, nextPlace, countPlace, soFarPlace, attributesPlace, areBuilding, buildingRoom, buildingFault, buildingIn, buildingWords}
 
 -- a number that fits is the number that its word stands for, and every word stands for one that fits
@@ -133,7 +133,7 @@ kind-back BuildingKind.SendHeaders = refl
 -- a connection's words say the connection
 pub connection-back : (c : Connection) → c .asked ≤ lastNumber → connectionIn (connectionWords c) ≡ c
 unfolding connectionIn connectionWords
-connection-back c h = rw (state-back (c .state), flag-back (c .due), capped-same (c .asked) h, flag-back (c .headers))
+connection-back c h = rw (state-back (c .state), flag-back (c .due), capped-same (c .asked) h, flag-back (c .headers), flag-back (c .head))
 
 -- and a building record's the record
 pub building-back : (r : Building) → r .next .0 ≤ lastNumber → r .count .0 ≤ lastNumber → r .headers ≤ lastNumber
@@ -166,7 +166,7 @@ either-way false = refl
 pub connection-right : (c : Connection) → c .asked ≤ lastNumber → connectionFault (connectionWords c) ≡ 0
 unfolding connectionFault connectionWords areConnection
 connection-right c h =
-    rw (state-right (c .state), flag-right (c .due), le-leb (c .asked) lastNumber h, flag-right (c .headers), either-way (flagIn (booleanNumber (c .due))), either-way (eqb (stateWord (c .state)) (stateWord State.Busy)))
+    rw (state-right (c .state), flag-right (c .due), le-leb (c .asked) lastNumber h, flag-right (c .headers), flag-right (c .head), either-way (flagIn (booleanNumber (c .due))), either-way (eqb (stateWord (c .state)) (stateWord State.Busy)))
 
 -- and those of a building record have none, whatever its numbers
 pub building-right : (r : Building) → buildingFault (buildingWords r) ≡ 0
@@ -262,10 +262,10 @@ asked-counts due asked = go (flagIn due)
     go false e = refl
 
 -- what counts of a record whose words are these, by whether it is in Busy
-abbrev counted : Bool → (state left due asked headers : ℕ) → List ℕ
-counted inBusy state left due asked headers =
+abbrev counted : Bool → (state left due asked headers head : ℕ) → List ℕ
+counted inBusy state left due asked headers head =
     connectionWords (pick inBusy
-    (record { state = State.Busy; due = flagIn due; headers = flagIn headers; asked = pick (flagIn due) (capped asked) 0; left = record { 0 = left } })
+    (record { state = State.Busy; due = flagIn due; headers = flagIn headers; head = flagIn head; asked = pick (flagIn due) (capped asked) 0; left = record { 0 = left } })
     (rest (stateIn state)))
 
 -- what counts of the connection that words say is what counts of the words: outside Busy the state alone, in Busy all but what was asked where
@@ -289,11 +289,18 @@ connection-counts words h = rw (busy-word state) (go (eqb state (stateWord State
     headers : ℕ
     headers = word words headersPlace
 
+    head : ℕ
+    head = word words headPlace
+
     go : (t : Bool) → eqb state (stateWord State.Busy) ≡ t
-        → counted t state left due asked headers
-        ≡ pick t (state ∷ left ∷ due ∷ pick (flagIn due) asked 0 ∷ headers ∷ 0 ∷ 0 ∷ 0 ∷ []) (state ∷ 0 ∷ 0 ∷ 0 ∷ 0 ∷ 0 ∷ 0 ∷ 0 ∷ [])
+        → counted t state left due asked headers head
+        ≡ pick t (state ∷ left ∷ due ∷ pick (flagIn due) asked 0 ∷ headers ∷ head ∷ 0 ∷ 0 ∷ []) (state ∷ 0 ∷ 0 ∷ 0 ∷ 0 ∷ 0 ∷ 0 ∷ 0 ∷ [])
     go false e = rw (state-forth state (state-known words (connection-none words h .1))) refl
     go true e =
         let fine = busy-fine words (connection-none words h .1) e in
-        let flags = both-first (both (isFlag due) (isFlag headers)) (pick (flagIn due) (isNumber asked) true) fine in
-        rw (flag-forth due (leb-true due lastFlag (both-first (isFlag due) (isFlag headers) flags)), flag-forth headers (leb-true headers lastFlag (both-second (isFlag due) (isFlag headers) flags)), asked-counts due asked (both-second (both (isFlag due) (isFlag headers)) (pick (flagIn due) (isNumber asked) true) fine), eqb-true state (stateWord State.Busy) e) refl
+        let two = both (isFlag due) (isFlag headers) in
+        let three = both two (isFlag head) in
+        let last = pick (flagIn due) (isNumber asked) true in
+        let flags = both-first three last fine in
+        let former = both-first two (isFlag head) flags in
+        rw (flag-forth due (leb-true due lastFlag (both-first (isFlag due) (isFlag headers) former)), flag-forth headers (leb-true headers lastFlag (both-second (isFlag due) (isFlag headers) former)), flag-forth head (leb-true head lastFlag (both-second two (isFlag head) flags)), asked-counts due asked (both-second three last fine), eqb-true state (stateWord State.Busy) e) refl

@@ -1,7 +1,7 @@
 -- A connection as eight words, both ways. A fault is an error's number, 0 for none: an array of another length, or a word that no
 -- connection has. What words say is said for all words, and counts where they have no fault.
--- Document 01, 'The cycle': left, due, asked and headers count only in Busy, and asked only when due, whatever a record holds. So a fault
--- is looked for only there. The last three words are kept for requests of document 02, and are 0 until then.
+-- Document 01, 'The cycle', and document 02, A4: left, due, asked, headers and head count only in Busy, and asked only when due, whatever a
+-- record holds. So a fault is looked for only there. The last two words are kept for requests of document 02, and are 0 until then.
 -- The C boundary.
 -- Assumes nothing.
 use mathlib.Core.Bool.{Bool, true}
@@ -62,12 +62,12 @@ openPlace = 7
 
 -- the words that are kept for later are 0
 abbrev pub areUnused : List ℕ → Bool
-areUnused words = both (both (eqb (word words headPlace) 0) (eqb (word words editionPlace) 0)) (eqb (word words openPlace) 0)
+areUnused words = both (eqb (word words editionPlace) 0) (eqb (word words openPlace) 0)
 
--- the words that count in Busy alone: two flags and, where a body packet is due, how many bytes were asked for
+-- the words that count in Busy alone: three flags and, where a body packet is due, how many bytes were asked for
 abbrev pub areBusy : List ℕ → Bool
 areBusy words =
-    both (both (isFlag (word words duePlace)) (isFlag (word words headersPlace)))
+    both (both (both (isFlag (word words duePlace)) (isFlag (word words headersPlace))) (isFlag (word words headPlace)))
     (pick (flagIn (word words duePlace)) (isNumber (word words askedPlace)) true)
 
 -- the words of a connection: the unused ones, and Busy with those that count there, or another state
@@ -87,15 +87,16 @@ connectionFault words =
 -- the connection that words are
 unfoldable pub connectionIn : List ℕ → Connection
 connectionIn words =
-    connection.withHeaders (flagIn (word words headersPlace))
+    connection.withHead (flagIn (word words headPlace))
+    (connection.withHeaders (flagIn (word words headersPlace))
     (connection.withDue (flagIn (word words duePlace)) (capped (word words askedPlace))
     (connection.withLeft (word words leftPlace)
-    (connection.rest (stateIn (word words statePlace)))))
+    (connection.rest (stateIn (word words statePlace))))))
 
 -- a connection's words
 unfoldable pub connectionWords : Connection → List ℕ
 connectionWords c =
-    stateWord (c .state) ∷ c .left .0 ∷ booleanNumber (c .due) ∷ c .asked ∷ booleanNumber (c .headers) ∷ 0 ∷ 0 ∷ 0 ∷ []
+    stateWord (c .state) ∷ c .left .0 ∷ booleanNumber (c .due) ∷ c .asked ∷ booleanNumber (c .headers) ∷ booleanNumber (c .head) ∷ 0 ∷ 0 ∷ []
 
 -- of the words of a connection those that count, 0 in the place of the others
 unfoldable pub countingWords : List ℕ → List ℕ
@@ -106,7 +107,7 @@ countingWords words =
     ∷ word words duePlace
     ∷ pick (flagIn (word words duePlace)) (word words askedPlace) 0
     ∷ word words headersPlace
-    ∷ 0
+    ∷ word words headPlace
     ∷ 0
     ∷ 0
     ∷ [])

@@ -84,7 +84,7 @@ fn are_unused(words: &[u32]) -> bool
     requires { ⌜ length (now words) ≡ connectionSize ⌝ }
     ensures { λ r. ⌜ r ≡ areUnused (now (words .entry)) ⌝ }
 {
-    (words[HEAD] == UNUSED) & (words[EDITION] == UNUSED) & (words[OPEN] == UNUSED)
+    (words[EDITION] == UNUSED) & (words[OPEN] == UNUSED)
 }
 
 // Whether the words that count in Busy alone are what they have to be there. A test for each word, and not one for all: the tests then
@@ -97,6 +97,9 @@ fn are_busy(words: &[u32]) -> bool
         return false;
     }
     if SET < words[HEADERS] {
+        return false;
+    }
+    if SET < words[HEAD] {
         return false;
     }
     if words[DUE] != SET {
@@ -131,10 +134,12 @@ pub fn connection_in(words: &[u32]) -> Connection
     let due = words[DUE];
     let asked = words[ASKED];
     let headers = words[HEADERS];
+    let head = words[HEAD];
     Connection::rest(state_in(state))
         .with_left(BodyLeft(left))
         .with_due(flag_in(due), number_in(asked))
         .with_headers(flag_in(headers))
+        .with_head(flag_in(head))
 }
 
 // The words of a connection.
@@ -148,7 +153,7 @@ pub fn connection_words(connection: Connection) -> [u32; CONNECTION_SIZE]
         flag_word(connection.due()),
         connection.asked() as u32,
         flag_word(connection.headers()),
-        UNUSED,
+        flag_word(connection.head()),
         UNUSED,
         UNUSED,
     ]

@@ -20,6 +20,9 @@ shared-slice-read-asked c = search needs
 shared-slice-read-headers : tie.Need-shared-slice-read-headers
 shared-slice-read-headers c = search needs
 
+shared-slice-read-head : tie.Need-shared-slice-read-head
+shared-slice-read-head c = search needs
+
 state-in-requires : tie.Need-state-in-requires
 state-in-requires c κs = search needs
 
@@ -44,14 +47,20 @@ flag-in-requires-2 c κs = search needs
 with-headers-requires : tie.Need-with-headers-requires
 with-headers-requires c κs = search needs
 
+flag-in-requires-3 : tie.Need-flag-in-requires-3
+flag-in-requires-3 c κs = search needs
+
+with-head-requires : tie.Need-with-head-requires
+with-head-requires c κs = search needs
+
 returns : tie.Need-returns
 unfolding connectionIn
 returns c =
-    let headers = c in
+    let headers = c .before .before in
     let due = headers .before .before in
     let left = due .before .before .before in
     let rest = left .before in
-    rw (headers .with-headers .ensures, headers .before .flag-in2 .ensures, due .with-due .ensures, due .before .number-in .ensures, due .before .before .flag-in .ensures, left .with-left .ensures, rest .rest .ensures, rest .before .state-in .ensures)
+    rw (c .with-head .ensures, c .before .flag-in3 .ensures, headers .with-headers .ensures, headers .before .flag-in2 .ensures, due .with-due .ensures, due .before .number-in .ensures, due .before .before .flag-in .ensures, left .with-left .ensures, rest .rest .ensures, rest .before .state-in .ensures)
 
 pub connection-in-spec : {M : Type 1} → statement M
 connection-in-spec =
@@ -62,6 +71,7 @@ connection-in-spec =
     shared-slice-read-due
     shared-slice-read-asked
     shared-slice-read-headers
+    shared-slice-read-head
     state-in-requires
     rest-requires
     with-left-requires
@@ -70,4 +80,6 @@ connection-in-spec =
     with-due-requires
     flag-in-requires-2
     with-headers-requires
+    flag-in-requires-3
+    with-head-requires
     returns)

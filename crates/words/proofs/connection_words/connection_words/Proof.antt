@@ -32,14 +32,20 @@ headers-requires c κs = search needs
 flag-word-requires-2 : tie.Need-flag-word-requires-2
 flag-word-requires-2 c κs = search needs
 
+head-requires : tie.Need-head-requires
+head-requires c κs = search needs
+
+flag-word-requires-3 : tie.Need-flag-word-requires-3
+flag-word-requires-3 c κs = search needs
+
 returns : tie.Need-returns
 unfolding connectionWords
 returns c =
-    let headers = c in
+    let headers = c .before .before in
     let asked = headers .before .before in
     let due = asked .before in
     let state = due .before .before in
-    rw (state .state-word .ensures, state .before .state .ensures, state .before .before .left .ensures, due .flag-word .ensures, due .before .due .ensures, asked .asked .ensures, headers .flag-word2 .ensures, headers .before .headers .ensures)
+    rw (state .state-word .ensures, state .before .state .ensures, state .before .before .left .ensures, due .flag-word .ensures, due .before .due .ensures, asked .asked .ensures, headers .flag-word2 .ensures, headers .before .headers .ensures, c .flag-word3 .ensures, c .before .head .ensures)
 
 pub connection-words-spec : {M : Type 1} → statement M
 connection-words-spec =
@@ -54,4 +60,6 @@ connection-words-spec =
     cast-t8
     headers-requires
     flag-word-requires-2
+    head-requires
+    flag-word-requires-3
     returns)
