@@ -13,7 +13,7 @@ use Rattle.connection.specs.declared.Connection.{Connection}
 use Rattle.connection.specs.declared.Move.{Move}
 use Rattle.connection.specs.declared.Step.{Step}
 use Rattle.connection.specs.Connection.{maxBody, isBusy, bodyDue}
-use Rattle.connection.specs.Cycle.{moveKind, inState, largestBody, sizeAllowed, inSize, after, stepOf}
+use Rattle.connection.specs.Cycle.{moveKind, inState, largestBody, sizeAllowed, inSize, after, sizedStep, stepOf}
 
 -- what counts in Busy alone (`bodyDue`, `isHead`), by whether the state is Busy
 pub busy-by : (c : Connection) (test t : Bool) → isBusy (c .state) ≡ t → both (isBusy (c .state)) test ≡ both t test
@@ -47,8 +47,6 @@ pub step-by : (c : Connection) (m : Move) (a b : Bool) → inState c (moveKind m
 unfolding stepOf
 step-by c m a b d e = rw (d, e)
 
--- the step of a packet that may have any size, by the connection after it
-pub any-size : (c : Connection) (m : Move) (d : Connection) → inSize c m ≡ true → d ≡ after c m
-    → pick (inState c (moveKind m)) (Step.Next d) (Step.Refused notNow) ≡ stepOf c m
-unfolding stepOf
-any-size c m d s e = rw (s, e)
+-- where the kind is allowed now, by whether the size is
+pub step-now : (c : Connection) (m : Move) → inState c (moveKind m) ≡ true → sizedStep c m ≡ stepOf c m
+step-now c m e = sym (step-by c m true (inSize c m) e refl)

@@ -1,3 +1,4 @@
 pub mod Laws
 pub mod Commute
 pub mod Refusals
+pub mod Head

@@ -92,12 +92,25 @@ after c Move.SendHeaders = busy (withHeaders true c)
 after c (Move.BodyChunk k) = busy c
 after c (Move.End reuse) = rest (pick reuse State.Idle State.Closed)
 
+-- whether the request under way is HEAD after a move, by whether it was before: a Forward says it, what leaves Busy clears it, and all else
+-- keeps it
+abbrev pub headThen : Move → Bool → Bool
+headThen Move.CPing before = false
+headThen Move.CPong before = false
+headThen (Move.Forward f) before = f .head
+headThen (Move.Body k) before = before
+headThen (Move.GetBody r) before = before
+headThen Move.SendHeaders before = before
+headThen (Move.BodyChunk k) before = before
+headThen (Move.End reuse) before = false
+
+-- a move of a kind that is allowed now: refused with 14, or the connection after it
+abbrev pub sizedStep : Connection → Move → Step
+sizedStep c m = pick (inSize c m) (Step.Next (after c m)) (Step.Refused bodySizeWrong)
+
 -- a move: refused with its number, or the connection after it
 unfoldable pub stepOf : Connection → Move → Step
-stepOf c m =
-    pick (inState c (moveKind m))
-    (pick (inSize c m) (Step.Next (after c m)) (Step.Refused bodySizeWrong))
-    (Step.Refused notNow)
+stepOf c m = pick (inState c (moveKind m)) (sizedStep c m) (Step.Refused notNow)
 
 -- what each case of an answer says in document 01's terms: its refusal number, 0 for none, and the connection that the caller then
 -- has, the one given where the move is refused

@@ -5,8 +5,8 @@ use mathlib.Core.Bool.{true}
 use Prim.Native.Nat.{ℕ, _≤_}
 use Rattle.connection.specs.declared.Connection.{Connection}
 use Rattle.connection.specs.declared.Move.{Move}
-use Rattle.connection.specs.Connection.{maxBody, tidy}
-use Rattle.connection.specs.Cycle.{largestBody, allowed, after, stepOf}
+use Rattle.connection.specs.Connection.{maxBody, tidy, isHead}
+use Rattle.connection.specs.Cycle.{largestBody, allowed, after, headThen, stepOf}
 
 -- two moves, both of which a connection allows, may be made in either order, and come to the same
 pub record Commuting (c : Connection) (m n : Move) : Type 0 where
@@ -25,3 +25,8 @@ pub record Ignored (c : Connection) (m : Move) : Type 0 where
   pub allows : allowed (tidy c) m ≡ allowed c m
   pub goes : allowed c m ≡ true → after (tidy c) m ≡ after c m
   pub steps : stepOf (tidy c) m ≡ stepOf c m
+
+-- a move that is allowed leaves the mark of HEAD as `headThen` says: in the record itself, and so as it counts
+pub record Marked (c : Connection) (m : Move) : Type 0 where
+  pub in-record : after c m .head ≡ headThen m (isHead c)
+  pub counts : isHead (after c m) ≡ headThen m (isHead c)

@@ -2,8 +2,7 @@
 // This crate alone makes a connection record or takes one apart. No call has a condition: any record gets an answer.
 ghost use mathlib.Core.Path.{_≡_};
 ghost use Rattle.connection.specs.Connection.{maxPacket, maxPayload, fresh, rest, withLeft, withDue, withHeaders, withHead, busy, isIdle, isPinged, isBusy, bodyDue, isHead};
-ghost use Rattle.connection.specs.Cycle.{moveKind, directionOf, inState, largestBody, sizeAllowed, chunkAllowed, forwarded, stepOf};
-ghost use Rattle.wire.specs.Refusal.{notNow};
+ghost use Rattle.connection.specs.Cycle.{moveKind, directionOf, inState, largestBody, sizeAllowed, chunkAllowed, forwarded, sizedStep, stepOf};
 ghost use Prim.Native.Nat.{_-_};
 ghost use lib.Dec.{leb};
 ghost use Rattle.wire.specs.Pick.{pick};
@@ -219,12 +218,20 @@ impl Connection {
         self
     }
 
-    // With whether the request is HEAD.
-    pub fn with_head(mut self, head: bool) -> Connection
+    // With whether the request is HEAD. The record is made anew here too.
+    pub fn with_head(self, head: bool) -> Connection
         ensures { λ r. ⌜ r ≡ withHead head self ⌝ }
     {
-        self.head = head;
-        self
+        let state = self.state;
+        let left = self.left;
+        Connection {
+            state,
+            due: self.due,
+            headers: self.headers,
+            head,
+            asked: self.asked,
+            left,
+        }
     }
 
     pub fn state(self) -> State
@@ -350,24 +357,25 @@ impl Connection {
     pub fn step(self, m: Move) -> Step
         ensures { λ r. ⌜ r ≡ stepOf self m ⌝ }
     {
+        if !self.allows(m.kind()) {
+            return Step::Refused(refusal::NOT_NOW);
+        }
+        self.step_allowed(m)
+    }
+
+    // The same for a caller that asked before whether the kind is allowed: refused with 14, or the connection after it.
+    pub fn step_allowed(self, m: Move) -> Step
+        ensures { λ r. ⌜ r ≡ sizedStep self m ⌝ }
+    {
         match m {
-            Move::CPing => self.step_any_size(Kind::CPing, Self::rest(State::Pinged)),
-            Move::CPong => self.step_any_size(Kind::CPong, Self::rest(State::Idle)),
-            Move::Forward(f) => {
-                let after = Self::forwarded(f).busy();
-                self.step_any_size(Kind::Forward, after)
-            }
-            Move::Body(k) => self.step_body(k),
-            Move::GetBody(r) => {
-                let after = self.busy().with_due(true, r);
-                self.step_any_size(Kind::GetBody, after)
-            }
-            Move::SendHeaders => {
-                let after = self.busy().with_headers(true);
-                self.step_any_size(Kind::SendHeaders, after)
-            }
-            Move::BodyChunk(k) => self.step_body_chunk(k),
-            Move::End(reuse) => self.step_any_size(Kind::End, Self::ended(reuse)),
+            Move::CPing => Step::Next(Self::rest(State::Pinged)),
+            Move::CPong => Step::Next(Self::rest(State::Idle)),
+            Move::Forward(f) => Step::Next(Self::forwarded(f).busy()),
+            Move::Body(k) => self.sized_body(k),
+            Move::GetBody(r) => Step::Next(self.busy().with_due(true, r)),
+            Move::SendHeaders => Step::Next(self.busy().with_headers(true)),
+            Move::BodyChunk(k) => self.sized_chunk(k),
+            Move::End(reuse) => Step::Next(Self::ended(reuse)),
         }
     }
 
@@ -375,14 +383,10 @@ impl Connection {
     pub fn step_body(self, k: usize) -> Step
         ensures { λ r. ⌜ r ≡ stepOf self (Move.Body k) ⌝ }
     {
-        let left = self.left;
         if !self.is_body_due() {
             return Step::Refused(refusal::NOT_NOW);
         }
-        if !is_size_allowed(self.largest_body(), k) {
-            return Step::Refused(refusal::BODY_SIZE_WRONG);
-        }
-        Step::Next(self.busy().with_left(left.less(k)).with_due(false, 0))
+        self.sized_body(k)
     }
 
     // A Send Body Chunk of k bytes, in the same way.
@@ -392,20 +396,28 @@ impl Connection {
         if !self.allows(Kind::BodyChunk) {
             return Step::Refused(refusal::NOT_NOW);
         }
+        self.sized_chunk(k)
+    }
+
+    // A body packet of k bytes where one is due: its size, then the connection after it.
+    fn sized_body(self, k: usize) -> Step
+        ensures { λ r. ⌜ r ≡ sizedStep self (Move.Body k) ⌝ }
+    {
+        let left = self.left;
+        if !is_size_allowed(self.largest_body(), k) {
+            return Step::Refused(refusal::BODY_SIZE_WRONG);
+        }
+        Step::Next(self.busy().with_left(left.less(k)).with_due(false, 0))
+    }
+
+    // A Send Body Chunk of k bytes where one is allowed, in the same way.
+    fn sized_chunk(self, k: usize) -> Step
+        ensures { λ r. ⌜ r ≡ sizedStep self (Move.BodyChunk k) ⌝ }
+    {
         if !is_chunk_allowed(self.is_head(), k) {
             return Step::Refused(refusal::BODY_SIZE_WRONG);
         }
         Step::Next(self.busy())
-    }
-
-    // A packet of a kind that may have any size: refused with 13, or the connection that it makes.
-    fn step_any_size(self, kind: Kind, after: Connection) -> Step
-        ensures { λ r. ⌜ r ≡ pick (inState self kind) (Step.Next after) (Step.Refused notNow) ⌝ }
-    {
-        if !self.allows(kind) {
-            return Step::Refused(refusal::NOT_NOW);
-        }
-        Step::Next(after)
     }
 
     // A request as its Forward tells of it: all of its body is left, a body packet is due where there is any, and whether it is HEAD.

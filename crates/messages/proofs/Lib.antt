@@ -21,3 +21,4 @@ pub mod TwoForms
 pub mod Declared
 pub mod Clear
 pub mod Barred
+pub mod Head

@@ -244,7 +244,7 @@ body-most bytes = go (eqb (length bytes) 0) refl
     go false e h = omega arith
 
 -- bytes whose chunk does
-chunk-most : (bytes : List ℕ) → length (messageBytes (bodyChunk bytes)) ≤ maxPacket → length bytes + 1 + chunkStart ≤ maxPacket
+pub chunk-most : (bytes : List ℕ) → length (messageBytes (bodyChunk bytes)) ≤ maxPacket → length bytes + 1 + chunkStart ≤ maxPacket
 unfolding messageBytes
 chunk-most bytes h = omega (arith, h, length-append bytes (0 ∷ []))
 

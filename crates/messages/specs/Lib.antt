@@ -8,3 +8,4 @@ pub mod TwoForms
 pub mod RoundTrips
 pub mod Clear
 pub mod Barred
+pub mod Head

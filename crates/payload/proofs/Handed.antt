@@ -22,6 +22,7 @@ use Rattle.wire.specs.declared.read.StringRead.{StringRead}
 use Rattle.wire.proofs.Field.{integer-inside}
 use Rattle.headers.specs.Length.{declaredLength}
 use Rattle.wire.proofs.Tests.{both-second}
+use Rattle.names.specs.Method.{headMethod}
 use Rattle.names.specs.Header.{beginsCode, codeFault, spelledFault}
 use Rattle.names.specs.Attribute.{attributeKind, attributeFault}
 use Rattle.packet.specs.declared.AttributeKind.{AttributeKind}
@@ -55,7 +56,7 @@ use Rattle.payload.specs.BodyChunk.{chunkStart, chunkOf, chunkBy, chunkA
 use Rattle.payload.specs.Lists.{headersAfter, listsOf, attributesBehind, behindHeaders, listsAt}
 use Rattle.payload.specs.Forward.{firstMethod, lastMethod, forwardReads, forwardOf, forwardAt}
 use Rattle.payload.specs.SendHeaders.{leastStatus, greatestStatus, sendHeadersReads, sendHeadersOf, sendHeadersAt}
-use Rattle.payload.specs.Kinds.{packetAt, packetKind}
+use Rattle.payload.specs.Kinds.{packetAt, packetKind, forwardMove}
 use Rattle.payload.specs.Handed.{StringEnds, NumberEnds, NameEnds, StringThere, declaresRead, readNull, readBytes, DeclaresThen, HeadersHanded, ValueThere, AttributesHanded, ListsHanded, ForwardHanded, SendHeadersHanded, BodyHanded, ChunkHanded, GetHanded, EndHanded, BareHanded, PacketHanded}
 use Rattle.payload.proofs.Below.{attributes-many, attributes-few}
 use Rattle.payload.proofs.Listing.{HeadersPlaces, headers-places}
@@ -684,3 +685,19 @@ packet-handed context kind s packet e =
     let k = parsed-kind context kind s packet e in
     subst (λ (k : Kind). PacketHanded s packet (packetAt context k s .places)) k
     (handed-by context s packet (subst (λ (k : Kind). packetAt context k s .end ≡ PacketRead.Packet packet) (sym k) e))
+
+-- a byte that was read is the one at its place
+pub byte-value : (s : List ℕ) (at value next : ℕ) → byteAt s at ≡ NumberRead.Number value next → getD s at 0 ≡ value
+unfolding byteAt
+byte-value s at value next e = go (leb (at + 1) (length s)) e
+  where
+    go : (t : Bool) → pick t (NumberRead.Number (getD s at 0) (at + 1)) (NumberRead.Refused cutShort) ≡ NumberRead.Number value next → getD s at 0 ≡ value
+    go true e = cc
+    go false e = absurd (let z : _≡_ {A = ℕ} 0 1 = cc in omega arith)
+
+-- whether a Forward is HEAD goes by the byte behind its code, and by nothing else that stands in it
+pub forward-head : (s : List ℕ) (f : Forward) → forwardAt s .end ≡ PacketRead.Packet (Packet.Forward f)
+    → forwardMove f .head ≡ eqb (getD s afterCodePlace 0) headMethod
+forward-head s f e =
+    let method = forward-handed s f e .method-read in
+    ap (λ (n : ℕ). eqb n headMethod) (sym (byte-value s afterCodePlace (f .method) (f .protocol .0) method))

@@ -16,21 +16,23 @@ use Rattle.wire.specs.Bytes.{part, over}
 use Rattle.wire.proofs.Bytes.{over-none}
 use Rattle.packet.specs.declared.Direction.{Direction}
 use Rattle.places.specs.Entries.{ended}
-use Rattle.connection.specs.Cycle.{inState, stepOf}
+use Rattle.connection.specs.Cycle.{inState, sizedStep, stepOf}
 use Rattle.connection.specs.declared.Kind.{Kind}
 use Rattle.connection.specs.declared.Connection.{Connection}
 use Rattle.connection.specs.declared.Step.{Step}
+use Rattle.connection.proofs.Laws.{step-now}
 use Rattle.payload.specs.Code.{kindAt}
 use Rattle.payload.specs.Kinds.{packetAt, packetMove}
 use Rattle.payload.specs.declared.Context.{Context}
 use Rattle.payload.specs.declared.KindRead.{KindRead}
 use Rattle.packet.specs.declared.Packet.{Packet}
 use Rattle.payload.specs.declared.found.PacketRead.{PacketRead}
+use Rattle.payload.proofs.Parsed.{parsed-kind, move-kind}
 use Rattle.reader.specs.declared.frame.FrameRead.{FrameRead}
 use Rattle.reader.specs.Frame.{frameAt}
 use Rattle.reader.specs.Meaning.{Meaning, needs, refused, accepted, placesNeeded}
 use Rattle.reader.specs.Reading.{parseWhole, parse, contextOf, stepped, accepting, withRoom, reading, filled, tableAfter}
-use Rattle.reader.specs.Private.{needed, tableGiven, allowedReading, allowedTable, wholeOf, tableWhole}
+use Rattle.reader.specs.Private.{needed, tableGiven, sizing, allowedReading, allowedTable, wholeOf, tableWhole}
 use Rattle.reader.proofs.Below.{PlacesFit, places-fit}
 
 -- a packet that was read, by the step
@@ -38,6 +40,23 @@ pub accepting-is : (c : Connection) (taken : ℕ) (packet : Packet) (step : Step
     → stepped packet taken step ≡ accepting c taken (PacketRead.Packet packet)
 unfolding accepting
 accepting-is c taken packet step e = ap (stepped packet taken) (sym e)
+
+-- the same by its size alone
+pub sizing-is : (c : Connection) (taken : ℕ) (packet : Packet) (step : Step) → sizedStep c (packetMove packet) ≡ step
+    → stepped packet taken step ≡ sizing c taken (PacketRead.Packet packet)
+unfolding sizing
+sizing-is c taken packet step e = ap (stepped packet taken) (sym e)
+
+-- which is all where its kind is allowed now
+pub sizing-now : (context : Context) (c : Connection) (kind : Kind) (s : List ℕ) (taken : ℕ) → inState c kind ≡ true
+    → sizing c taken (packetAt context kind s .end) ≡ accepting c taken (packetAt context kind s .end)
+unfolding sizing accepting
+sizing-now context c kind s taken q = go (packetAt context kind s .end) refl
+  where
+    go : (end : PacketRead) → packetAt context kind s .end ≡ end → sizing c taken end ≡ accepting c taken end
+    go (PacketRead.Refused n) e = refl
+    go (PacketRead.Packet p) e =
+        ap (stepped p taken) (step-now c (packetMove p) (ap (inState c) (move-kind p ∙ parsed-kind context kind s p e) ∙ q))
 
 -- too little room for the places that an answer asks for
 pub room-short : (m : Meaning) (places table : List ℕ) → leb (needed m) (length table) ≡ false
@@ -71,10 +90,10 @@ NeedsPlaces many (refused n) = Unit
 NeedsPlaces many (accepted packet taken after) = many ≡ placesNeeded packet
 
 -- the step leaves the places that a packet asks for
-pub accepting-places : (c : Connection) (taken many : ℕ) (end : PacketRead) → PlacesFit many end → NeedsPlaces many (accepting c taken end)
-unfolding accepting
-accepting-places c taken many (PacketRead.Refused n) h = tt
-accepting-places c taken many (PacketRead.Packet packet) h = go (stepOf c (packetMove packet))
+sizing-places : (c : Connection) (taken many : ℕ) (end : PacketRead) → PlacesFit many end → NeedsPlaces many (sizing c taken end)
+unfolding sizing
+sizing-places c taken many (PacketRead.Refused n) h = tt
+sizing-places c taken many (PacketRead.Packet packet) h = go (sizedStep c (packetMove packet))
   where
     go : (step : Step) → NeedsPlaces many (stepped packet taken step)
     go (Step.Refused n) = tt
@@ -100,14 +119,14 @@ fill-own (accepted packet taken after) room places blank table h = go (leb (plac
 
 -- a packet with headers: it was stepped by, and the table was filled from a list of the reader's own
 pub listed-is : (context : Context) (c : Connection) (kind : Kind) (s blank table : List ℕ) (found : PacketRead) (answer r : Meaning) (places exit : List ℕ)
-    → found ≡ packetAt context kind s .end → places ≡ over blank 0 (packetAt context kind s .places) → answer ≡ accepting c (length s) found
+    → found ≡ packetAt context kind s .end → places ≡ over blank 0 (packetAt context kind s .places) → answer ≡ sizing c (length s) found
     → (r ≡ withRoom (length table) answer) × (exit ≡ tableGiven answer places table)
     → (r ≡ allowedReading context c kind s (length table)) × (exit ≡ allowedTable context c kind s table)
 unfolding allowedReading allowedTable tableGiven
 listed-is context c kind s blank table found answer r places exit p q e h =
-    let own = accepting c (length s) (packetAt context kind s .end) in
-    let m : answer ≡ own = e ∙ ap (accepting c (length s)) p in
-    let fit = accepting-places c (length s) (length (packetAt context kind s .places)) (packetAt context kind s .end) (places-fit context s kind) in (
+    let own = sizing c (length s) (packetAt context kind s .end) in
+    let m : answer ≡ own = e ∙ ap (sizing c (length s)) p in
+    let fit = sizing-places c (length s) (length (packetAt context kind s .places)) (packetAt context kind s .end) (places-fit context s kind) in (
       h .0 ∙ ap (withRoom (length table)) m,
       h .1
           ∙ ap (λ (a : Meaning). filled (withRoom (length table) a) (take (needed a) places) table) m
@@ -126,13 +145,13 @@ none-needed (accepted packet taken after) table h =
 
 -- a packet without headers: it was stepped by, and the table is as it was
 pub plain-is : (context : Context) (c : Connection) (given kind : Kind) (s table : List ℕ) (end found : PacketRead) (r : Meaning)
-    → given ≡ kind → packetAt context kind s ≡ ended end → found ≡ end → r ≡ accepting c (length s) found
+    → given ≡ kind → packetAt context kind s ≡ ended end → found ≡ end → r ≡ sizing c (length s) found
     → (r ≡ allowedReading context c given s (length table)) × (table ≡ allowedTable context c given s table)
 unfolding allowedReading allowedTable
 plain-is context c given kind s table end found r k p q e =
     let fit : PlacesFit 0 end = rw p at (places-fit context s kind) in
-    let kept = none-needed (accepting c (length s) end) table (accepting-places c (length s) 0 end fit) in
-    rw (k, p) (e ∙ ap (accepting c (length s)) q ∙ kept .0, kept .1)
+    let kept = none-needed (sizing c (length s) end) table (sizing-places c (length s) 0 end fit) in
+    rw (k, p) (e ∙ ap (sizing c (length s)) q ∙ kept .0, kept .1)
 
 module _ (direction : Direction) (c : Connection) (s table : List ℕ) where
   -- a whole packet, by what is known of it beside its bytes
@@ -154,7 +173,7 @@ module _ (direction : Direction) (c : Connection) (s table : List ℕ) where
         → inState c kind ≡ true → (r ≡ allowedReading context c kind s (length table)) × (exit ≡ allowedTable context c kind s table)
         → (r ≡ wholeOf direction c s (length table)) × (exit ≡ tableWhole direction c s table)
     unfolding wholeOf tableWhole parseWhole allowedReading allowedTable
-    whole-kind kind r exit e q h = rw (← is, e, q) h
+    whole-kind kind r exit e q h = rw (← is, e, q, ← sizing-now context c kind s (length s) q) h
 
   -- more bytes are needed
   pub read-needs : (n : ℕ) → frameAt direction s ≡ FrameRead.Needs n

@@ -5,8 +5,8 @@ ghost use Prim.Native.Nat.{_≤_};
 ghost use lib.ListN.{length};
 ghost use Rattle.connection.specs.Connection.{maxPacket};
 ghost use Rattle.reader.specs.Meaning.{receivedMeaning, placesNeeded};
-ghost use Rattle.reader.specs.Reading.{contextOf, stepped, accepting, withRoom, reading, tableAfter};
-ghost use Rattle.reader.specs.Private.{needed, tableGiven, allowedReading, allowedTable, wholeOf, tableWhole};
+ghost use Rattle.reader.specs.Reading.{contextOf, stepped, withRoom, reading, tableAfter};
+ghost use Rattle.reader.specs.Private.{needed, tableGiven, sizing, allowedReading, allowedTable, wholeOf, tableWhole};
 use connection::Connection;
 use connection::Kind;
 use connection::Step;
@@ -158,13 +158,16 @@ fn send_headers(
     fill_table(accept(connection, packet.len(), found), &places, table)
 }
 
-// Steps the connection by a packet that was read; the table aside.
+// Steps the connection by a packet that was read and whose kind is allowed now; the table aside.
 fn accept(connection: Connection, taken: usize, found: PacketRead) -> Received
-    ensures { λ r. ⌜ receivedMeaning r ≡ accepting connection taken found ⌝ }
+    ensures { λ r. ⌜ receivedMeaning r ≡ sizing connection taken found ⌝ }
 {
     match found {
         PacketRead::Refused(n) => Received::Refused(n),
-        PacketRead::Packet(packet) => stepped(packet, taken, connection.step(move_of(packet))),
+        PacketRead::Packet(packet) => {
+            let step = connection.step_allowed(move_of(packet));
+            stepped(packet, taken, step)
+        }
     }
 }
 

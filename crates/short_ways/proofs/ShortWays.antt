@@ -1,6 +1,6 @@
 -- The short ways: what is known of a packet that goes one, and that it is answered as reading any packet answers it.
 -- Assumes nothing.
-use mathlib.Core.Path.{_≡_, refl, sym, ap, _∙_}
+use mathlib.Core.Path.{_≡_, refl, sym, ap, subst, _∙_}
 use mathlib.Core.Bool.{Bool, true, false, false≢true}
 use mathlib.Core.List.{List, [], _∷_}
 use Prim.Native.Nat.{ℕ}
@@ -13,7 +13,7 @@ use Rattle.wire.specs.Bytes.{part, integerIn}
 use Rattle.wire.specs.Field.{byteAt, integerAt}
 use Rattle.packet.specs.declared.Direction.{Direction}
 use Rattle.wire.specs.declared.read.NumberRead.{NumberRead}
-use Rattle.places.specs.Entries.{ended}
+use Rattle.places.specs.Entries.{Entries, ended}
 use Rattle.connection.specs.Connection.{bodyDue}
 use Rattle.connection.specs.Cycle.{inState, stepOf}
 use Rattle.connection.specs.declared.Kind.{Kind}
@@ -35,7 +35,8 @@ use Rattle.reader.specs.Meaning.{Meaning}
 use Rattle.reader.specs.Reading.{contextOf, stepped, accepting, reading, tableAfter}
 use Rattle.short_ways.specs.Short.{wholeSize, isChunk, bodySize, chunkSize, shortSize, other, answered, partMeaning, shortReading}
 use Rattle.short_ways.specs.Private.{partIn, steppedPart}
-use Rattle.reader.proofs.Laws.{accepting-is, plain-is, whole-kind, read-whole}
+use Rattle.reader.specs.Private.{sizing}
+use Rattle.reader.proofs.Laws.{accepting-is, sizing-now, plain-is, whole-kind, read-whole}
 use Rattle.wire.specs.Packet.{codePlace}
 
 -- the size of a body packet, by whether one is due
@@ -110,9 +111,12 @@ pub short-is : (d : Direction) (c : Connection) (s table : List ℕ) (kind : Kin
     → Short d c s kind n → packet ≡ part s 0 n → packetAt (contextOf d c) kind packet ≡ ended end → r ≡ accepting c (length packet) end
     → (r ≡ reading d c s (length table)) × (table ≡ tableAfter d c s table)
 short-is d c s table kind n packet end r short p q e =
+    let same : sizing c (length packet) end ≡ accepting c (length packet) end =
+    subst (λ (x : Entries PacketRead). sizing c (length packet) (x .end) ≡ accepting c (length packet) (x .end)) q
+    (sizing-now (contextOf d c) c kind packet (length packet) (short .allowed)) in
     read-whole d c s table n packet r table (short .whole) p
     (whole-kind d c packet table (contextOf d c) refl kind r table (ap (kindAt (contextOf d c)) p ∙ short .kind-read) (short .allowed)
-    (plain-is (contextOf d c) c kind kind packet table end end r refl q refl e))
+    (plain-is (contextOf d c) c kind kind packet table end end r refl q refl (e ∙ sym same)))
 
 -- a packet of a kind with a part: a body packet and a chunk are no more than theirs
 abbrev pub withPart : Kind → Packet → Part → Packet

@@ -1,9 +1,9 @@
 -- `reader::accept` meets its contract, by the step that the packet makes.
 -- Assumes nothing.
 use mathlib.Core.Path.{sym, ap, _∙_}
-use Rattle.connection.specs.Cycle.{stepOf}
-use Rattle.reader.specs.Reading.{accepting}
-use Rattle.reader.proofs.Laws.{accepting-is}
+use Rattle.connection.specs.Cycle.{sizedStep}
+use Rattle.reader.specs.Private.{sizing}
+use Rattle.reader.proofs.Laws.{sizing-is}
 use borrow.Author.Needs.{needs}
 use Rattle.reader.proofs.accept.Statement.{statement}
 use Rattle.reader.proofs.accept.Tie as tie
@@ -17,21 +17,21 @@ enum-known-found-2 c = search needs
 move-of-requires : tie.Need-move-of-requires
 move-of-requires c κs = search needs
 
-step-requires : tie.Need-step-requires
-step-requires c κs = search needs
+step-allowed-requires : tie.Need-step-allowed-requires
+step-allowed-requires c κs = search needs
 
 stepped-requires : tie.Need-stepped-requires
 stepped-requires c κs = search needs
 
 returns : tie.Need-returns
-unfolding accepting
-returns c = sym (ap (accepting _ _) (c .before .found .given .1))
+unfolding sizing
+returns c = sym (ap (sizing _ _) (c .before .found .given .1))
 
 returns-2 : tie.Need-returns-2
 returns-2 c =
     c .stepped .ensures
-    ∙ accepting-is _ _ _ _ (ap (stepOf _) (sym (c .before .before .move-of .ensures)) ∙ sym (c .before .step .ensures))
-    ∙ sym (ap (accepting _ _) (c .before .before .before .before .found2 .given .1))
+    ∙ sizing-is _ _ _ _ (ap (sizedStep _) (sym (c .before .before .move-of .ensures)) ∙ sym (c .before .step-allowed .ensures))
+    ∙ sym (ap (sizing _ _) (c .before .before .before .before .found2 .given .1))
 
 pub accept-spec : {M : Type 1} → statement M
 accept-spec =
@@ -40,7 +40,7 @@ accept-spec =
     enum-known-found
     enum-known-found-2
     move-of-requires
-    step-requires
+    step-allowed-requires
     stepped-requires
     returns
     returns-2)
