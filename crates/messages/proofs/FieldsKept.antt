@@ -2,17 +2,14 @@
 -- `Handed`) are those of what the views show of it, and building finds no fault in that, since it asks for nothing that reading did not ask for.
 -- Assumes nothing.
 use native.Mathlib.Omega.{arith}
-use borrow.Author.Tests.{leb-true}
 use mathlib.Core.Path.{_≡_, refl, sym, ap, subst, _∙_}
 use mathlib.Core.Bool.{Bool, true, false, false≢true}
 use mathlib.Core.List.{List, [], _∷_, _++_, append-assoc}
 use Prim.Native.Nat.{ℕ, _+_, _-_, _≤_, _<_}
-use lib.Dec.{leb}
 use lib.ListN.{length, getD, drop}
-use Rattle.wire.specs.Pick.{pick}
-use Rattle.wire.specs.Refusal.{none, cutShort}
+use Rattle.wire.specs.Refusal.{none}
 use Rattle.wire.specs.Bytes.{part, integerIn, integerBytes}
-use Rattle.wire.specs.Field.{numberAt, byteAt, integerAt, booleanAt, booleanBytes, stringAt, isOptional, stringAllowed}
+use Rattle.wire.specs.Field.{byteAt, integerAt, booleanAt, booleanBytes, stringAt, isOptional, stringAllowed}
 use Rattle.packet.specs.declared.Direction.{Direction}
 use Rattle.wire.specs.declared.StringField.{StringField}
 use Rattle.wire.specs.declared.read.NumberRead.{NumberRead}
@@ -32,7 +29,7 @@ use Rattle.headers.specs.Headers.{nameAt, declares, declaredAfter}
 use Rattle.headers.specs.declared.NameRead.{NameRead}
 use Rattle.attributes.specs.Attributes.{lastMark}
 use Rattle.payload.specs.Handed.{StringEnds, NumberEnds, NameEnds, StringThere, readNull, readBytes, DeclaresThen, HeadersHanded, ValueThere, AttributesHanded}
-use Rattle.payload.proofs.Handed.{NameFine, name-fine}
+use Rattle.payload.proofs.Handed.{NameFine, name-fine, number-found}
 use Rattle.building.specs.Fault.{orElse, stringFault, faultAfter}
 use Rattle.building.specs.Field.{Field, plain, stringField, faultsOf, fieldsBytes}
 use Rattle.pieces.specs.Header.{codedName, spelledName, lengthFault, valueFault, headerValue}
@@ -154,25 +151,11 @@ string-kept s at field end bytes h = go (stringAt s at (isOptional field)) refl 
         subst (λ (t : Text). FieldKept s at end (textField field t)) (sym (text-told s at (isOptional field) start len next e))
         (subst (λ (i : ℕ). FieldKept s at i (stringField field false (textView s at))) q (text-held s at field start len next bytes e))
 
--- a number that was read: its value is the one that stands there, in so many bytes
-number-is : (width there : ℕ) (s : List ℕ) (at value next : ℕ) → numberAt width there s at ≡ NumberRead.Number value next
-    → (there ≡ value) × (at + width ≡ next) × (at + width ≤ length s)
-number-is width there s at value next = go (leb (at + width) (length s)) refl
-  where
-    go : (t : Bool) → leb (at + width) (length s) ≡ t
-        → pick t (NumberRead.Number there (at + width)) (NumberRead.Refused cutShort) ≡ NumberRead.Number value next
-        → (there ≡ value) × (at + width ≡ next) × (at + width ≤ length s)
-    go true h e =
-        let same : there ≡ value = cc in
-        let ends : at + width ≡ next = cc in
-        (same, ends, leb-true (at + width) (length s) h)
-    go false h e = absurd (let z : _≡_ {A = ℕ} 0 1 = cc in omega arith)
-
 -- a byte that was read
 pub byte-held : (s : List ℕ) (at value next : ℕ) → byteAt s at ≡ NumberRead.Number value next → Held s at next (value ∷ [])
 unfolding byteAt
 byte-held s at value next e =
-    let n = number-is 1 (getD s at 0) s at value next e in
+    let n = number-found 1 (getD s at 0) s at value next e in
     rw (← n .0, ← n .1) (held-byte s at (n .2))
 
 -- a number from two bytes fits them
@@ -185,7 +168,7 @@ pub integer-held : (s : List ℕ) (at value next : ℕ) → Bytes s → integerA
     → Held s at next (integerBytes value) × (value < 65536)
 unfolding integerAt
 integer-held s at value next bytes e =
-    let n = number-is 2 (integerIn s at) s at value next e in
+    let n = number-found 2 (integerIn s at) s at value next e in
     let two : at + 2 - at ≡ 2 = omega arith in
     let held : Held s at (at + 2) (integerBytes (integerIn s at)) =
     record { forth = omega arith; inside = n .2; are = ap (part s at) two ∙ integer-kept s at bytes (n .2) } in

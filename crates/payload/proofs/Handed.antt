@@ -13,7 +13,7 @@ use lib.ListN.{length, getD, length-append}
 use Rattle.wire.specs.Pick.{pick, oneOf, between}
 use Rattle.wire.specs.Refusal.{none, outOfRange, cutShort, stringWrong, tooMany, leftOver}
 use Rattle.wire.specs.Bytes.{part}
-use Rattle.wire.specs.Field.{byteAt, integerAt, booleanAt, stringAt, isOptional, booleanNumber}
+use Rattle.wire.specs.Field.{numberAt, byteAt, integerAt, booleanAt, stringAt, isOptional, booleanNumber}
 use Rattle.packet.specs.declared.Direction.{Direction}
 use Rattle.wire.specs.declared.StringField.{StringField}
 use Rattle.wire.specs.declared.read.NumberRead.{NumberRead}
@@ -686,18 +686,24 @@ packet-handed context kind s packet e =
     subst (λ (k : Kind). PacketHanded s packet (packetAt context k s .places)) k
     (handed-by context s packet (subst (λ (k : Kind). packetAt context k s .end ≡ PacketRead.Packet packet) (sym k) e))
 
--- a byte that was read is the one at its place
-pub byte-value : (s : List ℕ) (at value next : ℕ) → byteAt s at ≡ NumberRead.Number value next → getD s at 0 ≡ value
-unfolding byteAt
-byte-value s at value next e = go (leb (at + 1) (length s)) e
+-- a number that was read: its value is the one that stands there, in so many bytes
+pub number-found : (width there : ℕ) (s : List ℕ) (at value next : ℕ) → numberAt width there s at ≡ NumberRead.Number value next
+    → (there ≡ value) × (at + width ≡ next) × (at + width ≤ length s)
+number-found width there s at value next = go (leb (at + width) (length s)) refl
   where
-    go : (t : Bool) → pick t (NumberRead.Number (getD s at 0) (at + 1)) (NumberRead.Refused cutShort) ≡ NumberRead.Number value next → getD s at 0 ≡ value
-    go true e = cc
-    go false e = absurd (let z : _≡_ {A = ℕ} 0 1 = cc in omega arith)
+    go : (t : Bool) → leb (at + width) (length s) ≡ t
+        → pick t (NumberRead.Number there (at + width)) (NumberRead.Refused cutShort) ≡ NumberRead.Number value next
+        → (there ≡ value) × (at + width ≡ next) × (at + width ≤ length s)
+    go true h e =
+        let same : there ≡ value = cc in
+        let ends : at + width ≡ next = cc in
+        (same, ends, leb-true (at + width) (length s) h)
+    go false h e = absurd (let z : _≡_ {A = ℕ} 0 1 = cc in omega arith)
 
 -- whether a Forward is HEAD goes by the byte behind its code, and by nothing else that stands in it
 pub forward-head : (s : List ℕ) (f : Forward) → forwardAt s .end ≡ PacketRead.Packet (Packet.Forward f)
     → forwardMove f .head ≡ eqb (getD s afterCodePlace 0) headMethod
+unfolding byteAt
 forward-head s f e =
-    let method = forward-handed s f e .method-read in
-    ap (λ (n : ℕ). eqb n headMethod) (sym (byte-value s afterCodePlace (f .method) (f .protocol .0) method))
+    let method = number-found 1 (getD s afterCodePlace 0) s afterCodePlace (f .method) (f .protocol .0) (forward-handed s f e .method-read) in
+    ap (λ (n : ℕ). eqb n headMethod) (sym (method .0))

@@ -6,3 +6,4 @@ pub mod Counting
 pub mod Invariant
 pub mod Theorem
 pub mod Sample
+pub mod Head

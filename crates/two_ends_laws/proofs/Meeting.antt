@@ -25,7 +25,7 @@ pipe-last empty readable = next readable empty
 pipe-last (next first later) readable = next first (pipe-last later readable)
 
 -- the packets of a pipe all go its way
-pipe-goes : {direction : Direction} {packets : List PipePacket} {moves : List Move} → Pipe direction packets moves → AllGo direction moves
+pub pipe-goes : {direction : Direction} {packets : List PipePacket} {moves : List Move} → Pipe direction packets moves → AllGo direction moves
 pipe-goes empty = tt
 pipe-goes (next first later) = (first .way, pipe-goes later)
 

@@ -118,6 +118,7 @@ readable-as {direction} {bytes} {p} parses ofBody same =
         way = ap directionOf (move-kind p) ∙ parses .way;
         carries = carried p bytes (parses .fields-are);
         tells = p;
+        makes = refl;
         handed = λ rest. handed-out p bytes rest (parses .fields-are);
         counts = λ rest before. counted-as p bytes rest before (parses .fields-are);
         reads = λ c rest f. parses-accepted parses c f rest maxPlaces (parses-places parses);

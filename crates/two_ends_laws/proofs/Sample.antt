@@ -1,5 +1,5 @@
--- A whole request, computed by the definitions: that ends do send, and that what they send arrives. (The theorem alone would hold of ends
--- that never send.)
+-- Whole requests, computed by the definitions: that ends do send, and that what they send arrives; one with a body, and a HEAD. (The theorems
+-- alone would hold of ends that never send.)
 -- Assumes nothing.
 use mathlib.Core.Path.{_≡_, refl}
 use mathlib.Core.Bool.{true, false}
@@ -29,12 +29,13 @@ use Rattle.payload.specs.SendHeaders.{sendHeadersReads, sendHeadersAt}
 use Rattle.building.specs.Fault.{fitFault}
 use Rattle.building.specs.Call.{refusalOf, outcome, bufferAfter}
 use Rattle.building_record.specs.Record.{isPossible}
-use Rattle.writer.specs.Sending.{bareCall, bodyCall, endCall}
+use Rattle.writer.specs.Sending.{bareCall, bodyCall, chunkCall, endCall}
 use Rattle.closing.specs.Closing.{closingFault, closed, closedPacket, judgement, closeOutcome, closeBuffer}
 use Rattle.reader.specs.Frame.{leadingDiffers, lengthAt, frameAt}
 use Rattle.reader.specs.Reading.{parseWhole, parse, accepting, reading}
-use Rattle.sends.specs.Send.{body, closeForward, end, closeSendHeaders}
-use Rattle.two_ends_laws.specs.Ends.{freshEnds, Delivery}
+use Rattle.sends.specs.Send.{body, closeForward, bodyChunk, end, closeSendHeaders}
+use Rattle.two_ends_laws.specs.Ends.{freshEnds, allBytes, Delivery}
+use Rattle.two_ends_laws.specs.Head.{headUnderWay}
 use Rattle.two_ends_laws.specs.Past.{start, Event, send, deliver, run, requests, receivedBytes, sentBytes}
 
 -- a buffer in which a Forward was built up to its last header: GET /, content-length 2
@@ -89,3 +90,44 @@ pub sample-run : (requests (run sample start .past) ≡ record { declared = 2; g
     × (run sample start .ends ≡ freshEnds)
 unfolding all any part over integerIn byteAt integerAt booleanAt textAt afterLength stringAt codeFault isListed requestNames responseNames digits decimalOf largestBody stepOf codeNameOf nameAt declaredAfter headerValueAt headerAt headersAt attributeAt attributesAt codeKind kindAt stringFieldAt stringAfter booleanFieldAt booleanAfter byteAfter anyIntegerAfter integerAfter endAt getAt sizedAt bodyAt chunkOf chunkAt headersAfter attributesBehind listsAt forwardAt forwardReads sendHeadersAt sendHeadersReads fitFault refusalOf outcome bufferAfter isPossible bareCall bodyCall endCall closingFault closed closedPacket judgement closeOutcome closeBuffer leadingDiffers lengthAt frameAt parseWhole parse accepting reading
 sample-run = (refl, refl, refl, refl)
+
+-- a buffer in which a Forward was built that is a HEAD: HEAD /, no headers
+abbrev headRequest : List ℕ
+headRequest =
+    0x12 ∷ 0x34 ∷ 0x00 ∷ 0x00 ∷ 0x02 ∷ 0x03
+    ∷ 0x00 ∷ 0x01 ∷ 0x48 ∷ 0x00
+    ∷ 0x00 ∷ 0x01 ∷ 0x2F ∷ 0x00
+    ∷ 0xFF ∷ 0xFF ∷ 0xFF ∷ 0xFF ∷ 0xFF ∷ 0xFF
+    ∷ 0x00 ∷ 0x50 ∷ 0x00
+    ∷ 0x00 ∷ 0x00
+    ∷ 0x07 ∷ []
+
+-- a HEAD, delivered; Send Headers; a chunk with bytes, which is refused (14); an empty one, which is sent
+abbrev headSample : List Event
+headSample =
+    send (closeForward (record { next = 25; count = 23; headers = 0; attributes = false }) headRequest)
+    ∷ deliver Direction.ToContainer withNext
+    ∷ send (closeSendHeaders (record { next = 11; count = 9; headers = 0; attributes = false }) response)
+    ∷ send (bodyChunk short hi)
+    ∷ send (bodyChunk short [])
+    ∷ []
+
+-- then both packets delivered, and End sent and delivered
+abbrev headEnding : List Event
+headEnding =
+    deliver Direction.ToServer withNext
+    ∷ deliver Direction.ToServer withNext
+    ∷ send (end short true)
+    ∷ deliver Direction.ToServer withNext
+    ∷ []
+
+-- what it comes to: a HEAD is under way, with Send Headers and the empty chunk in the pipe; and after its End none is, and the ends are as at
+-- the start
+pub head-sample-run : (headUnderWay (run headSample start .past) ≡ true)
+    × (allBytes (run headSample start .ends .toServer)
+    ≡ 0x41 ∷ 0x42 ∷ 0x00 ∷ 0x07 ∷ 0x04 ∷ 0x00 ∷ 0xC8 ∷ 0xFF ∷ 0xFF ∷ 0x00 ∷ 0x00
+    ∷ 0x41 ∷ 0x42 ∷ 0x00 ∷ 0x04 ∷ 0x03 ∷ 0x00 ∷ 0x00 ∷ 0x00 ∷ [])
+    × (headUnderWay (run headEnding (run headSample start) .past) ≡ false)
+    × (run headEnding (run headSample start) .ends ≡ freshEnds)
+unfolding all any part over integerIn byteAt integerAt booleanAt textAt afterLength stringAt codeFault isListed requestNames responseNames digits decimalOf largestBody stepOf codeNameOf nameAt declaredAfter headerValueAt headerAt headersAt attributeAt attributesAt codeKind kindAt stringFieldAt stringAfter booleanFieldAt booleanAfter byteAfter anyIntegerAfter integerAfter endAt getAt sizedAt bodyAt chunkOf chunkAt headersAfter attributesBehind listsAt forwardAt forwardReads sendHeadersAt sendHeadersReads fitFault refusalOf outcome bufferAfter isPossible bareCall bodyCall chunkCall endCall closingFault closed closedPacket judgement closeOutcome closeBuffer leadingDiffers lengthAt frameAt parseWhole parse accepting reading
+head-sample-run = (refl, refl, refl, refl)

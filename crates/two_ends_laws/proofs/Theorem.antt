@@ -67,12 +67,12 @@ module _ (w : World) (kept : Kept w) where
   }
 
 -- each event keeps it
-happen-keeps : (event : Event) (w : World) → Kept w → Kept (happen event w)
+pub happen-keeps : (event : Event) (w : World) → Kept w → Kept (happen event w)
 happen-keeps (send call) w kept = send-keeps call w kept
 happen-keeps (deliver direction d) w kept = deliver-keeps direction d w kept
 
 -- so does a list of events
-run-keeps : (events : List Event) (w : World) → Kept w → Kept (run events w)
+pub run-keeps : (events : List Event) (w : World) → Kept w → Kept (run events w)
 run-keeps [] w kept = kept
 run-keeps (event ∷ later) w kept = run-keeps later (happen event w) (happen-keeps event w kept)
 

@@ -3,3 +3,4 @@ pub mod Past
 pub mod Readable
 pub mod Made
 pub mod Claims
+pub mod Head

@@ -12,6 +12,7 @@ use Rattle.connection.specs.Cycle.{moveKind, directionOf, allowed, after}
 use Rattle.connection.specs.declared.Connection.{Connection}
 use Rattle.connection.specs.declared.Move.{Move}
 use Rattle.places.specs.Entries.{maxPlaces}
+use Rattle.payload.specs.Kinds.{packetMove}
 use Rattle.reader.specs.Meaning.{accepted}
 use Rattle.reader.specs.Reading.{reading}
 use Rattle.two_ends_laws.specs.Ends.{PipePacket}
@@ -45,6 +46,7 @@ pub record Readable (direction : Direction) (packet : PipePacket) (m : Move) : T
   pub way : directionOf (moveKind m) ≡ direction
   pub carries : Carries m (heldIn packet)
   pub tells : Packet
+  pub makes : packetMove tells ≡ m
   pub handed : (rest : List ℕ) → bodyPart (packet .bytes ++ rest) tells ≡ heldIn packet
   pub counts : (rest : List ℕ) (before : List RequestBody)
       → countPacket (packet .bytes ++ rest) tells before ≡ counting m (heldIn packet) before
