@@ -8,7 +8,7 @@ mod table;
 #[path = "../../bindings/rust/tests/plain/mod.rs"]
 mod plain;
 
-use ajp13::{Connection, ForwardHead, Method, Packet, Places, Received, State};
+use ajp13::{Connection, ConnectionFields, ForwardHead, Method, Packet, Places, Received, State};
 use harness::{counted_row, measure, warm_up, Row};
 use requests::{Request, Value};
 use std::hint::black_box;
@@ -120,7 +120,13 @@ fn copy(bytes: &[u8]) -> impl FnMut(usize) + '_ {
 
 /// A connection with a body packet due.
 fn due() -> Connection {
-    Connection::from_fields(State::Busy, 1_000_000, true, ajp13::MAX_BODY as u16, false)
+    Connection::from_fields(ConnectionFields {
+        state: State::Busy,
+        left: 1_000_000,
+        due: true,
+        asked: ajp13::MAX_BODY as u16,
+        ..Default::default()
+    })
 }
 
 fn plain_due() -> plain::Connection {
@@ -130,12 +136,17 @@ fn plain_due() -> plain::Connection {
         due: true,
         asked: ajp13::MAX_BODY as u16,
         headers: false,
+        head: false,
     }
 }
 
 /// A connection whose headers were sent, so that chunks may come.
 fn answering() -> Connection {
-    Connection::from_fields(State::Busy, 0, false, 0, true)
+    Connection::from_fields(ConnectionFields {
+        state: State::Busy,
+        headers_sent: true,
+        ..Default::default()
+    })
 }
 
 fn plain_answering() -> plain::Connection {
@@ -145,6 +156,7 @@ fn plain_answering() -> plain::Connection {
         due: false,
         asked: 0,
         headers: true,
+        head: false,
     }
 }
 

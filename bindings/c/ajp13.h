@@ -76,7 +76,8 @@ enum {
     AJP13_TOO_MANY = 11,              /* over 100 headers or over 64 attributes */
     AJP13_LEFT_OVER = 12,             /* bytes are left after the last field */
     AJP13_NOT_NOW = 13,               /* not allowed in this state of the connection */
-    AJP13_BODY_SIZE_WRONG = 14,       /* a body packet of another size than the cycle allows now */
+    AJP13_BODY_SIZE_WRONG = 14,       /* a body packet of another size than the cycle allows now, or a chunk with bytes
+                                         where the request is HEAD */
     AJP13_BUFFER_TOO_SHORT = 15,      /* the lent buffer, or the lent table, is too short */
     AJP13_RECORD_WRONG = 16,          /* a header after an attribute, an attribute on a Send Headers, or an
                                          impossible building record; see ajp13_building */
@@ -202,7 +203,8 @@ enum {
  *   state                          packet            after
  *   Idle                           CPing             Pinged
  *   Pinged                         CPong             Idle
- *   Idle                           Forward           Busy; where a body is declared, a body packet is due, asked 8186
+ *   Idle                           Forward           Busy; where a body is declared, a body packet is due, asked 8186;
+ *                                                    head where its method is AJP13_METHOD_HEAD
  *   Busy, due                      body packet       its bytes fewer left, none due
  *   Busy, none due                 Get Body Chunk    due, asked as many as it says
  *   Busy, no headers yet           Send Headers      headers sent
@@ -211,7 +213,8 @@ enum {
  *
  * Nothing else is allowed (AJP13_NOT_NOW). A body packet holds at least one byte and at most ajp13_largest_body; where
  * that is 0, the body packet is empty (else AJP13_BODY_SIZE_WRONG). An empty one is written as 12 34 00 00; with a size
- * of 0, as 12 34 00 02 00 00, it is read as the same packet.
+ * of 0, as 12 34 00 02 00 00, it is read as the same packet. The response to a HEAD has no body: while one is under way a
+ * Send Body Chunk has to be empty (else AJP13_BODY_SIZE_WRONG), at both ends.
  *
  * A Forward declares a body by its header content-length, and none without it. The server sends the first body packet
  * unasked, right behind the Forward, and each further one when a Get Body Chunk came. The container need not ask for
@@ -221,10 +224,10 @@ enum {
  * ajp13_begin_forward and ajp13_body; one at the container's end ajp13_read_at_container, ajp13_cpong,
  * ajp13_begin_send_headers, ajp13_body_chunk, ajp13_get_body and ajp13_end.
  *
- * Left, due, asked and headers count only in Busy, and asked only where a body packet is due. What does not count is
- * not looked at, and a step sets to 0 what does not count after it.
+ * Left, due, asked, headers and head count only in Busy, and asked only where a body packet is due. What does not count
+ * is not looked at, and a step sets to 0 what does not count after it.
  *
- * Words out of range (AJP13_ERROR_CONNECTION_WORD): state above 3; head, edition or open not 0; in Busy due or headers
+ * Words out of range (AJP13_ERROR_CONNECTION_WORD): state above 3; edition or open not 0; in Busy due, headers or head
  * above 1, or asked above 65535 where a body packet is due.
  */
 typedef struct ajp13_connection {
@@ -237,9 +240,9 @@ enum {
     AJP13_CONNECTION_DUE = 2,     /* 1 where a body packet is due */
     AJP13_CONNECTION_ASKED = 3,   /* how many bytes were asked for, where one is due */
     AJP13_CONNECTION_HEADERS = 4, /* 1 once Send Headers went */
+    AJP13_CONNECTION_HEAD = 5,    /* 1 where the request is a HEAD: its method is AJP13_METHOD_HEAD */
 
     /* Kept for a later version: written as 0, and must be 0. */
-    AJP13_CONNECTION_HEAD = 5,
     AJP13_CONNECTION_EDITION = 6,
     AJP13_CONNECTION_OPEN = 7
 };
@@ -465,7 +468,7 @@ static inline uint32_t ajp13_read_at_container(ajp13_connection *connection,
 /*
  * Reads the packet at the start of bytes, at the server's end: CPong, Get Body Chunk, Send Headers, Send Body Chunk or
  * End Response. Arguments and status are those of ajp13_read_at_container; connection is the server's. Of the refusals,
- * AJP13_CODE_NOT_SERVED, AJP13_ATTRIBUTE_WRONG, AJP13_CONTENT_LENGTH_WRONG and AJP13_BODY_SIZE_WRONG do not come here.
+ * AJP13_CODE_NOT_SERVED, AJP13_ATTRIBUTE_WRONG and AJP13_CONTENT_LENGTH_WRONG do not come here.
  */
 static inline uint32_t ajp13_read_at_server(ajp13_connection *connection,
                                             const uint8_t *bytes, size_t bytes_length,
@@ -530,9 +533,11 @@ static inline uint32_t ajp13_body(ajp13_connection *connection, uint8_t *buffer,
 /*
  * Send Body Chunk, from the container: the bytes and 8 more.
  *
- *   bytes  the part of the response's body that goes now, at most AJP13_MAX_CHUNK (else AJP13_TOO_LONG).
+ *   bytes  the part of the response's body that goes now, none where the request is a HEAD (else AJP13_BODY_SIZE_WRONG),
+ *          and at most AJP13_MAX_CHUNK (else AJP13_TOO_LONG).
  *
- * Status: AJP13_DONE; AJP13_NOT_NOW, AJP13_TOO_LONG, AJP13_BUFFER_TOO_SHORT; AJP13_ERROR_CONNECTION_WORD.
+ * Status: AJP13_DONE; AJP13_NOT_NOW, AJP13_BODY_SIZE_WRONG, AJP13_TOO_LONG, AJP13_BUFFER_TOO_SHORT;
+ * AJP13_ERROR_CONNECTION_WORD.
  */
 static inline uint32_t ajp13_body_chunk(ajp13_connection *connection, uint8_t *buffer, size_t buffer_length,
                                         const uint8_t *bytes, size_t bytes_length, ajp13_answer *answer)

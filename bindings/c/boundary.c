@@ -81,6 +81,13 @@ static int connection_is(uint32_t state, uint32_t left, uint32_t due, uint32_t a
     return memcmp(words, lent.connection.words, sizeof words) == 0;
 }
 
+/* The same with the mark of a HEAD. */
+static void connection_of_head(uint32_t state, uint32_t left, uint32_t headers, uint32_t head)
+{
+    connection(state, left, 0, 0, headers);
+    lent.connection.words[AJP13_CONNECTION_HEAD] = head;
+}
+
 static ajp13_forward request(void)
 {
     ajp13_forward forward;
@@ -341,6 +348,63 @@ static void words_that_do_not_count(void)
     connection(AJP13_STATE_BUSY, 0xFFFFFFFF, 1, 2, 1);
     IS(ajp13_body(&lent.connection, OUT, BYTES("hi"), &lent.answer), AJP13_DONE);
     IS(connection_is(AJP13_STATE_BUSY, 0xFFFFFFFD, 0, 0, 1), 1);
+
+    /* Outside Busy the mark of a HEAD may be any number too. */
+    connection_of_head(AJP13_STATE_IDLE, 5, 9, 70000);
+    IS(ajp13_cping(&lent.connection, OUT, &lent.answer), AJP13_DONE);
+    IS(connection_is(AJP13_STATE_PINGED, 0, 0, 0, 0), 1);
+    connection_of_head(AJP13_STATE_IDLE, 0, 0, 1);
+    begin_forward();
+    IS(ajp13_close(&lent.connection, &lent.building, OUT, &lent.answer), AJP13_DONE);
+    IS(connection_is(AJP13_STATE_BUSY, 0, 0, 0, 0), 1);
+}
+
+/* ---- The response to a HEAD -------------------------------------------------------------------------------------- */
+
+static void response_to_head(void)
+{
+    static const uint8_t full[] = {0x41, 0x42, 0, 5, 3, 0, 1, 'a', 0}, empty[] = {0x41, 0x42, 0, 4, 3, 0, 0, 0};
+    static const uint8_t unclosed[] = {0x41, 0x42, 0, 5, 3, 0, 1, 'a', 1}, end[] = {0x41, 0x42, 0, 2, 5, 1};
+    static const uint8_t left_over[] = {0x41, 0x42, 0, 6, 3, 0, 1, 'a', 0, 0};
+    static const uint8_t cut_short[] = {0x41, 0x42, 0, 5, 3, 0, 2, 'a', 0};
+    const size_t places = AJP13_MAX_PLACES;
+
+    /* The mark is that of the method byte in the packet that is closed, and in the one that is read. */
+    connection(AJP13_STATE_IDLE, 0, 0, 0, 0);
+    begin_forward();
+    lent.buffer[5] = AJP13_METHOD_HEAD;
+    IS(ajp13_close(&lent.connection, &lent.building, OUT, &lent.answer), AJP13_DONE);
+    IS(lent.connection.words[AJP13_CONNECTION_HEAD], 1);
+    connection(AJP13_STATE_IDLE, 0, 0, 0, 0);
+    IS(ajp13_read_at_container(&lent.connection, lent.buffer, lent.answer.words[AJP13_ANSWER_BYTES], lent.table, places,
+                               &lent.answer), AJP13_DONE);
+    IS(lent.connection.words[AJP13_CONNECTION_HEAD], 1);
+
+    /* A chunk with bytes is refused before its length and the buffer are looked at; an empty one goes. */
+    connection_of_head(AJP13_STATE_BUSY, 0, 1, 1);
+    LEFT(ajp13_body_chunk(&lent.connection, OUT, BYTES("ok"), &lent.answer), AJP13_BODY_SIZE_WRONG);
+    LEFT(ajp13_body_chunk(&lent.connection, lent.buffer, 0, BYTES("ok"), &lent.answer), AJP13_BODY_SIZE_WRONG);
+    LEFT(ajp13_body_chunk(&lent.connection, OUT, lent.buffer, AJP13_MAX_CHUNK + 1, &lent.answer),
+         AJP13_BODY_SIZE_WRONG);
+    IS(ajp13_body_chunk(&lent.connection, OUT, lent.buffer, 0, &lent.answer), AJP13_DONE);
+    IS(memcmp(lent.buffer, empty, sizeof empty) == 0, 1);
+    IS(lent.connection.words[AJP13_CONNECTION_HEAD], 1);
+    connection_of_head(AJP13_STATE_BUSY, 0, 0, 1);
+    LEFT(ajp13_body_chunk(&lent.connection, OUT, BYTES("ok"), &lent.answer), AJP13_NOT_NOW);
+
+    /* Where one is read, its fields are looked at first. */
+    connection_of_head(AJP13_STATE_BUSY, 0, 1, 1);
+    LEFT(ajp13_read_at_server(&lent.connection, full, sizeof full, lent.table, places, &lent.answer),
+         AJP13_BODY_SIZE_WRONG);
+    LEFT(ajp13_read_at_server(&lent.connection, unclosed, sizeof unclosed, lent.table, places, &lent.answer),
+         AJP13_STRING_WRONG);
+    LEFT(ajp13_read_at_server(&lent.connection, left_over, sizeof left_over, lent.table, places, &lent.answer),
+         AJP13_LEFT_OVER);
+    LEFT(ajp13_read_at_server(&lent.connection, cut_short, sizeof cut_short, lent.table, places, &lent.answer),
+         AJP13_CUT_SHORT);
+    IS(ajp13_read_at_server(&lent.connection, empty, sizeof empty, lent.table, places, &lent.answer), AJP13_DONE);
+    IS(ajp13_read_at_server(&lent.connection, end, sizeof end, lent.table, places, &lent.answer), AJP13_DONE);
+    IS(connection_is(AJP13_STATE_IDLE, 0, 0, 0, 0), 1);
 }
 
 /* ---- Errors ------------------------------------------------------------------------------------------------------ */
@@ -390,8 +454,12 @@ static void connections_out_of_range(void)
     out_of_range();
     connection(0xFFFFFFFF, 0, 0, 0, 0);
     out_of_range();
+    connection_of_head(AJP13_STATE_BUSY, 0, 0, 2);
+    out_of_range();
+    connection_of_head(AJP13_STATE_BUSY, 0, 1, 0xFFFFFFFF);
+    out_of_range();
     for (state = AJP13_STATE_IDLE; state <= AJP13_STATE_CLOSED; state++)
-        for (position = AJP13_CONNECTION_HEAD; position <= AJP13_CONNECTION_OPEN; position++) {
+        for (position = AJP13_CONNECTION_EDITION; position <= AJP13_CONNECTION_OPEN; position++) {
             connection(state, 0, 0, 0, 0);
             lent.connection.words[position] = 1;
             out_of_range();
@@ -882,7 +950,10 @@ static void checks_out_of_range(void)
     connection(AJP13_STATE_BUSY, 5, 0, 0, 2);
     checking(1, 0, 0, 10, 0);
     check_out_of_range();
-    for (position = AJP13_CONNECTION_HEAD; position <= AJP13_CONNECTION_OPEN; position++) {
+    connection_of_head(AJP13_STATE_BUSY, 0, 1, 2);
+    checking(1, 0, 0, 10, 0);
+    check_out_of_range();
+    for (position = AJP13_CONNECTION_EDITION; position <= AJP13_CONNECTION_OPEN; position++) {
         connection(AJP13_STATE_IDLE, 0, 0, 0, 0);
         lent.connection.words[position] = 1;
         checking(1, 0, 0, 10, 0);
@@ -926,6 +997,7 @@ int main(void)
     line_ends();
     codes();
     words_that_do_not_count();
+    response_to_head();
     connections_out_of_range();
     lengths();
     arguments();

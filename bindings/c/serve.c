@@ -28,7 +28,7 @@ static uint32_t sent(uint32_t status)
 /* Answers the packet that was just read. Returns AJP13_DONE, or the status of the call that was not done. */
 static uint32_t reply(const uint8_t *packet, size_t length)
 {
-    uint32_t status = AJP13_DONE, method = answer.words[AJP13_ANSWER_METHOD];
+    uint32_t status = AJP13_DONE;
     ajp13_building building;
     ajp13_text path;
 
@@ -42,7 +42,7 @@ static uint32_t reply(const uint8_t *packet, size_t length)
                                         ajp13_chars("Content-Type"), ajp13_chars("text/plain"));
         if (status == AJP13_DONE)
             status = sent(ajp13_close(&connection, &building, out, sizeof out, &answer));
-        if (status == AJP13_DONE && method != AJP13_METHOD_HEAD)
+        if (status == AJP13_DONE && !connection.words[AJP13_CONNECTION_HEAD]) /* the response to a HEAD has no body */
             status = sent(ajp13_body_chunk(&connection, out, sizeof out, packet + path.words[AJP13_TEXT_START],
                                            path.words[AJP13_TEXT_LENGTH], &answer));
     } /* else a body packet: AJP13_ANSWER_LENGTH bytes from packet + AJP13_ANSWER_START on, not used here */

@@ -21,7 +21,6 @@ pub fn serve(stream: &mut (impl Read + Write)) -> Result<(), Box<dyn Error>> {
     let mut input = [0; ajp13::MAX_PACKET];
     let mut filled = 0;
     // The request that is under way.
-    let mut is_head = false;
     let mut answer = Vec::new();
 
     loop {
@@ -39,7 +38,6 @@ pub fn serve(stream: &mut (impl Read + Write)) -> Result<(), Box<dyn Error>> {
                 match packet {
                     Packet::CPing => stream.write_all(connection.cpong(&mut output)?)?,
                     Packet::Forward(forward) => {
-                        is_head = forward.method() == Method::HEAD;
                         answer = forward.req_uri().to_vec();
                         answer.push(b'\n');
                     }
@@ -61,7 +59,8 @@ pub fn serve(stream: &mut (impl Read + Write)) -> Result<(), Box<dyn Error>> {
             } else {
                 // What is left of a body that is too long is never asked for.
                 let status = if left == 0 { 200 } else { 413 };
-                let body = if is_head || left > 0 {
+                // The response to a HEAD has no body.
+                let body = if connection.is_head() || left > 0 {
                     &[]
                 } else {
                     &answer[..]

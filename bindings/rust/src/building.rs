@@ -196,9 +196,10 @@ impl fmt::Debug for Pieces<'_> {
 /// another.
 ///
 /// ```
-/// use ajp13::{Connection, ForwardHead, Method, Refusal, State};
+/// use ajp13::{Connection, ConnectionFields, ForwardHead, Method, Refusal, State};
 ///
-/// let mut first = Connection::from_fields(State::Busy, 0, false, 0, false);
+/// let busy = ConnectionFields { state: State::Busy, ..Default::default() };
+/// let mut first = Connection::from_fields(busy);
 /// let mut second = Connection::fresh();
 /// let mut buffer = [0; ajp13::MAX_PACKET];
 /// let head = ForwardHead {
@@ -495,10 +496,11 @@ impl<'b> ForwardAttributes<'b> {
 /// The fixed fields of a Send Headers.
 ///
 /// ```
-/// use ajp13::{Connection, Refusal, SendHeadersHead, State};
+/// use ajp13::{Connection, ConnectionFields, Refusal, SendHeadersHead, State};
 ///
 /// // A request is under way, without a body, and no headers were sent.
-/// let mut container = Connection::from_fields(State::Busy, 0, false, 0, false);
+/// let busy = ConnectionFields { state: State::Busy, ..Default::default() };
+/// let mut container = Connection::from_fields(busy);
 /// let mut buffer = [0; ajp13::MAX_PACKET];
 /// let head = SendHeadersHead { status: 200, message: Some(b"OK") };
 /// let mut headers = head.begin(&mut buffer)?;

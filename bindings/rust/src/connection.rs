@@ -46,6 +46,33 @@ impl fmt::Display for State {
     }
 }
 
+/// The fields of a connection, for a program that keeps them elsewhere. What is left out is that of a fresh connection.
+///
+/// ```
+/// use ajp13::{Connection, ConnectionFields, State};
+///
+/// // A request is under way, nine bytes of its body are left, and five were asked for.
+/// let fields = ConnectionFields { state: State::Busy, left: 9, due: true, asked: 5, ..Default::default() };
+/// let server = Connection::from_fields(fields);
+/// assert_eq!(server.largest_body(), 5);
+/// assert_eq!(server.fields(), fields);
+/// ```
+#[derive(Clone, Copy, Debug, Default, PartialEq, Eq, Hash)]
+pub struct ConnectionFields {
+    /// The state. All else counts only in `Busy`.
+    pub state: State,
+    /// How many bytes of the request's body are still to come.
+    pub left: u32,
+    /// Whether a body packet is due.
+    pub due: bool,
+    /// How many bytes were asked for, where a body packet is due.
+    pub asked: u16,
+    /// Whether Send Headers went.
+    pub headers_sent: bool,
+    /// Whether the request is a HEAD.
+    pub head: bool,
+}
+
 /// One end of a connection. Each end keeps its own: a send steps the sender's, an accepted packet the receiver's. A
 /// refusal leaves it as it is.
 ///
@@ -93,23 +120,31 @@ impl Connection {
         Connection { words }
     }
 
-    /// A connection with these fields, also one that no step makes: for a program that kept them elsewhere. What counts
-    /// only in `Busy` is not looked at in another state.
+    /// A connection with these fields, also one that no step makes. What counts only in `Busy` is not looked at in
+    /// another state.
     #[inline]
-    pub fn from_fields(
-        state: State,
-        left: u32,
-        due: bool,
-        asked: u16,
-        headers_sent: bool,
-    ) -> Connection {
+    pub fn from_fields(fields: ConnectionFields) -> Connection {
         let mut words = [0; raw::SIZE_CONNECTION];
-        words[raw::CONNECTION_STATE] = state as u32;
-        words[raw::CONNECTION_LEFT] = left;
-        words[raw::CONNECTION_DUE] = due.into();
-        words[raw::CONNECTION_ASKED] = asked.into();
-        words[raw::CONNECTION_HEADERS] = headers_sent.into();
+        words[raw::CONNECTION_STATE] = fields.state as u32;
+        words[raw::CONNECTION_LEFT] = fields.left;
+        words[raw::CONNECTION_DUE] = fields.due.into();
+        words[raw::CONNECTION_ASKED] = fields.asked.into();
+        words[raw::CONNECTION_HEADERS] = fields.headers_sent.into();
+        words[raw::CONNECTION_HEAD] = fields.head.into();
         Connection { words }
+    }
+
+    /// All fields, of which [`from_fields`](Self::from_fields) makes an equal connection.
+    #[inline]
+    pub fn fields(&self) -> ConnectionFields {
+        ConnectionFields {
+            state: self.state(),
+            left: self.left(),
+            due: self.is_due(),
+            asked: self.asked(),
+            headers_sent: self.headers_sent(),
+            head: self.is_head(),
+        }
     }
 
     /// The state.
@@ -118,7 +153,7 @@ impl Connection {
         State::from_word(self.words[raw::CONNECTION_STATE])
     }
 
-    /// How many bytes of the request's body are still to come. Counts only in `Busy`, as the three below do.
+    /// How many bytes of the request's body are still to come. Counts only in `Busy`, as the four below do.
     #[inline]
     pub fn left(&self) -> u32 {
         self.words[raw::CONNECTION_LEFT]
@@ -142,15 +177,57 @@ impl Connection {
         self.words[raw::CONNECTION_HEADERS] != 0
     }
 
+    /// Whether the request is a HEAD: the method of its Forward is [`Method::HEAD`](crate::Method::HEAD). Its response has
+    /// no body, so a chunk of it has to be empty.
+    ///
+    /// ```
+    /// use ajp13::{Connection, ForwardHead, Method, Refusal, SendHeadersHead};
+    ///
+    /// let mut buffer = [0; ajp13::MAX_PACKET];
+    /// let mut server = Connection::fresh();
+    /// let head = ForwardHead {
+    ///     method: Method::HEAD,
+    ///     protocol: b"HTTP/1.1",
+    ///     req_uri: b"/valves/7",
+    ///     remote_addr: None,
+    ///     remote_host: None,
+    ///     server_name: None,
+    ///     server_port: 80,
+    ///     is_ssl: false,
+    /// };
+    /// let forward = head.begin(&mut buffer)?.close(&mut server)?.to_vec();
+    /// assert!(server.is_head());
+    ///
+    /// let mut container = Connection::fresh();
+    /// container.read_at_container(&forward, &mut ajp13::Places::new())?;
+    /// assert!(container.is_head());
+    /// SendHeadersHead { status: 200, message: Some(b"OK") }.begin(&mut buffer)?.close(&mut container)?;
+    /// assert_eq!(container.body_chunk(&mut buffer, b"valve 7 is open"), Err(Refusal::BodySizeWrong));
+    /// container.body_chunk(&mut buffer, b"")?;
+    /// container.end(&mut buffer, true)?;
+    /// assert!(!container.is_head());
+    /// # Ok::<(), ajp13::Refusal>(())
+    /// ```
+    #[inline]
+    pub fn is_head(&self) -> bool {
+        self.words[raw::CONNECTION_HEAD] != 0
+    }
+
     /// The most bytes that the body packet which is due may hold: the least of what was asked for, of
     /// [`MAX_BODY`](crate::MAX_BODY) and of what is left. Where this is 0, the body packet has to be empty. It is also
     /// 0 where none is due.
     ///
     /// ```
-    /// use ajp13::{Connection, State};
+    /// use ajp13::{Connection, ConnectionFields, State};
     ///
     /// // Nine bytes are left, and five were asked for.
-    /// let mut server = Connection::from_fields(State::Busy, 9, true, 5, false);
+    /// let mut server = Connection::from_fields(ConnectionFields {
+    ///     state: State::Busy,
+    ///     left: 9,
+    ///     due: true,
+    ///     asked: 5,
+    ///     ..Default::default()
+    /// });
     /// assert_eq!(server.largest_body(), 5);
     /// server.body(&mut [0; 16], b"valve")?;
     /// assert!(!server.is_due());
@@ -229,7 +306,9 @@ impl Connection {
         })
     }
 
-    /// Writes a Send Body Chunk to the start of `buffer` and hands out its bytes. From the container's end.
+    /// Writes a Send Body Chunk to the start of `buffer` and hands out its bytes. From the container's end. It holds at
+    /// most [`MAX_CHUNK`](crate::MAX_CHUNK) bytes, and none where the request [is a HEAD](Self::is_head)
+    /// ([`BodySizeWrong`](Refusal::BodySizeWrong)).
     #[inline]
     pub fn body_chunk<'b>(
         &mut self,
@@ -287,6 +366,7 @@ impl fmt::Debug for Connection {
             .field("due", &self.is_due())
             .field("asked", &self.asked())
             .field("headers_sent", &self.headers_sent())
+            .field("head", &self.is_head())
             .finish()
     }
 }

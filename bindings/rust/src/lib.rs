@@ -131,7 +131,7 @@ pub use building::{
     ResponseHeaders, SendHeadersHead,
 };
 pub use checking::{check, Checked, Checking};
-pub use connection::{Connection, State};
+pub use connection::{Connection, ConnectionFields, State};
 pub use names::{
     attribute, attribute_code, attribute_name, method_code, method_name, request_header_code,
     request_header_name, response_header_code, response_header_name, Method, Name, NameList,

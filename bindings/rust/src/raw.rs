@@ -45,8 +45,8 @@ pub const DONE: u32 = 0;
 pub const NEEDS: u32 = 0x10000;
 /// Error: the connection has not [`SIZE_CONNECTION`] words.
 pub const ERROR_CONNECTION_LENGTH: u32 = 0x10001;
-/// Error: a word of the connection is out of range: the state above 3, or head, edition or open not 0; and in Busy due
-/// or headers above 1, or asked above 65535 where a body packet is due.
+/// Error: a word of the connection is out of range: the state above 3, or edition or open not 0; and in Busy due,
+/// headers or head above 1, or asked above 65535 where a body packet is due.
 pub const ERROR_CONNECTION_WORD: u32 = 0x10002;
 /// Error: the building record has not [`SIZE_BUILDING`] words.
 pub const ERROR_BUILDING_LENGTH: u32 = 0x10003;
@@ -111,7 +111,7 @@ pub const CONNECTION_DUE: usize = 2;
 pub const CONNECTION_ASKED: usize = 3;
 /// In Busy, 1 once Send Headers went.
 pub const CONNECTION_HEADERS: usize = 4;
-/// Always 0. A later version gives it a meaning.
+/// In Busy, 1 where the request is a HEAD.
 pub const CONNECTION_HEAD: usize = 5;
 /// Always 0. A later version gives it a meaning.
 pub const CONNECTION_EDITION: usize = 6;

@@ -51,7 +51,7 @@ pub enum Refusal {
     LeftOver = 12,
     /// Not allowed in this state of the connection.
     NotNow = 13,
-    /// A body packet of another size than the cycle allows now.
+    /// A body packet of another size than the cycle allows now, or a chunk with bytes where the request is a HEAD.
     BodySizeWrong = 14,
     /// The lent buffer, or the lent table, is too short.
     BufferTooShort = 15,

@@ -74,7 +74,7 @@ fn reading_at_the_server() {
     }
     run.finish(&[(
         "read_at_server",
-        &[DONE, NEEDS, 1, 2, 3, 4, 6, 7, 8, 11, 12, 13, 15],
+        &[DONE, NEEDS, 1, 2, 3, 4, 6, 7, 8, 11, 12, 13, 14, 15],
     )]);
 }
 
@@ -115,7 +115,7 @@ fn every_prefix() {
         ),
         (
             "read_at_server",
-            &[DONE, NEEDS, 3, 4, 6, 7, 8, 11, 12, 13, 15],
+            &[DONE, NEEDS, 3, 4, 6, 7, 8, 11, 12, 13, 14, 15],
         ),
     ]);
 }
@@ -132,7 +132,7 @@ fn sending_in_one_call() {
         ("cping", &[DONE, 13, 15]),
         ("cpong", &[DONE, 13, 15]),
         ("body", &[DONE, 13, 14, 15]),
-        ("body_chunk", &[DONE, 2, 13, 15]),
+        ("body_chunk", &[DONE, 2, 13, 14, 15]),
         ("get_body", &[DONE, 13, 15]),
         ("end", &[DONE, 7, 13, 15]),
         ("largest_body", &[ZERO, NUMBER]),

@@ -3,7 +3,8 @@
 //! the server's end is a capture: the checker goes along and has to accept every packet of it.
 //! Wherever the container's end stands, the two forms of an empty body packet come to the same. And no
 //! string that a delivered packet hands out has a zero or a line end in it, though pieces with such
-//! strings are tried and such bytes are put into the buffer before closing.
+//! strings are tried and such bytes are put into the buffer before closing. From the delivery of a HEAD
+//! to that of its End no chunk with bytes is in the pipe to the server, though such chunks are tried.
 //!
 //! An event is one of the eight sends, with arguments that are often right and often not, or a
 //! delivery of the first packet of a pipe, alone or with those behind it. The environment sets the
@@ -20,6 +21,10 @@ use common::rng::Rng;
 use common::settings;
 use std::collections::{BTreeMap, VecDeque};
 use std::time::Instant;
+
+/// The code of the method HEAD, and the place of the method in a Forward.
+const HEAD: u32 = 3;
+const METHOD_PLACE: usize = 5;
 
 /// How many events there are where `AJP13_EVENTS` sets no other number.
 const EVENTS: u64 = 5_000_000;
@@ -108,6 +113,11 @@ impl Packet {
             _ => &[],
         }
     }
+
+    /// Whether it is a chunk with bytes in it, by the length that stands in it.
+    fn is_full_chunk(&self) -> bool {
+        self.kind == raw::KIND_BODY_CHUNK && self.bytes[5..7] != [0, 0]
+    }
 }
 
 /// What happened in a run.
@@ -136,6 +146,10 @@ struct Counts {
     /// Pieces with a line end or a zero in a string, which were refused; strings that were handed out.
     barred_pieces: u64,
     strings: u64,
+    /// Events while a HEAD was under way; in the response to one, empty chunks delivered, and chunks with bytes refused.
+    with_head: u64,
+    empty_chunks: u64,
+    full_chunks_refused: u64,
 }
 
 /// Both ends, the pipes between them, and what was sent and received.
@@ -152,6 +166,8 @@ struct TwoEnds {
     got: u64,
     /// What each Forward in the pipe declares.
     forwarded: VecDeque<u32>,
+    /// Whether the newest of the Forwards and Ends that were delivered is a HEAD.
+    head: bool,
     /// The check of what has crossed at the server's end since the ends were fresh.
     checking: Checking,
     buffer: Vec<u8>,
@@ -218,6 +234,7 @@ impl TwoEnds {
             declared: 0,
             got: 0,
             forwarded: VecDeque::new(),
+            head: false,
             checking: begun(),
             buffer: Vec::new(),
             before: Vec::new(),
@@ -286,6 +303,7 @@ impl TwoEnds {
         self.lend_buffer(right);
 
         let mut body = Vec::new();
+        let mut full_on_head = false;
         let status = match kind {
             Kind::CPing => raw::cping(&mut connection, &mut self.buffer, &mut answer),
             Kind::CPong => raw::cpong(&mut connection, &mut self.buffer, &mut answer),
@@ -312,10 +330,15 @@ impl TwoEnds {
                 raw::body(&mut connection, &mut self.buffer, &body, &mut answer)
             }
             Kind::BodyChunk => {
-                let mut size = self.rng.length().min(raw::MAX_CHUNK);
+                let is_head = connection[raw::CONNECTION_HEAD] == 1;
+                let mut size = match is_head && right {
+                    true => 0,
+                    false => self.rng.length().min(raw::MAX_CHUNK),
+                };
                 if !right {
                     size += self.rng.of(&[0, raw::MAX_CHUNK]);
                 }
+                full_on_head = allowed && is_head && size > 0;
                 let chunk = self.rng.bytes(size);
                 raw::body_chunk(&mut connection, &mut self.buffer, &chunk, &mut answer)
             }
@@ -343,11 +366,17 @@ impl TwoEnds {
             assert!(self.buffer == self.before, "{kind:?} wrote and was refused");
             assert_eq!(answer, [0; raw::SIZE_ANSWER]);
             assert!(!(allowed && right), "{kind:?} was refused: {status}");
+            if full_on_head {
+                // Before the length and the buffer's room are looked at.
+                assert_eq!(status, 14);
+                self.counts.full_chunks_refused += 1;
+            }
             self.counts.refused[index] += 1;
             *self.counts.refusals.entry(status).or_default() += 1;
             return;
         }
         assert!(allowed, "{kind:?} was written in another state");
+        assert!(!full_on_head, "a chunk with bytes was written for a HEAD");
         assert_eq!(answer[raw::ANSWER_KIND], kind.number());
         let length = answer[raw::ANSWER_BYTES] as usize;
         assert!(self.buffer[length..] == self.before[length..]);
@@ -363,6 +392,9 @@ impl TwoEnds {
             if kind == Kind::Forward {
                 // The sender's end knows what its request declared.
                 self.forwarded.push_back(connection[raw::CONNECTION_LEFT]);
+                // And whether it is a HEAD, by the byte that stands in the packet.
+                let is_head = u32::from(packet.bytes[METHOD_PLACE]) == HEAD;
+                assert_eq!(connection[raw::CONNECTION_HEAD], is_head.into());
             }
             self.cross(&packet.bytes);
             self.to_container.push_back(packet);
@@ -405,7 +437,10 @@ impl TwoEnds {
     fn build_forward(&mut self) -> Building {
         let mut building = not_begun(raw::KIND_FORWARD);
         let mut fixed = [0; raw::SIZE_FIXED];
-        fixed[raw::FIXED_METHOD] = self.rng.between(1, 27) as u32;
+        fixed[raw::FIXED_METHOD] = match self.rng.one_in(3) {
+            true => HEAD,
+            false => self.rng.between(1, 27) as u32,
+        };
         fixed[raw::FIXED_PORT] = self.rng.short().into();
         fixed[raw::FIXED_IS_SSL] = self.rng.below(2) as u32;
         fixed[raw::FIXED_NO_REMOTE_HOST] = self.rng.below(2) as u32;
@@ -441,6 +476,11 @@ impl TwoEnds {
         }
         for _ in 0..self.rng.below(3) {
             raw::attribute_pair(&mut building, &mut self.buffer, 0x0A, b"a", 0, b"b", 0);
+        }
+        // stored_method: it has no say in whether the request is a HEAD.
+        if self.rng.one_in(4) {
+            let method: &[u8] = self.rng.of(&[b"HEAD", b"GET"]);
+            raw::attribute_text(&mut building, &mut self.buffer, 0x0D, method, 0);
         }
         building
     }
@@ -536,6 +576,8 @@ impl TwoEnds {
                 self.counts.requests += 1;
                 self.declared = answer[raw::ANSWER_DECLARED].into();
                 self.got = 0;
+                self.head = answer[raw::ANSWER_METHOD] == HEAD;
+                assert_eq!(self.container[raw::CONNECTION_HEAD], self.head.into());
                 assert_eq!(
                     self.forwarded.pop_front(),
                     Some(answer[raw::ANSWER_DECLARED])
@@ -575,8 +617,16 @@ impl TwoEnds {
         assert_eq!(status, raw::DONE, "a packet was not accepted: {bytes:02x?}");
         assert_eq!(answer[raw::ANSWER_BYTES] as usize, length);
         assert_eq!(answer[raw::ANSWER_KIND], kind);
-        if kind == raw::KIND_SEND_HEADERS {
-            self.counts.strings += clear_strings(&bytes[..length], false);
+        match kind {
+            raw::KIND_SEND_HEADERS => {
+                self.counts.strings += clear_strings(&bytes[..length], false);
+            }
+            raw::KIND_BODY_CHUNK if self.head => {
+                assert_eq!(answer[raw::ANSWER_LENGTH], 0);
+                self.counts.empty_chunks += 1;
+            }
+            raw::KIND_END => self.head = false,
+            _ => {}
         }
         self.counts.delivered_to_server += 1;
         self.counts.delivered_with_others += u64::from(bytes.len() > length);
@@ -640,6 +690,11 @@ impl TwoEnds {
         let in_pipe = self.to_container.iter().flat_map(|packet| packet.body());
         assert!(in_pipe.eq(&self.unread));
         assert!(self.got <= self.declared);
+        // While a HEAD is under way no chunk with bytes is in the pipe to the server.
+        if self.head {
+            self.counts.with_head += 1;
+            assert!(!self.to_server.iter().any(Packet::is_full_chunk));
+        }
     }
 
     /// The two forms of an empty body packet, were one to come to the container's end now: with one due, the same
@@ -729,7 +784,10 @@ fn clear_strings(packet: &[u8], to_container: bool) -> u64 {
     let read = if to_container {
         connection.read_at_container(packet, &mut places)
     } else {
-        connection = ajp13::Connection::from_fields(ajp13::State::Busy, 0, false, 0, false);
+        connection = ajp13::Connection::from_fields(ajp13::ConnectionFields {
+            state: ajp13::State::Busy,
+            ..Default::default()
+        });
         connection.read_at_server(packet, &mut places)
     };
     let headers = match read {
@@ -815,6 +873,10 @@ impl Counts {
             "  {} strings handed out, {} pieces with a zero or a line end refused",
             self.strings, self.barred_pieces
         );
+        println!(
+            "  a HEAD under way after {} events, {} empty chunks delivered for one, {} with bytes refused",
+            self.with_head, self.empty_chunks, self.full_chunks_refused
+        );
     }
 
     /// Every kind of event has to happen often; in a short run it may not.
@@ -847,6 +909,9 @@ impl Counts {
             self.empty_refused,
             self.barred_pieces,
             self.strings,
+            self.with_head,
+            self.empty_chunks,
+            self.full_chunks_refused,
         ] {
             assert!(times > often, "some kind of event seldom happened");
         }

@@ -1,7 +1,7 @@
 //! The safe types: packets read and built at both ends, refusals, views.
 
 use ajp13::{
-    attribute, check, raw, Attribute, Building, BuildingKind, Checking, Connection, ForwardHead,
+    attribute, check, raw, Attribute, Building, BuildingKind, Checking, Connection, ConnectionFields, ForwardHead,
     HeaderName, Method, NotClosed, Packet, Places, Received, Refusal, SendHeadersHead, State,
 };
 
@@ -23,13 +23,22 @@ fn head() -> ForwardHead<'static> {
 }
 
 fn busy(left: u32, asked: Option<u16>, headers_sent: bool) -> Connection {
-    Connection::from_fields(
-        State::Busy,
+    Connection::from_fields(ConnectionFields {
+        state: State::Busy,
         left,
-        asked.is_some(),
-        asked.unwrap_or(0),
+        due: asked.is_some(),
+        asked: asked.unwrap_or(0),
         headers_sent,
-    )
+        head: false,
+    })
+}
+
+/// A connection of which only the state counts.
+fn resting(state: State) -> Connection {
+    Connection::from_fields(ConnectionFields {
+        state,
+        ..Default::default()
+    })
 }
 
 /// What reading at the container's end accepts, all of it.
@@ -99,7 +108,7 @@ fn packets_to_the_server() {
         assert_eq!(connection, after);
     };
     let fresh = Connection::fresh;
-    let pinged = Connection::from_fields(State::Pinged, 0, false, 0, false);
+    let pinged = resting(State::Pinged);
     read(
         pinged,
         b"\x41\x42\x00\x01\x09",
@@ -128,7 +137,7 @@ fn packets_to_the_server() {
         busy(0, None, true),
         b"\x41\x42\x00\x02\x05\x00",
         Packet::End { reuse: false },
-        Connection::from_fields(State::Closed, 0, false, 0, false),
+        resting(State::Closed),
     );
 
     let bytes = b"\x41\x42\x00\x0A\x04\x00\xC8\x00\x02OK\0\x00\x00";
@@ -507,7 +516,7 @@ fn a_refused_closing_hands_the_builder_back() {
     let expected = with_host_and_accept(&mut [0; ajp13::MAX_PACKET]);
 
     let mut buffer = [0x55; ajp13::MAX_PACKET];
-    let mut closed = Connection::from_fields(State::Closed, 0, false, 0, false);
+    let mut closed = resting(State::Closed);
     let mut headers = head().begin(&mut buffer).unwrap();
     headers.header(b"host", Some(b"h")).unwrap();
     let before = *headers.building();
@@ -523,7 +532,7 @@ fn a_refused_closing_hands_the_builder_back() {
     assert!(buffer[expected.len()..].iter().all(|byte| *byte == 0x55));
 
     // With attributes; on the same connection, once it is there again.
-    let mut server = Connection::from_fields(State::Pinged, 0, false, 0, false);
+    let mut server = resting(State::Pinged);
     let mut attributes = head().begin(&mut buffer).unwrap().attributes();
     attributes.text(attribute::ROUTE, Some(b"r")).unwrap();
     let error = attributes.close(&mut server).unwrap_err();
@@ -630,17 +639,85 @@ fn sends() {
     assert_eq!(container.state(), State::Closed);
 }
 
+/// The response to a HEAD: its chunks are empty at both ends, and what counts only in Busy is not looked at elsewhere.
+#[test]
+fn the_response_to_a_head() {
+    let of_head = |state| {
+        Connection::from_fields(ConnectionFields {
+            state,
+            headers_sent: true,
+            head: true,
+            ..Default::default()
+        })
+    };
+    let mut buffer = [0; ajp13::MAX_PACKET];
+    let mut container = of_head(State::Busy);
+    let long = [0; ajp13::MAX_CHUNK + 1];
+    for bytes in [&b"a"[..], &long] {
+        let refused = container.body_chunk(&mut buffer, bytes);
+        assert_eq!(refused, Err(Refusal::BodySizeWrong));
+        assert_eq!(container, of_head(State::Busy));
+    }
+    let refused = container.body_chunk(&mut buffer[..0], b"a");
+    assert_eq!(refused, Err(Refusal::BodySizeWrong));
+    let packet = container.body_chunk(&mut buffer, b"").unwrap();
+    assert_eq!(packet, b"\x41\x42\x00\x04\x03\x00\x00\x00");
+    assert_eq!(container, of_head(State::Busy));
+
+    // Its fields are looked at first.
+    let mut places = Places::new();
+    let mut server = of_head(State::Busy);
+    for (bytes, refusal) in [
+        (&b"\x41\x42\x00\x05\x03\x00\x01a\x00"[..], Refusal::BodySizeWrong),
+        (b"\x41\x42\x00\x05\x03\x00\x01a\x01", Refusal::StringWrong),
+        (b"\x41\x42\x00\x06\x03\x00\x01a\x00\x00", Refusal::LeftOver),
+        (b"\x41\x42\x00\x05\x03\x00\x02a\x00", Refusal::CutShort),
+    ] {
+        assert_eq!(server.read_at_server(bytes, &mut places), Err(refusal));
+        assert_eq!(server, of_head(State::Busy));
+    }
+    let read = server.read_at_server(b"\x41\x42\x00\x04\x03\x00\x00\x00", &mut places);
+    let packet = Packet::BodyChunk(b"");
+    assert_eq!(read, Ok(Received::Accepted { packet, taken: 8 }));
+    assert!(server.is_head());
+    server
+        .read_at_server(b"\x41\x42\x00\x02\x05\x01", &mut places)
+        .unwrap();
+    assert_eq!(server, Connection::fresh());
+
+    // Outside Busy the mark is not looked at, and a step leaves nothing of it.
+    let mut idle = of_head(State::Idle);
+    idle.cping(&mut buffer).unwrap();
+    assert_eq!(idle, resting(State::Pinged));
+}
+
 #[test]
 fn records_keep_their_fields() {
     for state in [State::Idle, State::Pinged, State::Busy, State::Closed] {
-        let connection = Connection::from_fields(state, 7, true, 8, true);
-        assert_eq!(connection.state(), state);
-        assert_eq!(connection.left(), 7);
-        assert!(connection.is_due());
-        assert_eq!(connection.asked(), 8);
-        assert!(connection.headers_sent());
-        assert_eq!(connection.words(), &[state as u32, 7, 1, 8, 1, 0, 0, 0]);
+        for head in [false, true] {
+            let fields = ConnectionFields {
+                state,
+                left: 7,
+                due: true,
+                asked: 8,
+                headers_sent: true,
+                head,
+            };
+            let connection = Connection::from_fields(fields);
+            assert_eq!(connection.fields(), fields);
+            assert_eq!(connection.state(), state);
+            assert_eq!(connection.left(), 7);
+            assert!(connection.is_due());
+            assert_eq!(connection.asked(), 8);
+            assert!(connection.headers_sent());
+            assert_eq!(connection.is_head(), head);
+            let words = [state as u32, 7, 1, 8, 1, head.into(), 0, 0];
+            assert_eq!(connection.words(), &words);
+        }
     }
+    let fields = ConnectionFields::default();
+    assert_eq!(Connection::from_fields(fields), Connection::fresh());
+    assert_eq!(Connection::fresh().fields(), fields);
     assert_eq!(Connection::default(), Connection::fresh());
     assert_eq!(Connection::fresh().words(), &[0; raw::SIZE_CONNECTION]);
     assert_eq!(Connection::fresh().state(), State::default());
@@ -662,7 +739,12 @@ fn the_largest_body() {
     assert_eq!(busy(5, None, true).largest_body(), 0);
     assert_eq!(busy(u32::MAX, Some(65535), false).largest_body(), 8186);
     // What counts only in Busy is not looked at.
-    let idle = Connection::from_fields(State::Idle, 5, true, 5, false);
+    let idle = Connection::from_fields(ConnectionFields {
+        left: 5,
+        due: true,
+        asked: 5,
+        ..Default::default()
+    });
     assert_eq!(idle.largest_body(), 0);
     // A body packet of just so many bytes is written, and one of more is not.
     let body = [b'x'; 9000];

@@ -12,6 +12,16 @@ fn connection(words: [u32; 5]) -> [u32; raw::SIZE_CONNECTION] {
     [state, left, due, asked, headers, 0, 0, 0]
 }
 
+/// A connection with another word at a position.
+fn with_word(
+    mut words: [u32; raw::SIZE_CONNECTION],
+    at: usize,
+    word: u32,
+) -> [u32; raw::SIZE_CONNECTION] {
+    words[at] = word;
+    words
+}
+
 /// A Forward with its fixed fields written: GET /, nothing else.
 fn begun(buffer: &mut [u8]) -> [u32; raw::SIZE_BUILDING] {
     let mut building = [0; raw::SIZE_BUILDING];
@@ -93,6 +103,8 @@ fn connections_with_an_error() {
         // In Busy.
         connection([2, 0, 2, 0, 0]),
         connection([2, 0, 0, 0, 2]),
+        with_word(connection([2, 0, 0, 0, 0]), raw::CONNECTION_HEAD, 2),
+        with_word(connection([2, 9, 1, 5, 1]), raw::CONNECTION_HEAD, u32::MAX),
         connection([2, 0, 0x10001, 0, 0]),
         connection([2, 0, 1, 65536, 0]),
         connection([2, 9, 1, 70_000, 1]),
@@ -100,15 +112,10 @@ fn connections_with_an_error() {
     ] {
         with_connection(&words, raw::ERROR_CONNECTION_WORD);
     }
-    // The last three words are 0 in every state.
+    // The last two words are 0 in every state.
     for state in 0..=3 {
-        for at in [
-            raw::CONNECTION_HEAD,
-            raw::CONNECTION_EDITION,
-            raw::CONNECTION_OPEN,
-        ] {
-            let mut words = connection([state, 0, 0, 0, 0]);
-            words[at] = 1;
+        for at in [raw::CONNECTION_EDITION, raw::CONNECTION_OPEN] {
+            let words = with_word(connection([state, 0, 0, 0, 0]), at, 1);
             with_connection(&words, raw::ERROR_CONNECTION_WORD);
         }
     }
@@ -502,7 +509,7 @@ fn checks_with_an_error() {
         [2, 0, 2, 0, 0, 0, 0, 0],
         [2, 0, 0, 0, 2, 0, 0, 0],
         [2, 0, 1, 65536, 0, 0, 0, 0],
-        [0, 0, 0, 0, 0, 1, 0, 0],
+        [2, 0, 0, 0, 0, 2, 0, 0],
         [1, 0, 0, 0, 0, 0, 1, 0],
         [3, 0, 0, 0, 0, 0, 0, 0x10000],
     ] {

@@ -63,7 +63,7 @@ fn run(file: &Path) {
             };
             let who = if at_library { "library" } else { "plain" };
             let answer = answer(&call, status, &lent);
-            let expected = with_short_connections(&expected);
+            let expected = with_whole_connections(&expected);
             let place = format!("{}:{number}, {who}", file.display());
             assert!(answer == expected, "{place}\n{case}\n{answer}\n{expected}");
             // A refusal and a "needs" leave everything but the answer as it was.
@@ -398,24 +398,22 @@ fn places(text: &str) -> Array<u16> {
     Array::holding(&places)
 }
 
-/// A connection's text without the words that may be left out, where they say what is meant without them.
-fn short_connection(text: &str) -> &str {
+/// A connection's text with six words: where the sixth is left out it is 0, and the seventh, the edition, says nothing but `new`.
+fn whole_connection(text: &str) -> String {
     let text = text.strip_suffix(",new").unwrap_or(text);
     match text.split(',').count() {
-        5 => text,
-        6 => text
-            .strip_suffix(",0")
-            .expect("no request for HEAD is known"),
+        5 => format!("{text},0"),
+        6 => text.to_string(),
         _ => panic!("no connection: {text}"),
     }
 }
 
-/// An answer in which every connection has its short text, so that it is compared by what it says.
-fn with_short_connections(answer: &str) -> String {
+/// An answer in which every connection has its whole text, so that it is compared by what it says.
+fn with_whole_connections(answer: &str) -> String {
     let words: Vec<String> = answer
         .split(' ')
         .map(|word| match word.strip_prefix("conn=") {
-            Some(text) => format!("conn={}", short_connection(text)),
+            Some(text) => format!("conn={}", whole_connection(text)),
             None => word.to_string(),
         })
         .collect();
@@ -430,7 +428,7 @@ fn connection(text: &str) -> Array<u32> {
         raw::STATE_BUSY,
         raw::STATE_CLOSED,
     ];
-    let mut words = words(short_connection(text), "IPBC", states);
+    let mut words = words(&whole_connection(text), "IPBC", states);
     words.resize(raw::SIZE_CONNECTION, 0);
     Array::holding(&words)
 }
@@ -468,11 +466,11 @@ fn places_text(places: &[u16]) -> String {
 
 /// The text of a connection.
 fn connection_text(lent: &Lent) -> String {
-    let &[state, left, due, asked, headers, 0, 0, 0] = lent.connection.get() else {
-        panic!("a connection has eight words, the last three of them 0");
+    let &[state, left, due, asked, headers, head, 0, 0] = lent.connection.get() else {
+        panic!("a connection has eight words, the last two of them 0");
     };
     let letter = ["I", "P", "B", "C"][state as usize];
-    format!("{letter},{left},{due},{asked},{headers}")
+    format!("{letter},{left},{due},{asked},{headers},{head}")
 }
 
 /// The text of a building record.

@@ -15,9 +15,9 @@ use Rattle.connection.specs.declared.Step.{Step}
 use Rattle.connection.specs.Connection.{maxBody, isBusy, bodyDue}
 use Rattle.connection.specs.Cycle.{moveKind, inState, largestBody, sizeAllowed, inSize, after, sizedStep, stepOf}
 
--- what counts in Busy alone (`bodyDue`, `isHead`), by whether the state is Busy
-pub busy-by : (c : Connection) (test t : Bool) → isBusy (c .state) ≡ t → both (isBusy (c .state)) test ≡ both t test
-busy-by c test t e = rw e
+-- whether a body packet is due, by whether the state is Busy
+pub due-by : (c : Connection) (t : Bool) → isBusy (c .state) ≡ t → bodyDue c ≡ both t (c .due)
+due-by c t e = rw e
 
 -- the most that a body packet may hold, by whether one is due
 pub largest-by : (c : Connection) (t : Bool) → bodyDue c ≡ t

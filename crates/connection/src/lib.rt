@@ -311,11 +311,7 @@ impl Connection {
         ensures { λ r. ⌜ r ≡ isHead self ⌝ }
     {
         let state = self.state;
-        let head = self.head;
-        if !state.is_busy() {
-            return false;
-        }
-        head
+        state.is_busy() && self.head
     }
 
     // Whether a kind of packet is allowed now, else it is refused with 13.

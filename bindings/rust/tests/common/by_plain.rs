@@ -76,7 +76,7 @@ fn connection_in(words: &[u32]) -> Result<Connection, u32> {
     let &[state, left, due, asked, headers, head, edition, open] = words else {
         return Err(ERROR_CONNECTION_LENGTH);
     };
-    ensure([head, edition, open] == [0; 3], ERROR_CONNECTION_WORD)?;
+    ensure([edition, open] == [0; 2], ERROR_CONNECTION_WORD)?;
     let state = match state {
         STATE_IDLE => State::Idle,
         STATE_PINGED => State::Pinged,
@@ -99,6 +99,7 @@ fn connection_in(words: &[u32]) -> Result<Connection, u32> {
         due,
         asked: short(asked, ERROR_CONNECTION_WORD)?,
         headers: flag(headers, ERROR_CONNECTION_WORD)?,
+        head: flag(head, ERROR_CONNECTION_WORD)?,
     })
 }
 
@@ -120,7 +121,7 @@ fn connection_words(connection: Connection) -> [u32; SIZE_CONNECTION] {
         connection.due.into(),
         connection.asked.into(),
         connection.headers.into(),
-        0,
+        connection.head.into(),
         0,
         0,
     ]

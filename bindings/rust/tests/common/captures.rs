@@ -42,6 +42,7 @@ fn course(rng: &mut Rng, mut connection: Connection, packets: usize) -> Vec<Vec<
         let kind = next_kind(rng, &connection);
         let body = match kind {
             Kind::Body => body_size(rng, &connection),
+            Kind::BodyChunk if connection.head => 0,
             _ => rng.length().min(MAX_CHUNK),
         };
         let packet = packets::right(rng, kind, body).bytes;
@@ -210,6 +211,7 @@ fn on_the_way(rng: &mut Rng) -> (Checking, Vec<u8>) {
         _ => {
             let body = match kind {
                 Kind::Body => words::body_size(rng, &connection),
+                Kind::BodyChunk => words::chunk_size(rng, &connection).min(MAX_CHUNK),
                 _ => rng.length().min(MAX_CHUNK),
             };
             let packet = match rng.one_in(4) {

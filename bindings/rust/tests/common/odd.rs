@@ -224,16 +224,16 @@ impl Found<'_> {
         let words = array(&mut lent).get();
         let state = words[CONNECTION_STATE];
         let is_due = words[CONNECTION_DUE] == 1;
-        let (due, asked, headers) = (
+        let (due, asked, headers, head) = (
             words[CONNECTION_DUE] > 1,
             words[CONNECTION_ASKED] > 65535,
             words[CONNECTION_HEADERS] > 1,
+            words[CONNECTION_HEAD] > 1,
         );
         let busy = state == STATE_BUSY;
         let other = !busy && state <= STATE_CLOSED;
         for (at, is_odd, what) in [
             (CONNECTION_STATE, state > STATE_CLOSED, "state above 3"),
-            (CONNECTION_HEAD, words[CONNECTION_HEAD] > 0, "head not 0"),
             (
                 CONNECTION_EDITION,
                 words[CONNECTION_EDITION] > 0,
@@ -252,6 +252,8 @@ impl Found<'_> {
                 other && headers,
                 "headers above 1 outside Busy",
             ),
+            (CONNECTION_HEAD, busy && head, "head above 1 in Busy"),
+            (CONNECTION_HEAD, other && head, "head above 1 outside Busy"),
             (
                 CONNECTION_ASKED,
                 busy && is_due && asked,

@@ -2,6 +2,7 @@
 
 use super::rng::Rng;
 use super::strings;
+use super::words;
 use ajp13::raw::MAX_PACKET;
 
 /// The kinds of packet.
@@ -225,7 +226,7 @@ impl Grammar<'_> {
         let method = if self.fault() {
             self.rng.of(&[0, 28, 255])
         } else {
-            self.rng.between(1, 27) as u8
+            words::method(self.rng)
         };
         self.bytes.push(method);
         let protocol = self.required_text(b"HTTP/1.1");

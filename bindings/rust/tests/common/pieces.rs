@@ -16,7 +16,7 @@ pub fn begin_forward(rng: &mut Rng) -> Call {
         words::text(rng),
         words::text(rng),
     ];
-    let mut method = rng.between(1, 27) as u32;
+    let mut method = words::method(rng).into();
     match rng.below(24) {
         0 => method = rng.of(&[0, 28, 255, 256, 257, 65535]),
         1 => method = words::above_16_bits(rng, method),

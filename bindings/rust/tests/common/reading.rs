@@ -34,6 +34,7 @@ pub fn packet_and_connection(rng: &mut Rng, kind: Kind) -> (Packet, Lent) {
     let body = match kind {
         Kind::Body => words::body_size(rng, &connection),
         Kind::BodyChunk if rng.one_in(50) => rng.of(&[8183, 8184, 8185]),
+        Kind::BodyChunk => words::chunk_size(rng, &connection).min(8184),
         _ => rng.length().min(8184),
     };
     let packet = if rng.percent(45) {

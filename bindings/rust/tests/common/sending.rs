@@ -41,7 +41,7 @@ pub fn one_call(rng: &mut Rng) -> (Call, Lent) {
         Kind::BodyChunk => {
             let size = match rng.below(100) {
                 0 => rng.of(&[8183, 8184, 8185, 8186, 65535, 65536, 70_000]),
-                _ => rng.length(),
+                _ => words::chunk_size(rng, &connection),
             };
             (Call::BodyChunk(rng.bytes(size)), 8 + size)
         }

@@ -6,10 +6,13 @@ use super::rng::Rng;
 use super::strings;
 use ajp13::raw::{
     BUILDING_COUNT_PLACE, BUILDING_HEADERS, BUILDING_NEXT, CONNECTION_ASKED, CONNECTION_DUE,
-    CONNECTION_HEADERS, CONNECTION_LEFT, CONNECTION_STATE, KIND_FORWARD, KIND_SEND_HEADERS,
+    CONNECTION_HEAD, CONNECTION_HEADERS, CONNECTION_LEFT, CONNECTION_STATE, KIND_FORWARD, KIND_SEND_HEADERS,
     MAX_BODY, MAX_PACKET, SIZE_ANSWER, SIZE_BUILDING, SIZE_CONNECTION, STATE_BUSY, STATE_CLOSED,
     STATE_IDLE, STATE_PINGED,
 };
+
+/// The code of the method HEAD.
+pub const HEAD: u8 = 3;
 
 /// The words of a connection.
 pub type Connection = [u32; SIZE_CONNECTION];
@@ -28,7 +31,7 @@ pub fn connection(rng: &mut Rng) -> Connection {
     connection_in(rng, state, due, headers)
 }
 
-/// A connection in a state: in Busy with a body packet due or not, and with headers sent or not.
+/// A connection in a state: in Busy with a body packet due or not, with headers sent or not, and at times of a HEAD.
 pub fn connection_in(rng: &mut Rng, state: u32, due: bool, headers: bool) -> Connection {
     let busy = state == STATE_BUSY;
     let mut words = [0; SIZE_CONNECTION];
@@ -42,6 +45,7 @@ pub fn connection_in(rng: &mut Rng, state: u32, due: bool, headers: bool) -> Con
         (CONNECTION_DUE, busy, due.into()),
         (CONNECTION_ASKED, busy && due, asked(rng)),
         (CONNECTION_HEADERS, busy, headers.into()),
+        (CONNECTION_HEAD, busy, rng.one_in(3).into()),
     ] {
         words[at] = match counts {
             true => word,
@@ -72,6 +76,23 @@ pub fn connection_mostly_for(rng: &mut Rng, kind: Kind) -> Connection {
         connection_for(rng, kind)
     } else {
         connection(rng)
+    }
+}
+
+/// A method, often HEAD.
+pub fn method(rng: &mut Rng) -> u8 {
+    match rng.one_in(4) {
+        true => HEAD,
+        false => rng.between(1, 27) as u8,
+    }
+}
+
+/// How many bytes a chunk has on a connection: where the request is a HEAD often none.
+pub fn chunk_size(rng: &mut Rng, connection: &Connection) -> usize {
+    let is_head = connection[CONNECTION_STATE] == STATE_BUSY && connection[CONNECTION_HEAD] == 1;
+    match is_head && rng.one_in(2) {
+        true => 0,
+        false => rng.length(),
     }
 }
 

@@ -118,11 +118,13 @@ fn spoil_connection(rng: &mut Rng, words: &mut [u32]) {
             CONNECTION_HEADERS,
             CONNECTION_HEADERS,
             CONNECTION_HEAD,
+            CONNECTION_HEAD,
             CONNECTION_EDITION,
             CONNECTION_OPEN,
         ]);
         let state = words[CONNECTION_STATE];
-        if matches!(at, CONNECTION_DUE | CONNECTION_ASKED | CONNECTION_HEADERS) && rng.one_in(2) {
+        let counts_in_busy = [CONNECTION_DUE, CONNECTION_ASKED, CONNECTION_HEADERS, CONNECTION_HEAD];
+        if counts_in_busy.contains(&at) && rng.one_in(2) {
             words[CONNECTION_STATE] = match rng.one_in(2) {
                 true => STATE_BUSY,
                 false => rng.of(&[STATE_IDLE, STATE_PINGED, STATE_CLOSED]),
@@ -132,6 +134,7 @@ fn spoil_connection(rng: &mut Rng, words: &mut [u32]) {
                 words[CONNECTION_DUE] = rng.below(2) as u32;
                 words[CONNECTION_ASKED] = rng.short().into();
                 words[CONNECTION_HEADERS] = rng.below(2) as u32;
+                words[CONNECTION_HEAD] = rng.below(2) as u32;
             }
         }
         words[at] = match at {

@@ -3,6 +3,9 @@
 
 use super::{Packet, Refusal, MAX_BODY};
 
+/// The code of the method HEAD.
+const HEAD: u8 = 3;
+
 /// Where a connection stands.
 #[derive(Clone, Copy, Debug, PartialEq, Eq)]
 pub enum State {
@@ -24,6 +27,8 @@ pub struct Connection {
     pub asked: u16,
     /// Whether the response's headers were sent.
     pub headers: bool,
+    /// Whether the request is a HEAD.
+    pub head: bool,
 }
 
 /// The kinds of packet.
@@ -53,6 +58,7 @@ impl Connection {
             due: false,
             asked: 0,
             headers: false,
+            head: false,
         }
     }
 
@@ -81,6 +87,15 @@ impl Connection {
             Ok(())
         } else {
             Err(Refusal::BODY_SIZE)
+        }
+    }
+
+    /// Refuses a chunk with bytes in it in the response to a HEAD.
+    pub(super) fn check_chunk(&self, size: usize) -> Result<(), Refusal> {
+        if self.state == State::Busy && self.head && size > 0 {
+            Err(Refusal::BODY_SIZE)
+        } else {
+            Ok(())
         }
     }
 
@@ -120,6 +135,7 @@ impl Connection {
                     due,
                     asked: if due { MAX_BODY } else { 0 },
                     headers: false,
+                    head: forward.method == HEAD,
                 }
             }
             Packet::Body { len, .. } => Connection {

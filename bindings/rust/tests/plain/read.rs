@@ -166,7 +166,11 @@ fn to_server(
     match cursor.u8()? {
         code::BODY_CHUNK => {
             connection.check_state(Kind::BodyChunk)?;
-            body_chunk(cursor)
+            let packet = body_chunk(cursor)?;
+            if let Packet::BodyChunk { len, .. } = packet {
+                connection.check_chunk(usize::from(len))?;
+            }
+            Ok(packet)
         }
         code::SEND_HEADERS => {
             connection.check_state(Kind::SendHeaders)?;

@@ -126,6 +126,7 @@ fn write_body_chunk(
     bytes: &[u8],
 ) -> Result<(usize, Connection), Refusal> {
     connection.check_state(Kind::BodyChunk)?;
+    connection.check_chunk(bytes.len())?;
     if bytes.len() > MAX_CHUNK {
         return Err(Refusal::TOO_LONG);
     }
