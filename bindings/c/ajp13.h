@@ -32,9 +32,9 @@
 
 #include "ajp13_words.h"
 
-#define AJP13_VERSION "0.3.0"
+#define AJP13_VERSION "0.4.0"
 #define AJP13_VERSION_MAJOR 0
-#define AJP13_VERSION_MINOR 3
+#define AJP13_VERSION_MINOR 4
 #define AJP13_VERSION_PATCH 0
 
 #ifdef __cplusplus

@@ -7,7 +7,7 @@ use std::error::Error;
 use std::io::{self, Read, Write};
 use std::net::TcpListener;
 
-use ajp13::{Connection, Method, Packet, Places, Received, Refusal, SendHeadersHead, State};
+use ajp13::{Connection, Packet, Places, Received, Refusal, SendHeadersHead, State};
 
 /// The longest body that is read; a longer one is answered with 413.
 const LONGEST: usize = 1 << 20;

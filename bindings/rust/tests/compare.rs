@@ -443,15 +443,16 @@ fn what_is_odd() -> Vec<(&'static str, Vec<Expected>)> {
     let connection_words = |error: u32| {
         vec![
             Tells("state above 3", error),
-            Tells("head not 0", error),
             Tells("edition not 0", error),
             Tells("open not 0", error),
             Tells("due above 1 in Busy", error),
             Tells("headers above 1 in Busy", error),
+            Tells("head above 1 in Busy", error),
             Tells("asked above 65535 in Busy, due", error),
             Ignored("asked above 65535 in Busy, none due"),
             Ignored("due above 1 outside Busy"),
             Ignored("headers above 1 outside Busy"),
+            Ignored("head above 1 outside Busy"),
             Ignored("asked above 65535 outside Busy"),
         ]
     };

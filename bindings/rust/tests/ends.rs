@@ -1,8 +1,9 @@
 //! The safe types: packets read and built at both ends, refusals, views.
 
 use ajp13::{
-    attribute, check, raw, Attribute, Building, BuildingKind, Checking, Connection, ConnectionFields, ForwardHead,
-    HeaderName, Method, NotClosed, Packet, Places, Received, Refusal, SendHeadersHead, State,
+    attribute, check, raw, Attribute, Building, BuildingKind, Checking, Connection,
+    ConnectionFields, ForwardHead, HeaderName, Method, NotClosed, Packet, Places, Received,
+    Refusal, SendHeadersHead, State,
 };
 
 /// GET /, port 80, all else null, no headers, no attributes.
@@ -668,7 +669,10 @@ fn the_response_to_a_head() {
     let mut places = Places::new();
     let mut server = of_head(State::Busy);
     for (bytes, refusal) in [
-        (&b"\x41\x42\x00\x05\x03\x00\x01a\x00"[..], Refusal::BodySizeWrong),
+        (
+            &b"\x41\x42\x00\x05\x03\x00\x01a\x00"[..],
+            Refusal::BodySizeWrong,
+        ),
         (b"\x41\x42\x00\x05\x03\x00\x01a\x01", Refusal::StringWrong),
         (b"\x41\x42\x00\x06\x03\x00\x01a\x00\x00", Refusal::LeftOver),
         (b"\x41\x42\x00\x05\x03\x00\x02a\x00", Refusal::CutShort),
@@ -680,9 +684,9 @@ fn the_response_to_a_head() {
     let packet = Packet::BodyChunk(b"");
     assert_eq!(read, Ok(Received::Accepted { packet, taken: 8 }));
     assert!(server.is_head());
-    server
-        .read_at_server(b"\x41\x42\x00\x02\x05\x01", &mut places)
-        .unwrap();
+    let read = server.read_at_server(b"\x41\x42\x00\x02\x05\x01", &mut places);
+    let packet = Packet::End { reuse: true };
+    assert_eq!(read, Ok(Received::Accepted { packet, taken: 6 }));
     assert_eq!(server, Connection::fresh());
 
     // Outside Busy the mark is not looked at, and a step leaves nothing of it.

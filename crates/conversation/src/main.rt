@@ -11,8 +11,9 @@ use vectors_text::text;
 
 // The conversation, a send a line: what is sent, its letter and what it holds (`send` and `piece` say how). A line that begins with # is
 // printed. The server's end refuses to send a second Forward before the first request is over, and a body packet with more bytes than were
-// asked for; the container's end refuses to send an End while a body packet is due; and nothing more can be sent on a closed connection.
-const CONVERSATION: [u8; 1076] = *b"#A ping
+// asked for; the container's end refuses to send an End while a body packet is due, and a chunk with bytes in the response to a HEAD; and
+// nothing more can be sent on a closed connection.
+const CONVERSATION: [u8; 1340] = *b"#A ping
 CPing|P
 CPong|Q
 #A request with a body
@@ -32,6 +33,12 @@ End, reuse|E|1
 body packet of 0 bytes|B|
 Send Body Chunk of 6 bytes|C|20 min
 End, reuse|E|1
+#A HEAD, whose response has no body
+Forward, HEAD /valves/7|F|HEAD|/valves/7|80|0|h,Host,orchard.example
+Send Headers, 200 OK|H|200|OK|h,Content-Type,text/plain|h,Content-Length,14
+Send Body Chunk of 8 bytes|C|opened: 
+Send Body Chunk of 0 bytes|C|
+End, reuse|E|1
 #A request without a body, the last one
 Forward, GET /trees/12|F|GET|/trees/12|443|1|h,Host,orchard.example|a,query_string,height|n,ssl_key_size,256
 Send Headers, 200 OK|H|200|OK|h,Content-Type,text/plain|h,Content-Length,8
@@ -39,7 +46,7 @@ Send Body Chunk of 8 bytes|C|lime, 3m
 End, no reuse|E|0
 CPing|P";
 
-const LINES: usize = 26;
+const LINES: usize = 32;
 
 fn main() {
     let conversation = CONVERSATION;

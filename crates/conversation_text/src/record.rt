@@ -18,7 +18,8 @@ pub fn show(name: &[u8], c: Connection) {
     print::counted(b"left ", left.0 as u64, 4);
     flag(b"due ", c.due(), 5);
     print::counted(b"asked ", c.asked() as u64, 6);
-    flag(b"headers ", c.headers(), 0);
+    flag(b"headers ", c.headers(), 5);
+    flag(b"head ", c.head(), 0);
     print::letter(b'\n');
 }
 

@@ -261,7 +261,7 @@ fn on_the_way(rng: &mut Rng) -> (Checking, Vec<u8>) {
 
 /// The connection that words without an error say, for the plain implementation.
 fn plain_connection(words: &words::Connection) -> Connection {
-    let &[state, left, due, asked, headers, ..] = words;
+    let &[state, left, due, asked, headers, head, ..] = words;
     let states = [State::Idle, State::Pinged, State::Busy, State::Closed];
     Connection {
         state: states[state as usize],
@@ -269,6 +269,7 @@ fn plain_connection(words: &words::Connection) -> Connection {
         due: due == 1,
         asked: asked as u16,
         headers: headers == 1,
+        head: head == 1,
     }
 }
 

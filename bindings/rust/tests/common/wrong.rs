@@ -123,7 +123,12 @@ fn spoil_connection(rng: &mut Rng, words: &mut [u32]) {
             CONNECTION_OPEN,
         ]);
         let state = words[CONNECTION_STATE];
-        let counts_in_busy = [CONNECTION_DUE, CONNECTION_ASKED, CONNECTION_HEADERS, CONNECTION_HEAD];
+        let counts_in_busy = [
+            CONNECTION_DUE,
+            CONNECTION_ASKED,
+            CONNECTION_HEADERS,
+            CONNECTION_HEAD,
+        ];
         if counts_in_busy.contains(&at) && rng.one_in(2) {
             words[CONNECTION_STATE] = match rng.one_in(2) {
                 true => STATE_BUSY,

@@ -9,7 +9,7 @@ abbrev Inv-loop : tie.InvT-loop
 Inv-loop conversation ends₀ i₀ ends i = Unit {0}
 
 abbrev μ-loop : tie.MeasureT-loop
-μ-loop conversation ends₀ i₀ ends i = 26 - i
+μ-loop conversation ends₀ i₀ ends i = 32 - i
 
 pub main-spec : {M : Type 1} → statement M
 main-spec =
