@@ -50,3 +50,9 @@ step-by c m a b d e = rw (d, e)
 -- where the kind is allowed now, by whether the size is
 pub step-now : (c : Connection) (m : Move) → inState c (moveKind m) ≡ true → sizedStep c m ≡ stepOf c m
 step-now c m e = sym (step-by c m true (inSize c m) e refl)
+
+-- the step of a packet that may have any size, by the connection after it
+pub any-size : (c : Connection) (m : Move) (d : Connection) → inSize c m ≡ true → d ≡ after c m
+    → pick (inState c (moveKind m)) (Step.Next d) (Step.Refused notNow) ≡ stepOf c m
+unfolding stepOf
+any-size c m d s e = rw (s, e)

@@ -3,6 +3,7 @@
 ghost use mathlib.Core.Path.{_≡_};
 ghost use Rattle.connection.specs.Connection.{maxPacket, maxPayload, fresh, rest, withLeft, withDue, withHeaders, withHead, busy, isIdle, isPinged, isBusy, bodyDue, isHead};
 ghost use Rattle.connection.specs.Cycle.{moveKind, directionOf, inState, largestBody, sizeAllowed, chunkAllowed, forwarded, sizedStep, stepOf};
+ghost use Rattle.wire.specs.Refusal.{notNow};
 ghost use Prim.Native.Nat.{_-_};
 ghost use lib.Dec.{leb};
 ghost use Rattle.wire.specs.Pick.{pick};
@@ -393,6 +394,30 @@ impl Connection {
             return Step::Refused(refusal::NOT_NOW);
         }
         self.sized_chunk(k)
+    }
+
+    // A Get Body Chunk that asks for so many bytes, in the same way.
+    pub fn step_get_body(self, asked: u16) -> Step
+        ensures { λ r. ⌜ r ≡ stepOf self (Move.GetBody asked) ⌝ }
+    {
+        self.step_any_size(Kind::GetBody, self.busy().with_due(true, asked))
+    }
+
+    // An End, in the same way.
+    pub fn step_end(self, reuse: bool) -> Step
+        ensures { λ r. ⌜ r ≡ stepOf self (Move.End reuse) ⌝ }
+    {
+        self.step_any_size(Kind::End, Self::ended(reuse))
+    }
+
+    // A packet of a kind that may have any size: refused with 13, or the connection that it makes.
+    fn step_any_size(self, kind: Kind, after: Connection) -> Step
+        ensures { λ r. ⌜ r ≡ pick (inState self kind) (Step.Next after) (Step.Refused notNow) ⌝ }
+    {
+        if !self.allows(kind) {
+            return Step::Refused(refusal::NOT_NOW);
+        }
+        Step::Next(after)
     }
 
     // A body packet of k bytes where one is due: its size, then the connection after it.

@@ -193,7 +193,7 @@ pub fn get_body(connection: Connection, buffer: &mut [u8], asked: u16) -> Sent
     ensures { λ _. ⌜ now (buffer .exit) ≡ bufferAfter (getCall connection asked) (now (buffer .entry)) ⌝ }
 {
     let sent = ready(
-        connection.step(Move::GetBody(asked)),
+        connection.step_get_body(asked),
         PAYLOAD_PLACE + GET_BODY_PAYLOAD as usize,
         buffer.len(),
     );
@@ -209,7 +209,7 @@ pub fn end(connection: Connection, buffer: &mut [u8], reuse: bool) -> Sent
     ensures { λ _. ⌜ now (buffer .exit) ≡ bufferAfter (endCall connection reuse) (now (buffer .entry)) ⌝ }
 {
     let sent = ready(
-        connection.step(Move::End(reuse)),
+        connection.step_end(reuse),
         PAYLOAD_PLACE + END_PAYLOAD as usize,
         buffer.len(),
     );

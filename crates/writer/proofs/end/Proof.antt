@@ -11,8 +11,8 @@ use Rattle.writer.proofs.Laws.{end-size, Sends, sends}
 use Rattle.writer.proofs.end.Statement.{statement}
 use Rattle.writer.proofs.end.Tie as tie
 
-step-requires : tie.Need-step-requires
-step-requires c κs = search needs
+step-end-requires : tie.Need-step-end-requires
+step-end-requires c κs = search needs
 
 cast-ready : tie.Need-cast-ready
 cast-ready c = search needs
@@ -33,7 +33,7 @@ unfolding endCall
 known c =
     let a = c .before .before .before .before .args in
     sends (a .connection) (Move.End (a .reuse)) (endPayload (a .reuse)) (a .buffer .now) _ _ (c .before .ready .result) _
-    (c .before .before .step .ensures) (sym (told-exact 6 (omega arith)) ∙ ap sizeTold (sym (end-size (a .reuse)))) (c .before .ready .ensures) (c .is-written .ensures)
+    (c .before .before .step-end .ensures) (sym (told-exact 6 (omega arith)) ∙ ap sizeTold (sym (end-size (a .reuse)))) (c .before .ready .ensures) (c .is-written .ensures)
 
 write-end-requires : tie.Need-write-end-requires
 unfolding endCall
@@ -55,7 +55,7 @@ pub end-spec : {M : Type 1} → statement M
 end-spec =
     tie.close
     (tie.spec
-    step-requires
+    step-end-requires
     cast-ready
     add-ready
     ready-requires

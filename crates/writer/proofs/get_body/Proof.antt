@@ -10,8 +10,8 @@ use Rattle.writer.proofs.Laws.{Sends, sends}
 use Rattle.writer.proofs.get_body.Statement.{statement}
 use Rattle.writer.proofs.get_body.Tie as tie
 
-step-requires : tie.Need-step-requires
-step-requires c κs = search needs
+step-get-body-requires : tie.Need-step-get-body-requires
+step-get-body-requires c κs = search needs
 
 cast-ready : tie.Need-cast-ready
 cast-ready c = search needs
@@ -32,7 +32,7 @@ unfolding getCall
 known c =
     let a = c .before .before .before .before .args in
     sends (a .connection) (Move.GetBody (a .asked)) (getPayload (a .asked)) (a .buffer .now) _ _ (c .before .ready .result) _
-    (c .before .before .step .ensures) (sym (told-exact 7 (omega arith))) (c .before .ready .ensures) (c .is-written .ensures)
+    (c .before .before .step-get-body .ensures) (sym (told-exact 7 (omega arith))) (c .before .ready .ensures) (c .is-written .ensures)
 
 write-get-body-requires : tie.Need-write-get-body-requires
 unfolding getCall
@@ -54,7 +54,7 @@ pub get-body-spec : {M : Type 1} → statement M
 get-body-spec =
     tie.close
     (tie.spec
-    step-requires
+    step-get-body-requires
     cast-ready
     add-ready
     ready-requires
