@@ -81,7 +81,7 @@ static int connection_is(uint32_t state, uint32_t left, uint32_t due, uint32_t a
     return memcmp(words, lent.connection.words, sizeof words) == 0;
 }
 
-/* The same with the mark of a HEAD. */
+/* A connection with the mark of a HEAD, and no body packet due. */
 static void connection_of_head(uint32_t state, uint32_t left, uint32_t headers, uint32_t head)
 {
     connection(state, left, 0, 0, headers);
@@ -367,12 +367,13 @@ static void response_to_head(void)
     static const uint8_t unclosed[] = {0x41, 0x42, 0, 5, 3, 0, 1, 'a', 1}, end[] = {0x41, 0x42, 0, 2, 5, 1};
     static const uint8_t left_over[] = {0x41, 0x42, 0, 6, 3, 0, 1, 'a', 0, 0};
     static const uint8_t cut_short[] = {0x41, 0x42, 0, 5, 3, 0, 2, 'a', 0};
-    const size_t places = AJP13_MAX_PLACES;
+    static const uint8_t chunk[AJP13_MAX_CHUNK + 1];
+    const size_t places = AJP13_MAX_PLACES, method_place = 5;
 
     /* The mark is that of the method byte in the packet that is closed, and in the one that is read. */
     connection(AJP13_STATE_IDLE, 0, 0, 0, 0);
     begin_forward();
-    lent.buffer[5] = AJP13_METHOD_HEAD;
+    lent.buffer[method_place] = AJP13_METHOD_HEAD;
     IS(ajp13_close(&lent.connection, &lent.building, OUT, &lent.answer), AJP13_DONE);
     IS(lent.connection.words[AJP13_CONNECTION_HEAD], 1);
     connection(AJP13_STATE_IDLE, 0, 0, 0, 0);
@@ -384,9 +385,8 @@ static void response_to_head(void)
     connection_of_head(AJP13_STATE_BUSY, 0, 1, 1);
     LEFT(ajp13_body_chunk(&lent.connection, OUT, BYTES("ok"), &lent.answer), AJP13_BODY_SIZE_WRONG);
     LEFT(ajp13_body_chunk(&lent.connection, lent.buffer, 0, BYTES("ok"), &lent.answer), AJP13_BODY_SIZE_WRONG);
-    LEFT(ajp13_body_chunk(&lent.connection, OUT, lent.buffer, AJP13_MAX_CHUNK + 1, &lent.answer),
-         AJP13_BODY_SIZE_WRONG);
-    IS(ajp13_body_chunk(&lent.connection, OUT, lent.buffer, 0, &lent.answer), AJP13_DONE);
+    LEFT(ajp13_body_chunk(&lent.connection, OUT, chunk, sizeof chunk, &lent.answer), AJP13_BODY_SIZE_WRONG);
+    IS(ajp13_body_chunk(&lent.connection, OUT, chunk, 0, &lent.answer), AJP13_DONE);
     IS(memcmp(lent.buffer, empty, sizeof empty) == 0, 1);
     IS(lent.connection.words[AJP13_CONNECTION_HEAD], 1);
     connection_of_head(AJP13_STATE_BUSY, 0, 0, 1);

@@ -143,7 +143,7 @@ impl Connection {
             due: self.is_due(),
             asked: self.asked(),
             headers_sent: self.headers_sent(),
-            head: self.is_head(),
+            head: self.words[raw::CONNECTION_HEAD] != 0,
         }
     }
 
@@ -153,7 +153,7 @@ impl Connection {
         State::from_word(self.words[raw::CONNECTION_STATE])
     }
 
-    /// How many bytes of the request's body are still to come. Counts only in `Busy`, as the four below do.
+    /// How many bytes of the request's body are still to come. Counts only in `Busy`, as the three below do.
     #[inline]
     pub fn left(&self) -> u32 {
         self.words[raw::CONNECTION_LEFT]
@@ -177,8 +177,8 @@ impl Connection {
         self.words[raw::CONNECTION_HEADERS] != 0
     }
 
-    /// Whether the request is a HEAD: the method of its Forward is [`Method::HEAD`](crate::Method::HEAD). Its response has
-    /// no body, so a chunk of it has to be empty.
+    /// Whether a request is under way that is a HEAD: the method of its Forward is
+    /// [`Method::HEAD`](crate::Method::HEAD). Its response has no body, so a chunk of it has to be empty.
     ///
     /// ```
     /// use ajp13::{Connection, ForwardHead, Method, Refusal, SendHeadersHead};
@@ -210,7 +210,7 @@ impl Connection {
     /// ```
     #[inline]
     pub fn is_head(&self) -> bool {
-        self.words[raw::CONNECTION_HEAD] != 0
+        self.state() == State::Busy && self.words[raw::CONNECTION_HEAD] == 1
     }
 
     /// The most bytes that the body packet which is due may hold: the least of what was asked for, of
@@ -366,7 +366,7 @@ impl fmt::Debug for Connection {
             .field("due", &self.is_due())
             .field("asked", &self.asked())
             .field("headers_sent", &self.headers_sent())
-            .field("head", &self.is_head())
+            .field("head", &self.fields().head)
             .finish()
     }
 }

@@ -16,15 +16,22 @@ mod common {
     pub mod settings;
 }
 
-use ajp13::{raw, Attribute, HeaderName, Packet as Shown, Places, Received, Refusal};
+use ajp13::{
+    attribute, raw, Attribute, HeaderName, Method, Packet as Shown, Places, Received, Refusal,
+};
 use common::rng::Rng;
 use common::settings;
 use std::collections::{BTreeMap, VecDeque};
+use std::ops::Range;
 use std::time::Instant;
 
-/// The code of the method HEAD, and the place of the method in a Forward.
-const HEAD: u32 = 3;
+/// The code of the method HEAD, the place of the method in a Forward, and that of the length in a chunk.
+const HEAD: u32 = Method::HEAD.code() as u32;
 const METHOD_PLACE: usize = 5;
+const CHUNK_LENGTH: Range<usize> = 5..7;
+
+/// What a chunk with bytes is refused with in the response to a HEAD.
+const BODY_SIZE_WRONG: u32 = Refusal::BodySizeWrong.number() as u32;
 
 /// How many events there are where `AJP13_EVENTS` sets no other number.
 const EVENTS: u64 = 5_000_000;
@@ -115,8 +122,8 @@ impl Packet {
     }
 
     /// Whether it is a chunk with bytes in it, by the length that stands in it.
-    fn is_full_chunk(&self) -> bool {
-        self.kind == raw::KIND_BODY_CHUNK && self.bytes[5..7] != [0, 0]
+    fn is_chunk_with_bytes(&self) -> bool {
+        self.kind == raw::KIND_BODY_CHUNK && self.bytes[CHUNK_LENGTH] != [0, 0]
     }
 }
 
@@ -149,7 +156,7 @@ struct Counts {
     /// Events while a HEAD was under way; in the response to one, empty chunks delivered, and chunks with bytes refused.
     with_head: u64,
     empty_chunks: u64,
-    full_chunks_refused: u64,
+    chunks_refused: u64,
 }
 
 /// Both ends, the pipes between them, and what was sent and received.
@@ -303,7 +310,7 @@ impl TwoEnds {
         self.lend_buffer(right);
 
         let mut body = Vec::new();
-        let mut full_on_head = false;
+        let mut bytes_on_head = false;
         let status = match kind {
             Kind::CPing => raw::cping(&mut connection, &mut self.buffer, &mut answer),
             Kind::CPong => raw::cpong(&mut connection, &mut self.buffer, &mut answer),
@@ -338,7 +345,7 @@ impl TwoEnds {
                 if !right {
                     size += self.rng.of(&[0, raw::MAX_CHUNK]);
                 }
-                full_on_head = allowed && is_head && size > 0;
+                bytes_on_head = allowed && is_head && size > 0;
                 let chunk = self.rng.bytes(size);
                 raw::body_chunk(&mut connection, &mut self.buffer, &chunk, &mut answer)
             }
@@ -366,17 +373,17 @@ impl TwoEnds {
             assert!(self.buffer == self.before, "{kind:?} wrote and was refused");
             assert_eq!(answer, [0; raw::SIZE_ANSWER]);
             assert!(!(allowed && right), "{kind:?} was refused: {status}");
-            if full_on_head {
+            if bytes_on_head {
                 // Before the length and the buffer's room are looked at.
-                assert_eq!(status, 14);
-                self.counts.full_chunks_refused += 1;
+                assert_eq!(status, BODY_SIZE_WRONG);
+                self.counts.chunks_refused += 1;
             }
             self.counts.refused[index] += 1;
             *self.counts.refusals.entry(status).or_default() += 1;
             return;
         }
         assert!(allowed, "{kind:?} was written in another state");
-        assert!(!full_on_head, "a chunk with bytes was written for a HEAD");
+        assert!(!bytes_on_head, "a chunk with bytes was written for a HEAD");
         assert_eq!(answer[raw::ANSWER_KIND], kind.number());
         let length = answer[raw::ANSWER_BYTES] as usize;
         assert!(self.buffer[length..] == self.before[length..]);
@@ -480,7 +487,13 @@ impl TwoEnds {
         // stored_method: it has no say in whether the request is a HEAD.
         if self.rng.one_in(4) {
             let method: &[u8] = self.rng.of(&[b"HEAD", b"GET"]);
-            raw::attribute_text(&mut building, &mut self.buffer, 0x0D, method, 0);
+            raw::attribute_text(
+                &mut building,
+                &mut self.buffer,
+                attribute::STORED_METHOD.into(),
+                method,
+                0,
+            );
         }
         building
     }
@@ -693,7 +706,7 @@ impl TwoEnds {
         // While a HEAD is under way no chunk with bytes is in the pipe to the server.
         if self.head {
             self.counts.with_head += 1;
-            assert!(!self.to_server.iter().any(Packet::is_full_chunk));
+            assert!(!self.to_server.iter().any(Packet::is_chunk_with_bytes));
         }
     }
 
@@ -875,7 +888,7 @@ impl Counts {
         );
         println!(
             "  a HEAD under way after {} events, {} empty chunks delivered for one, {} with bytes refused",
-            self.with_head, self.empty_chunks, self.full_chunks_refused
+            self.with_head, self.empty_chunks, self.chunks_refused
         );
     }
 
@@ -911,7 +924,7 @@ impl Counts {
             self.strings,
             self.with_head,
             self.empty_chunks,
-            self.full_chunks_refused,
+            self.chunks_refused,
         ] {
             assert!(times > often, "some kind of event seldom happened");
         }

@@ -23,10 +23,10 @@ use Rattle.connection.specs.Facts.{Commuting, BodyWithin, Ignored}
 use Rattle.connection.proofs.Laws.{largest-by, step-by}
 
 -- two constructors are never equal
-never : {A : Type 0} → false ≡ true → A
+pub never : {A : Type 0} → false ≡ true → A
 never e = absurd (false≢true e)
 
-wrong-way : {A : Type 0} → Direction.ToServer ≡ Direction.ToContainer → A
+pub wrong-way : {A : Type 0} → Direction.ToServer ≡ Direction.ToContainer → A
 wrong-way e = absurd (let z : _≡_ {A = ℕ} 0 1 = cc in omega arith)
 
 -- where a connection is Idle no move of the container's is allowed

@@ -1,5 +1,6 @@
 -- The cycle of a connection, one rule for the end that sends and the end that receives. The table of document 01, 'The cycle',
--- is `inState` (which state and record allow a kind of packet) and `after` (the connection then), a row a line. Document 02, A4: `chunkAllowed`.
+-- is `inState` (which state and record allow a kind of packet) and `after` (the connection then), a row a line. `chunkAllowed` is document
+-- 02, A4.
 -- A record may hold anything in what does not count: a step does not look at it (the law `ignored`) and leaves nothing of it (`settled`).
 -- Assumes nothing.
 use mathlib.Core.Bool.{Bool, true, false, not}
@@ -92,8 +93,8 @@ after c Move.SendHeaders = busy (withHeaders true c)
 after c (Move.BodyChunk k) = busy c
 after c (Move.End reuse) = rest (pick reuse State.Idle State.Closed)
 
--- whether the request under way is HEAD after a move, by whether it was before: a Forward says it, what leaves Busy clears it, and all else
--- keeps it
+-- whether the request under way is HEAD after a move, by whether it was before: a Forward says it, after CPing, CPong and End there is none,
+-- and all else keeps it
 abbrev pub headThen : Move → Bool → Bool
 headThen Move.CPing before = false
 headThen Move.CPong before = false

@@ -350,7 +350,7 @@ impl Connection {
         most
     }
 
-    // A move, by the rows of the cycle: refused with 13 or 14, or the connection after it. Sending and accepting both step so.
+    // A move, by the rows of the cycle: refused with 13 or 14, or the connection after it.
     pub fn step(self, m: Move) -> Step
         ensures { λ r. ⌜ r ≡ stepOf self m ⌝ }
     {

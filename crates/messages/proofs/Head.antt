@@ -1,15 +1,14 @@
--- HEAD has no body: the mark after a Forward is by the byte behind its code, read and closed; and a chunk, where the mark counts, is judged by
--- its fields first and then by its size, at either end.
+-- HEAD has no body: the mark after a Forward is by the byte behind its code, read and closed; and a chunk, where the mark counts, is judged
+-- by its fields first and then by its size, at either end.
 -- Assumes nothing.
 use native.Mathlib.Omega.{arith}
 use borrow.Author.Tests.{ne-eqb}
-use mathlib.Core.Path.{_≡_, refl, sym, ap, subst, _∙_}
+use mathlib.Core.Path.{_≡_, sym, ap, _∙_}
 use mathlib.Core.Bool.{Bool, true, false}
-use mathlib.Core.List.{List, [], _++_}
-use Prim.Native.Nat.{ℕ, _≤_, _<_}
+use mathlib.Core.List.{List, []}
+use Prim.Native.Nat.{ℕ, _<_}
 use lib.ListN.{length}
 use lib.Seq.{take-length}
-use Rattle.wire.specs.Pick.{pick, both}
 use Rattle.wire.specs.Refusal.{bodySizeWrong}
 use Rattle.wire.specs.Bytes.{part}
 use Rattle.wire.specs.Field.{byteAt}
@@ -17,40 +16,30 @@ use Rattle.wire.specs.Packet.{codePlace}
 use Rattle.packet.specs.declared.Direction.{Direction}
 use Rattle.packet.specs.declared.Forward.{Forward}
 use Rattle.packet.specs.declared.Packet.{Packet}
-use Rattle.packet.specs.declared.Part.{Part}
 use Rattle.places.specs.Entries.{maxPlaces}
-use Rattle.connection.specs.Connection.{maxPacket, isHead}
+use Rattle.connection.specs.Connection.{isHead}
 use Rattle.connection.specs.Cycle.{directionOf, inState, chunkAllowed, inSize, allowed, after}
 use Rattle.connection.specs.declared.Connection.{Connection}
 use Rattle.connection.specs.declared.Kind.{Kind}
 use Rattle.connection.specs.declared.Move.{Move}
-use Rattle.connection.proofs.Laws.{step-by}
-use Rattle.payload.specs.BodyChunk.{chunkAt}
 use Rattle.payload.specs.Code.{kindOfCode, kindAt}
 use Rattle.payload.specs.Kinds.{packetKind}
 use Rattle.payload.specs.declared.KindRead.{KindRead}
-use Rattle.payload.specs.declared.found.PacketRead.{PacketRead}
 use Rattle.payload.proofs.Handed.{forward-head}
-use Rattle.building.specs.Call.{refused, done, refusalOf, outcome}
-use Rattle.building.specs.Sent.{Written}
+use Rattle.building.specs.Call.{refusalOf, outcome}
 use Rattle.building.proofs.Calls.{fits-done}
-use Rattle.building_record.specs.declared.Building.{Building}
 use Rattle.building_record.specs.declared.BuildingKind.{BuildingKind}
 use Rattle.building_record.specs.Record.{builtKind, directionIn}
-use Rattle.writer.specs.Sending.{chunkPayload, chunkCall, sending}
-use Rattle.reader.specs.Frame.{frameAt}
+use Rattle.writer.specs.Sending.{chunkCall}
 use Rattle.reader.specs.Meaning as read
-use Rattle.reader.specs.Reading.{parseWhole, parse, accepting, reading}
-use Rattle.reader.specs.declared.frame.FrameRead.{FrameRead}
-use Rattle.reading_laws.specs.Acceptance.{Answered}
-use Rattle.reading_laws.proofs.Later.{later-answer}
-use Rattle.closing.specs.Closing.{closedPacket, closedLength, closeOutcome, closeBuffer}
+use Rattle.reader.specs.Reading.{contextOf, reading}
+use Rattle.closing.specs.Closing.{closedPacket, closedLength}
 use Rattle.closing.specs.Done.{CloseDone}
 use Rattle.closing.proofs.Laws.{close-done}
 use Rattle.messages.specs.Message.{bodyChunk}
 use Rattle.messages.specs.Bytes.{messageBytes}
-use Rattle.messages.specs.Head.{saysHead, HeadMarked, emptyChunk, HeadChunks}
-use Rattle.messages.proofs.Parses.{Parses, parses-accepted, accepted-parses}
+use Rattle.messages.specs.Head.{saysHead, HeadMarked, HeadChunks}
+use Rattle.messages.proofs.Parses.{Parses, fields-refused, size-refused, refused-more, parses-accepted, accepted-parses}
 use Rattle.messages.proofs.OneCall.{chunkPart, chunk-parses, chunk-most}
 
 -- an accepted Forward
@@ -100,36 +89,27 @@ module _ (c : Connection) (now : inState c Kind.BodyChunk ≡ true) (head : isHe
   bare = rw (now, sized 0)
 
   -- one with bytes is not
-  full : (bytes : List ℕ) → 0 < length bytes → inSize c (Move.BodyChunk (length bytes)) ≡ false
-  full bytes some = sized (length bytes) ∙ ne-eqb (length bytes) 0 (λ e. omega (arith, some, e))
+  unsized : (bytes : List ℕ) → 0 < length bytes → inSize c (Move.BodyChunk (length bytes)) ≡ false
+  unsized bytes some = sized (length bytes) ∙ ne-eqb (length bytes) 0 (λ e. omega (arith, some, e))
 
-  -- a whole packet with a chunk's code, alone: a fault of its fields, or of its size
-  module _ (s : List ℕ) (room : ℕ) (whole : frameAt Direction.ToServer s ≡ FrameRead.Whole (length s))
-      (code : kindOfCode Direction.ToServer (byteAt s codePlace) ≡ KindRead.Kind Kind.BodyChunk) where
-    fields-refused : (n : ℕ) → chunkAt s ≡ PacketRead.Refused n → reading Direction.ToServer c s room ≡ read.refused n
-    unfolding reading parse parseWhole accepting part kindAt
-    fields-refused n e = rw (whole, take-length s, code, now, e)
-
-    size-refused : (p : Part) → chunkAt s ≡ PacketRead.Packet (Packet.BodyChunk p) → inSize c (Move.BodyChunk (p .len)) ≡ false
-        → reading Direction.ToServer c s room ≡ read.refused bodySizeWrong
-    unfolding reading parse parseWhole accepting part kindAt
-    size-refused p e f = rw (whole, take-length s, code, now, e, step-by c (Move.BodyChunk (p .len)) true false now f)
-
-  -- a refusal stays what it is whatever stands behind the packet
-  with-rest : (s rest : List ℕ) (room n : ℕ) → reading Direction.ToServer c s room ≡ read.refused n
-      → reading Direction.ToServer c (s ++ rest) room ≡ read.refused n
-  with-rest s rest room n alone = later-answer s rest Direction.ToServer c room (subst Answered (sym alone) tt) ∙ alone
+  -- a packet to the server with a chunk's code is read as one
+  chunk-kind : (s : List ℕ) → kindOfCode Direction.ToServer (byteAt s codePlace) ≡ KindRead.Kind Kind.BodyChunk
+      → kindAt (contextOf Direction.ToServer c) s ≡ KindRead.Kind Kind.BodyChunk
+  unfolding kindAt
+  chunk-kind s code = code
 
   -- what a chunk is answered with, read and written
   pub head-chunks : HeadChunks c
-  unfolding messageBytes chunkCall outcome refusalOf kindAt
+  unfolding messageBytes chunkCall outcome refusalOf
   head-chunks = record {
-    faults-first = λ s rest room n whole code e. with-rest s rest room n (fields-refused s room whole code n e);
+    faults-first = λ s rest room n whole code e.
+        refused-more Direction.ToServer c s rest room n (fields-refused Direction.ToServer c s room Kind.BodyChunk n whole (chunk-kind s code) now e);
     read-refused = λ bytes rest room some most.
         let s : List ℕ = messageBytes (bodyChunk bytes) in
         let r : Parses Direction.ToServer s (Packet.BodyChunk (chunkPart bytes)) = chunk-parses bytes (chunk-most bytes most) in
-        with-rest s rest room bodySizeWrong (size-refused s room (r .whole-is) (r .kind-is) (chunkPart bytes) (r .fields-are) (full bytes some));
-    write-refused = λ bytes room some. rw (now, full bytes some);
+        refused-more Direction.ToServer c s rest room bodySizeWrong
+        (size-refused Direction.ToServer c s room Kind.BodyChunk (Packet.BodyChunk (chunkPart bytes)) (r .whole-is) (r .kind-is) now (r .fields-are) (unsized bytes some));
+    write-refused = λ bytes room some. rw (now, unsized bytes some);
     empty-read = λ rest room. parses-accepted (chunk-parses [] (omega arith)) c bare rest room (omega arith);
     empty-written = λ room most. fits-done (chunkCall c []) room (rw (now, sized 0)) (omega arith) most;
   }

@@ -13,7 +13,7 @@ use lib.Dec.{leb, eqb}
 use lib.ListN.{length, getD, drop}
 use lib.Seq.{take-length, drop-cons}
 use Rattle.wire.specs.Pick.{pick, both, either}
-use Rattle.wire.specs.Refusal.{codeNotServed, codeWrong, cutShort}
+use Rattle.wire.specs.Refusal.{codeNotServed, codeWrong, cutShort, bodySizeWrong}
 use Rattle.wire.specs.Bytes.{part}
 use Rattle.wire.specs.Field.{byteAt}
 use Rattle.wire.specs.Packet.{packetHead, packet, afterCodePlace, codePlace}
@@ -30,6 +30,7 @@ use Rattle.connection.specs.declared.State.{State}
 use Rattle.connection.specs.declared.Kind.{Kind}
 use Rattle.connection.specs.declared.Move.{Move}
 use Rattle.connection.specs.declared.Connection.{Connection}
+use Rattle.connection.proofs.Laws.{step-by}
 use Rattle.places.specs.Entries.{maxPlaces}
 use Rattle.payload.specs.Code.{codeOf, codeKind, kindOfCode, kindAt, pingCode, shutdownCode}
 use Rattle.payload.specs.Kinds.{packetAt, packetKind, packetMove}
@@ -42,8 +43,8 @@ use Rattle.payload.proofs.Parsed.{parsed-kind, move-kind}
 use Rattle.building_record.specs.Record as building
 use Rattle.building_record.specs.declared.BuildingKind.{BuildingKind}
 use Rattle.reader.specs.Frame.{frameAt}
-use Rattle.reader.specs.Meaning.{accepted, placesNeeded}
-use Rattle.reader.specs.Reading.{readAsBody, contextOf, reading}
+use Rattle.reader.specs.Meaning.{refused, accepted, placesNeeded}
+use Rattle.reader.specs.Reading.{parseWhole, parse, readAsBody, contextOf, accepting, reading}
 use Rattle.reader.specs.declared.frame.FrameRead.{FrameRead}
 use Rattle.reader.proofs.Framing.{frame-inside}
 use Rattle.reading_laws.proofs.Acceptance.{accepted-by, accepted-is}
@@ -120,6 +121,27 @@ parses-alone {d} {s} {p} r c a room h =
     accepted-by d c s room (packetKind p) p (length s) (r .whole-is)
     (rw all (subst (λ (x : Context). kindAt x s ≡ KindRead.Kind (packetKind p)) known (r .kind-is)))
     (rw all (subst (λ (x : Context). packetAt x (packetKind p) s .end ≡ PacketRead.Packet p) known (r .fields-are))) a h
+
+-- a whole packet of a kind that is allowed now, alone: refused with the fault of its fields
+pub fields-refused : (d : Direction) (c : Connection) (s : List ℕ) (room : ℕ) (kind : Kind) (n : ℕ) → frameAt d s ≡ FrameRead.Whole (length s)
+    → kindAt (contextOf d c) s ≡ KindRead.Kind kind → inState c kind ≡ true → packetAt (contextOf d c) kind s .end ≡ PacketRead.Refused n
+    → reading d c s room ≡ refused n
+unfolding reading parse parseWhole accepting part
+fields-refused d c s room kind n whole is now e = rw (whole, take-length s, is, now, e)
+
+-- or with 14, where its fields have none and its size is not allowed
+pub size-refused : (d : Direction) (c : Connection) (s : List ℕ) (room : ℕ) (kind : Kind) (p : Packet) → frameAt d s ≡ FrameRead.Whole (length s)
+    → kindAt (contextOf d c) s ≡ KindRead.Kind kind → inState c kind ≡ true → packetAt (contextOf d c) kind s .end ≡ PacketRead.Packet p
+    → inSize c (packetMove p) ≡ false → reading d c s room ≡ refused bodySizeWrong
+unfolding reading parse parseWhole accepting part
+size-refused d c s room kind p whole is now e f =
+    let state : inState c (moveKind (packetMove p)) ≡ true = ap (inState c) (move-kind p ∙ parsed-kind (contextOf d c) kind s p e) ∙ now in
+    rw (whole, take-length s, is, now, e, step-by c (packetMove p) true false state f)
+
+-- a refusal stays what it is, whatever stands behind the packet
+pub refused-more : (d : Direction) (c : Connection) (s rest : List ℕ) (room n : ℕ) → reading d c s room ≡ refused n
+    → reading d c (s ++ rest) room ≡ refused n
+refused-more d c s rest room n alone = later-answer s rest d c room (subst Answered (sym alone) tt) ∙ alone
 
 -- whatever stands behind it
 pub parses-accepted : {d : Direction} {s : List ℕ} {p : Packet} → Parses d s p → (c : Connection) → allowed c (packetMove p) ≡ true

@@ -23,11 +23,10 @@ use Rattle.packet.specs.declared.Direction.{Direction}
 use Rattle.packet.specs.declared.Part.{Part}
 use Rattle.packet.specs.declared.Packet.{Packet}
 use Rattle.connection.specs.Connection.{maxBody, bodyDue}
-use Rattle.connection.specs.Cycle.{directionOf, inState, inSize, allowed, after}
+use Rattle.connection.specs.Cycle.{directionOf, inSize, allowed, after}
 use Rattle.connection.specs.declared.Connection.{Connection}
 use Rattle.connection.specs.declared.Kind.{Kind}
 use Rattle.connection.specs.declared.Move.{Move}
-use Rattle.connection.proofs.Laws.{step-by}
 use Rattle.payload.specs.Code.{codeOf, codeKind, kindOfCode, kindAt}
 use Rattle.payload.specs.Kinds.{packetKind, packetMove}
 use Rattle.payload.specs.Body.{bodyStart, bodyOfSize, bodyAt}
@@ -36,7 +35,7 @@ use Rattle.payload.specs.declared.found.PacketRead.{PacketRead}
 use Rattle.payload.proofs.Laws.{body-sized, sized-by}
 use Rattle.reader.specs.Frame.{frameAt}
 use Rattle.reader.specs.Meaning.{refused, accepted}
-use Rattle.reader.specs.Reading.{parseWhole, parse, accepting, reading, tableAfter}
+use Rattle.reader.specs.Reading.{parseWhole, parse, contextOf, reading, tableAfter}
 use Rattle.reader.specs.declared.frame.FrameRead.{FrameRead}
 use Rattle.reading_laws.specs.Acceptance.{Answered}
 use Rattle.reading_laws.proofs.Acceptance.{refused-keeps}
@@ -49,7 +48,7 @@ use Rattle.messages.specs.RoundTrips.{WrittenBack}
 use Rattle.messages.specs.TwoForms.{emptyTold, emptyAnswer, TwoForms}
 use Rattle.messages.proofs.SameBytes.{same-self, same-bytes}
 use Rattle.messages.proofs.Frames.{frame-written}
-use Rattle.messages.proofs.Parses.{isBody, Parses, parses-alone, accepted-parses, coded-kept}
+use Rattle.messages.proofs.Parses.{isBody, Parses, parses-alone, fields-refused, size-refused, refused-more, accepted-parses, coded-kept}
 use Rattle.messages.proofs.Tables.{table-filled}
 use Rattle.messages.proofs.OneCall.{sized-parses, empty-parses, body-calls, one-done, BodyRead, empty, sized, body-read}
 
@@ -61,28 +60,16 @@ short-parses = empty-parses
 long-parses : Parses Direction.ToContainer longEmpty emptyTold
 long-parses = sized-parses [] (omega arith)
 
--- a whole packet of the server's, alone
-module _ (c : Connection) (s : List ℕ) (room : ℕ) (whole : frameAt Direction.ToContainer s ≡ FrameRead.Whole (length s)) where
-  -- where a body packet is due, and its fields are refused
-  due-refused : (n : ℕ) → bodyDue c ≡ true → bodyAt s ≡ PacketRead.Refused n → reading Direction.ToContainer c s room ≡ refused n
-  unfolding reading parse parseWhole accepting part kindAt
-  due-refused n due e =
-      let state : inState c Kind.Body ≡ true = due in
-      rw (whole, take-length s, due, state, e)
+-- where a body packet is due, what comes is read as one
+due-kind : (c : Connection) (s : List ℕ) → bodyDue c ≡ true → kindAt (contextOf Direction.ToContainer c) s ≡ KindRead.Kind Kind.Body
+unfolding kindAt
+due-kind c s due = rw due
 
-  -- where none is due, and its code is refused
-  undue-refused : (n : ℕ) → bodyDue c ≡ false → kindOfCode Direction.ToContainer (byteAt s codePlace) ≡ KindRead.Refused n
-      → reading Direction.ToContainer c s room ≡ refused n
-  unfolding reading parse parseWhole accepting part kindAt
-  undue-refused n due e = rw (whole, take-length s, due, e)
-
-  -- where a body packet is due, and its size is not allowed
-  size-refused : (p : Part) → bodyDue c ≡ true → bodyAt s ≡ PacketRead.Packet (Packet.Body p) → inSize c (Move.Body (p .len)) ≡ false
-      → reading Direction.ToContainer c s room ≡ refused bodySizeWrong
-  unfolding reading parse parseWhole accepting part kindAt
-  size-refused p due e f =
-      let state : inState c Kind.Body ≡ true = due in
-      rw (whole, take-length s, due, state, e, step-by c (Move.Body (p .len)) true false due f)
+-- where none is due, a whole packet is refused for its code, alone
+undue-refused : (c : Connection) (s : List ℕ) (room n : ℕ) → frameAt Direction.ToContainer s ≡ FrameRead.Whole (length s) → bodyDue c ≡ false
+    → kindOfCode Direction.ToContainer (byteAt s codePlace) ≡ KindRead.Refused n → reading Direction.ToContainer c s room ≡ refused n
+unfolding reading parse parseWhole part kindAt
+undue-refused c s room n whole due e = rw (whole, take-length s, due, e)
 
 -- what an empty body packet is answered with, alone
 empty-alone : (c : Connection) (s : List ℕ) (room undue : ℕ) → Parses Direction.ToContainer s emptyTold
@@ -94,8 +81,9 @@ empty-alone c s room undue r code = go (bodyDue c) refl (inSize c (Move.Body 0))
         → reading Direction.ToContainer c s room
         ≡ pick due (pick fits (accepted emptyTold (length s) (after c (Move.Body 0))) (refused bodySizeWrong)) (refused undue)
     go true e true f = parses-alone r c (rw (e, f)) room (omega arith)
-    go true e false f = size-refused c s room (r .whole-is) (bodyOfSize 0) e (r .fields-are) f
-    go false e fits f = undue-refused c s room (r .whole-is) undue e code
+    go true e false f =
+        size-refused Direction.ToContainer c s room Kind.Body emptyTold (r .whole-is) (due-kind c s e) e (r .fields-are) f
+    go false e fits f = undue-refused c s room undue (r .whole-is) e code
 
 -- it is answered
 empty-answered : (c : Connection) (size undue : ℕ) → Answered (emptyAnswer c size undue)
@@ -148,7 +136,7 @@ more-code more =
 more-read : (c : Connection) (more rest : List ℕ) (room : ℕ) → 0 < length more → length more ≤ maxBody
     → reading Direction.ToContainer c (packet Direction.ToContainer (integerBytes 0 ++ more) ++ rest) room ≡ refused (pick (bodyDue c) leftOver codeWrong)
 more-read c more rest room some most =
-    later-answer s rest Direction.ToContainer c room (subst Answered (sym alone) tt) ∙ alone
+    refused-more Direction.ToContainer c s rest room (pick (bodyDue c) leftOver codeWrong) alone
   where
     s : List ℕ
     s = packet Direction.ToContainer (integerBytes 0 ++ more)
@@ -157,8 +145,9 @@ more-read c more rest room some most =
     whole = frame-written Direction.ToContainer (integerBytes 0 ++ more) (omega arith)
 
     go : (due : Bool) → bodyDue c ≡ due → reading Direction.ToContainer c s room ≡ refused (pick due leftOver codeWrong)
-    go true e = due-refused c s room whole leftOver e (more-fields more some most)
-    go false e = undue-refused c s room whole codeWrong e (more-code more)
+    go true e =
+        fields-refused Direction.ToContainer c s room Kind.Body leftOver whole (due-kind c s e) e (more-fields more some most)
+    go false e = undue-refused c s room codeWrong whole e (more-code more)
 
     alone : reading Direction.ToContainer c s room ≡ refused (pick (bodyDue c) leftOver codeWrong)
     alone = go (bodyDue c) refl

@@ -6,7 +6,6 @@ use mathlib.Core.Path.{_≡_}
 use mathlib.Core.Bool.{Bool}
 use mathlib.Core.List.{List, [], _++_}
 use Prim.Native.Nat.{ℕ, _≤_, _<_}
-use lib.Dec.{eqb}
 use lib.ListN.{length, getD}
 use Rattle.wire.specs.Refusal.{bodySizeWrong}
 use Rattle.wire.specs.Bytes.{part}
@@ -15,7 +14,7 @@ use Rattle.wire.specs.Packet.{codePlace, afterCodePlace}
 use Rattle.packet.specs.declared.Direction.{Direction}
 use Rattle.packet.specs.declared.Forward.{Forward}
 use Rattle.packet.specs.declared.Packet.{Packet}
-use Rattle.names.specs.Method.{headMethod}
+use Rattle.names.specs.Method.{isHeadMethod}
 use Rattle.connection.specs.Connection.{maxPacket, isHead}
 use Rattle.connection.specs.Cycle.{after}
 use Rattle.connection.specs.declared.Connection.{Connection}
@@ -41,7 +40,7 @@ use Rattle.messages.specs.Bytes.{messageBytes}
 
 -- a Forward's bytes say that it is HEAD
 abbrev pub saysHead : List ℕ → Bool
-saysHead packet = eqb (getD packet afterCodePlace 0) headMethod
+saysHead packet = isHeadMethod (getD packet afterCodePlace 0)
 
 -- the mark after a Forward is by what stands in the packet: one that is accepted, and one that is closed
 pub record HeadMarked (c : Connection) : Type 0 where

@@ -107,7 +107,7 @@ round-trip list n h =
     ∙ at-place list (n - firstCode list) (omega arith)
     ∙ ap CodeFound.Code e
 
--- the code that is taken for HEAD has that name in the list, and that name no other code
+-- the code that is taken for HEAD has that name in the list, and looking that name up gives this code
 pub head-named : (nameFor NameList.Methods headMethod ≡ ascii "HEAD") × (codeIn NameList.Methods (ascii "HEAD") ≡ CodeFound.Code headMethod)
 unfolding methodNames nameFor letter sameName codeFrom codeIn
 head-named = (refl, refl)

@@ -22,7 +22,7 @@ use Rattle.wire.specs.declared.read.StringRead.{StringRead}
 use Rattle.wire.proofs.Field.{integer-inside}
 use Rattle.headers.specs.Length.{declaredLength}
 use Rattle.wire.proofs.Tests.{both-second}
-use Rattle.names.specs.Method.{headMethod}
+use Rattle.names.specs.Method.{isHeadMethod}
 use Rattle.names.specs.Header.{beginsCode, codeFault, spelledFault}
 use Rattle.names.specs.Attribute.{attributeKind, attributeFault}
 use Rattle.packet.specs.declared.AttributeKind.{AttributeKind}
@@ -702,8 +702,8 @@ number-found width there s at value next = go (leb (at + width) (length s)) refl
 
 -- whether a Forward is HEAD goes by the byte behind its code, and by nothing else that stands in it
 pub forward-head : (s : List ℕ) (f : Forward) → forwardAt s .end ≡ PacketRead.Packet (Packet.Forward f)
-    → forwardMove f .head ≡ eqb (getD s afterCodePlace 0) headMethod
+    → forwardMove f .head ≡ isHeadMethod (getD s afterCodePlace 0)
 unfolding byteAt
 forward-head s f e =
     let method = number-found 1 (getD s afterCodePlace 0) s afterCodePlace (f .method) (f .protocol .0) (forward-handed s f e .method-read) in
-    ap (λ (n : ℕ). eqb n headMethod) (sym (method .0))
+    ap isHeadMethod (sym (method .0))

@@ -1,11 +1,11 @@
--- While a HEAD is under way no chunk with bytes is in the pipe to the server. The server's end has the mark from the sending of the Forward to
--- the acceptance of its End, so it allows none of the chunks on their way to it but empty ones; and what is on its way to it is what it
+-- While a HEAD is under way no chunk with bytes is in the pipe to the server. The server's end has the mark from the sending of the Forward
+-- to the acceptance of its End, so it allows none of the chunks on their way to it but empty ones; and what is on its way to it is what it
 -- allows, by `Kept`.
 -- Assumes nothing.
 use native.Mathlib.Omega.{arith}
 use borrow.Author.Tests.{eqb-true}
 use mathlib.Core.Path.{_≡_, refl, sym, ap, subst, _∙_}
-use mathlib.Core.Bool.{Bool, true, false, not, false≢true}
+use mathlib.Core.Bool.{Bool, true, false, not}
 use mathlib.Core.List.{List, [], _∷_, _++_, append-nil}
 use Prim.Native.Nat.{ℕ, _+_}
 use lib.Dec.{eqb, leb}
@@ -17,22 +17,22 @@ use Rattle.wire.specs.Field.{byteAt, integerAt}
 use Rattle.wire.specs.Packet.{codePlace, afterCodePlace}
 use Rattle.wire.specs.Refusal.{cutShort}
 use Rattle.wire.specs.declared.read.NumberRead.{NumberRead}
-use Rattle.wire.proofs.Tests.{both-first, both-second}
+use Rattle.wire.proofs.Tests.{both-first}
 use Rattle.packet.specs.declared.Direction.{Direction}
 use Rattle.packet.specs.declared.Forward.{Forward}
 use Rattle.packet.specs.declared.Packet.{Packet}
-use Rattle.names.specs.Method.{headMethod}
+use Rattle.names.specs.Method.{isHeadMethod}
 use Rattle.connection.specs.Connection.{isIdle, isPinged, isBusy, isHead}
-use Rattle.connection.specs.Cycle.{moveKind, directionOf, inSize, allowed, after}
+use Rattle.connection.specs.Cycle.{moveKind, directionOf, allowed, after}
 use Rattle.connection.specs.declared.State.{State}
 use Rattle.connection.specs.declared.Connection.{Connection}
 use Rattle.connection.specs.declared.Kind.{Kind}
 use Rattle.connection.specs.declared.Move.{Move}
-use Rattle.connection.proofs.Commute.{idle-mute}
+use Rattle.connection.proofs.Commute.{never, wrong-way, idle-mute}
 use Rattle.connection.proofs.Head.{marked, head-bare, closed-mute}
 use Rattle.places.specs.Entries.{maxPlaces}
 use Rattle.payload.specs.Code.{codeOf, codeKind, kindOfCode, kindAt}
-use Rattle.payload.specs.Kinds.{packetAt, packetKind, packetMove}
+use Rattle.payload.specs.Kinds.{packetKind, packetMove}
 use Rattle.payload.specs.Handed.{PacketHanded}
 use Rattle.payload.specs.declared.KindRead.{KindRead}
 use Rattle.payload.proofs.Handed.{number-found}
@@ -47,20 +47,13 @@ use Rattle.sends.specs.Send.{Send, callDirection, outcomeOf, bufferOf}
 use Rattle.two_ends_laws.specs.Ends.{PipePacket, Ends, pipeOf, senderOf, receiverOf, withSent, withRead, sentFrom, allBytes, Delivery, answerOf, afterAnswer, lent}
 use Rattle.two_ends_laws.specs.Past.{World, start, Event, send, deliver, entryOf, deliverFrom, happen, run, delivered}
 use Rattle.two_ends_laws.specs.Readable.{Readable}
-use Rattle.two_ends_laws.specs.Made.{packetBy, Made}
-use Rattle.two_ends_laws.specs.Head.{headPacket, headUnderWay, isFullChunk, NoFullChunk, HeadBare}
+use Rattle.two_ends_laws.specs.Made.{packetBy}
+use Rattle.two_ends_laws.specs.Head.{headPacket, headUnderWay, isChunkWithBytes, NoChunkWithBytes, HeadBare}
 use Rattle.two_ends_laws.proofs.Moves.{opposite, AllAllowed, afterAll, AllGo}
-use Rattle.two_ends_laws.proofs.Meeting.{Pipe, empty, next, pipe-goes, Meeting, First, meeting-first, meeting-of, EndsMeet}
+use Rattle.two_ends_laws.proofs.Meeting.{Pipe, empty, next, pipe-goes, Meeting, First, meeting-first, meeting-of}
 use Rattle.two_ends_laws.proofs.Sends.{send-made}
 use Rattle.two_ends_laws.proofs.Invariant.{Kept, kept-start}
 use Rattle.two_ends_laws.proofs.Theorem.{happen-keeps, run-keeps}
-
--- two constructors are never equal, nor are the two directions
-never : {A : Type 0} → false ≡ true → A
-never e = absurd (false≢true e)
-
-wrong-way : {A : Type 0} → Direction.ToServer ≡ Direction.ToContainer → A
-wrong-way e = absurd (let z : _≡_ {A = ℕ} 0 1 = cc in omega arith)
 
 -- a state that is Busy is neither Idle nor Pinged
 not-idle : (s : State) → isBusy s ≡ true → isIdle s ≡ false
@@ -80,15 +73,15 @@ module _ (c : Connection) (head : isHead c ≡ true) where
   busy-now = both-first (isBusy (c .state)) (c .head) head
 
   -- a move that is allowed keeps the mark, unless it is an End
-  head-kept : (m : Move) → allowed c m ≡ true → (moveKind m ≡ Kind.End → ⊥) → isHead (after c m) ≡ true
-  head-kept Move.CPing f h = never (sym (not-idle (c .state) busy-now) ∙ both-first (isIdle (c .state)) true f)
-  head-kept Move.CPong f h = never (sym (not-pinged (c .state) busy-now) ∙ both-first (isPinged (c .state)) true f)
-  head-kept (Move.Forward g) f h = never (sym (not-idle (c .state) busy-now) ∙ both-first (isIdle (c .state)) true f)
-  head-kept (Move.Body k) f h = marked c (Move.Body k) f .counts ∙ head
-  head-kept (Move.GetBody r) f h = marked c (Move.GetBody r) f .counts ∙ head
-  head-kept Move.SendHeaders f h = marked c Move.SendHeaders f .counts ∙ head
-  head-kept (Move.BodyChunk k) f h = marked c (Move.BodyChunk k) f .counts ∙ head
-  head-kept (Move.End reuse) f h = absurd (h refl)
+  mark-kept : (m : Move) → allowed c m ≡ true → (moveKind m ≡ Kind.End → ⊥) → isHead (after c m) ≡ true
+  mark-kept Move.CPing f h = never (sym (not-idle (c .state) busy-now) ∙ both-first (isIdle (c .state)) true f)
+  mark-kept Move.CPong f h = never (sym (not-pinged (c .state) busy-now) ∙ both-first (isPinged (c .state)) true f)
+  mark-kept (Move.Forward g) f h = never (sym (not-idle (c .state) busy-now) ∙ both-first (isIdle (c .state)) true f)
+  mark-kept (Move.Body k) f h = marked c (Move.Body k) f .counts ∙ head
+  mark-kept (Move.GetBody r) f h = marked c (Move.GetBody r) f .counts ∙ head
+  mark-kept Move.SendHeaders f h = marked c Move.SendHeaders f .counts ∙ head
+  mark-kept (Move.BodyChunk k) f h = marked c (Move.BodyChunk k) f .counts ∙ head
+  mark-kept (Move.End reuse) f h = absurd (h refl)
 
 -- a move of the server's is no End
 server-no-end : (m : Move) → directionOf (moveKind m) ≡ Direction.ToContainer → moveKind m ≡ Kind.End → ⊥
@@ -99,7 +92,7 @@ head-on : (c : Connection) (moves : List Move) → AllGo Direction.ToContainer m
     → isHead (afterAll c moves) ≡ true
 head-on c [] go all head = head
 head-on c (m ∷ moves) go all head =
-    head-on (after c m) moves (go .1) (all .1) (head-kept c head m (all .0) (server-no-end m (go .0)))
+    head-on (after c m) moves (go .1) (all .1) (mark-kept c head m (all .0) (server-no-end m (go .0)))
 
 -- a move of the container's after which the mark is there found it
 head-was : (c : Connection) (m : Move) → directionOf (moveKind m) ≡ Direction.ToServer → allowed c m ≡ true → isHead (after c m) ≡ true
@@ -118,7 +111,8 @@ head-back : (c : Connection) (moves : List Move) → AllGo Direction.ToServer mo
 head-back c [] go all e = e
 head-back c (m ∷ moves) go all e = head-was c m (go .0) (all .0) (head-back (after c m) moves (go .1) (all .1) e)
 
--- where the container's end has the mark, the server's has it: what is on the way to the container keeps it, and what is on the way back found it
+-- where the container's end has the mark, the server's has it: what is on the way to the container keeps it, and what is on the way back
+-- found it
 server-has : {server container : Connection} {out back : List PipePacket} → Meeting Direction.ToContainer server container out back
     → isHead container ≡ true → isHead server ≡ true
 server-has {server} {container} ends e =
@@ -152,7 +146,7 @@ chunk-says s (Packet.End reuse) places k h = absurd (let z : _≡_ {A = ℕ} 0 1
 
 -- a packet on its way to an end that allows its move and has the mark is no chunk with bytes
 bare-packet : (c : Connection) (packet : PipePacket) (m : Move) → Readable Direction.ToServer packet m → allowed c m ≡ true → isHead c ≡ true
-    → isFullChunk (packet .bytes) ≡ false
+    → isChunkWithBytes (packet .bytes) ≡ false
 unfolding part
 bare-packet c packet m readable f head = go (eqb (getD s codePlace 0) (codeOf Kind.BodyChunk)) refl
   where
@@ -189,31 +183,31 @@ data Leaves (c : Connection) (m : Move) : Type 0 where
   mute : ((n : Move) → directionOf (moveKind n) ≡ Direction.ToServer → allowed (after c m) n ≡ false) → Leaves c m
 
 leaves : (c : Connection) (m : Move) → isHead c ≡ true → allowed c m ≡ true → Leaves c m
-leaves c Move.CPing head f = stays (head-kept c head Move.CPing f (λ e. absurd (let z : _≡_ {A = ℕ} 0 1 = cc in omega arith)))
-leaves c Move.CPong head f = stays (head-kept c head Move.CPong f (λ e. absurd (let z : _≡_ {A = ℕ} 0 1 = cc in omega arith)))
-leaves c (Move.Forward g) head f = stays (head-kept c head (Move.Forward g) f (λ e. absurd (let z : _≡_ {A = ℕ} 0 1 = cc in omega arith)))
-leaves c (Move.Body k) head f = stays (head-kept c head (Move.Body k) f (λ e. absurd (let z : _≡_ {A = ℕ} 0 1 = cc in omega arith)))
-leaves c (Move.GetBody r) head f = stays (head-kept c head (Move.GetBody r) f (λ e. absurd (let z : _≡_ {A = ℕ} 0 1 = cc in omega arith)))
-leaves c Move.SendHeaders head f = stays (head-kept c head Move.SendHeaders f (λ e. absurd (let z : _≡_ {A = ℕ} 0 1 = cc in omega arith)))
-leaves c (Move.BodyChunk k) head f = stays (head-kept c head (Move.BodyChunk k) f (λ e. absurd (let z : _≡_ {A = ℕ} 0 1 = cc in omega arith)))
+leaves c Move.CPing head f = stays (mark-kept c head Move.CPing f (λ e. absurd (let z : _≡_ {A = ℕ} 0 1 = cc in omega arith)))
+leaves c Move.CPong head f = stays (mark-kept c head Move.CPong f (λ e. absurd (let z : _≡_ {A = ℕ} 0 1 = cc in omega arith)))
+leaves c (Move.Forward g) head f = stays (mark-kept c head (Move.Forward g) f (λ e. absurd (let z : _≡_ {A = ℕ} 0 1 = cc in omega arith)))
+leaves c (Move.Body k) head f = stays (mark-kept c head (Move.Body k) f (λ e. absurd (let z : _≡_ {A = ℕ} 0 1 = cc in omega arith)))
+leaves c (Move.GetBody r) head f = stays (mark-kept c head (Move.GetBody r) f (λ e. absurd (let z : _≡_ {A = ℕ} 0 1 = cc in omega arith)))
+leaves c Move.SendHeaders head f = stays (mark-kept c head Move.SendHeaders f (λ e. absurd (let z : _≡_ {A = ℕ} 0 1 = cc in omega arith)))
+leaves c (Move.BodyChunk k) head f = stays (mark-kept c head (Move.BodyChunk k) f (λ e. absurd (let z : _≡_ {A = ℕ} 0 1 = cc in omega arith)))
 leaves c (Move.End true) head f = mute (λ n way. idle-mute (after c (Move.End true)) n way refl)
 leaves c (Move.End false) head f = mute (λ n way. closed-mute (after c (Move.End false)) n refl)
 
 -- packets behind one after which nothing can be sent: there are none
 none-behind : {packets : List PipePacket} {moves : List Move} (c : Connection)
     → ((n : Move) → directionOf (moveKind n) ≡ Direction.ToServer → allowed c n ≡ false) → Pipe Direction.ToServer packets moves → AllAllowed c moves
-    → NoFullChunk packets
+    → NoChunkWithBytes packets
 none-behind c quiet empty all = tt
 none-behind c quiet (next {m = n} first later) all = never (sym (quiet n (first .way)) ∙ all .0)
 
 -- what is on its way to an end that has the mark: no chunk with bytes
 bare-pipe : {packets : List PipePacket} {moves : List Move} (c : Connection) → Pipe Direction.ToServer packets moves → AllAllowed c moves
-    → isHead c ≡ true → NoFullChunk packets
+    → isHead c ≡ true → NoChunkWithBytes packets
 bare-pipe c empty all head = tt
 bare-pipe c (next {packet = packet} {m = m} {later = later} {moves = moves} first rest) all head =
     (bare-packet c packet m first (all .0) head, behind (leaves c m head (all .0)) (λ h. bare-pipe (after c m) rest (all .1) h))
   where
-    behind : Leaves c m → (isHead (after c m) ≡ true → NoFullChunk later) → NoFullChunk later
+    behind : Leaves c m → (isHead (after c m) ≡ true → NoChunkWithBytes later) → NoChunkWithBytes later
     behind (stays h) further = further h
     behind (mute quiet) further = none-behind (after c m) quiet rest (all .1)
 
@@ -225,7 +219,7 @@ Noted w = headUnderWay (w .past) ≡ true → isHead (w .ends .atServer) ≡ tru
 sent-notes : (direction : Direction) (e : Ends) (m : Move) (last : Connection) (out : List PipePacket) → directionOf (moveKind m) ≡ direction
     → allowed (senderOf direction e) m ≡ true → last ≡ after (senderOf direction e) m → isHead (e .atServer) ≡ true
     → isHead (withSent direction last out e .atServer) ≡ true
-sent-notes Direction.ToContainer e m last out way f steps head = ap isHead steps ∙ head-kept (e .atServer) head m f (server-no-end m way)
+sent-notes Direction.ToContainer e m last out way f steps head = ap isHead steps ∙ mark-kept (e .atServer) head m f (server-no-end m way)
 sent-notes Direction.ToServer e m last out way f steps head = head
 
 -- so does one that is refused
@@ -251,7 +245,7 @@ send-notes call w noted = go (outcomeOf given call) refl
 
 -- why a HEAD is under way after an accepted packet: it is a HEAD's Forward, or it is no End and one was under way before
 told : {G : Type 0} (p : Packet) (before : Bool) → headPacket p before ≡ true
-    → ((f : Forward) → p ≡ Packet.Forward f → eqb (f .method) headMethod ≡ true → G) → ((packetKind p ≡ Kind.End → ⊥) → before ≡ true → G) → G
+    → ((f : Forward) → p ≡ Packet.Forward f → isHeadMethod (f .method) ≡ true → G) → ((packetKind p ≡ Kind.End → ⊥) → before ≡ true → G) → G
 told Packet.CPing before h begins goes = goes (λ e. absurd (let z : _≡_ {A = ℕ} 0 1 = cc in omega arith)) h
 told Packet.CPong before h begins goes = goes (λ e. absurd (let z : _≡_ {A = ℕ} 0 1 = cc in omega arith)) h
 told (Packet.Forward f) before h begins goes = begins f refl h
@@ -261,8 +255,8 @@ told (Packet.SendHeaders r) before h begins goes = goes (λ e. absurd (let z : _
 told (Packet.BodyChunk p) before h begins goes = goes (λ e. absurd (let z : _≡_ {A = ℕ} 0 1 = cc in omega arith)) h
 told (Packet.End reuse) before h begins goes = never h
 
--- a packet that is read from a pipe: at the container's end a HEAD's Forward marks it, and with it the server's end is marked; at the server's
--- end the mark stays unless it is an End
+-- a packet that is read from a pipe: at the container's end a HEAD's Forward marks it, and with it the server's end is marked; at the
+-- server's end the mark stays unless it is an End
 read-notes : (direction : Direction) (e : Ends) (packet : PipePacket) (later : List PipePacket) (before : Bool)
     → (first : First direction (senderOf direction e) (receiverOf direction e) packet later (pipeOf (opposite direction) e))
     → (before ≡ true → isHead (e .atServer) ≡ true) → headPacket (first .readable .tells) before ≡ true
@@ -276,7 +270,7 @@ read-notes Direction.ToServer e packet later before first noted h =
     let readable = first .readable in
     told (readable .tells) before h
     (λ f is q. wrong-way (sym (readable .way) ∙ ap (λ (x : Move). directionOf (moveKind x)) (sym (readable .makes) ∙ ap packetMove is)))
-    (λ no b. head-kept (e .atServer) (noted b) (first .move) (first .allows)
+    (λ no b. mark-kept (e .atServer) (noted b) (first .move) (first .allows)
     (λ k. no (sym (move-kind (readable .tells)) ∙ ap moveKind (readable .makes) ∙ k)))
 
 deliver-notes : (direction : Direction) (d : Delivery) (w : World) → Kept w → Noted w → Noted (happen (deliver direction d) w)
@@ -315,7 +309,7 @@ pub head-no-body : (events : List Event) → HeadBare (run events start)
 head-no-body events =
     let w : World = run events start in
     let kept : Kept w = run-keeps events start kept-start in
-    let bare : isHead (w .ends .atServer) ≡ true → NoFullChunk (w .ends .toServer) =
+    let bare : isHead (w .ends .atServer) ≡ true → NoChunkWithBytes (w .ends .toServer) =
     bare-pipe (w .ends .atServer) (kept .meeting .on-way-back) (kept .meeting .sender-allows) in
     record {
       under-way = λ h. bare (run-notes events start kept-start (λ e. never e) h);

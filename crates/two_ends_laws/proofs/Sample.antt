@@ -1,5 +1,5 @@
--- Whole requests, computed by the definitions: that ends do send, and that what they send arrives; one with a body, and a HEAD. (The theorems
--- alone would hold of ends that never send.)
+-- Whole requests, computed by the definitions: that ends do send, and that what they send arrives; one with a body, and a HEAD. (The
+-- theorems alone would hold of ends that never send.)
 -- Assumes nothing.
 use mathlib.Core.Path.{_≡_, refl}
 use mathlib.Core.Bool.{true, false}
@@ -121,8 +121,8 @@ headEnding =
     ∷ deliver Direction.ToServer withNext
     ∷ []
 
--- what it comes to: a HEAD is under way, with Send Headers and the empty chunk in the pipe; and after its End none is, and the ends are as at
--- the start
+-- what it comes to: a HEAD is under way, with Send Headers and the empty chunk in the pipe; and after its End none is, and the ends are as
+-- at the start
 pub head-sample-run : (headUnderWay (run headSample start .past) ≡ true)
     × (allBytes (run headSample start .ends .toServer)
     ≡ 0x41 ∷ 0x42 ∷ 0x00 ∷ 0x07 ∷ 0x04 ∷ 0x00 ∷ 0xC8 ∷ 0xFF ∷ 0xFF ∷ 0x00 ∷ 0x00

@@ -1,5 +1,5 @@
--- HEAD has no body, along a run of two ends: when a HEAD is under way, by what was delivered, and which packets hold bytes of a response. Both
--- are said of packets and of their bytes, and not of what a connection has noted.
+-- HEAD has no body, along a run of two ends: when a HEAD is under way, by what was delivered, and which packets hold bytes of a response.
+-- Both are said of packets and of their bytes, and not of what a connection has noted.
 -- Document 02, A4.
 -- Assumes nothing.
 use mathlib.Core.Path.{_≡_}
@@ -12,7 +12,7 @@ use Rattle.wire.specs.Pick.{both}
 use Rattle.wire.specs.Bytes.{integerIn}
 use Rattle.wire.specs.Packet.{codePlace, afterCodePlace}
 use Rattle.packet.specs.declared.Packet.{Packet}
-use Rattle.names.specs.Method.{headMethod}
+use Rattle.names.specs.Method.{isHeadMethod}
 use Rattle.connection.specs.Connection.{isHead}
 use Rattle.connection.specs.declared.Kind.{Kind}
 use Rattle.payload.specs.Code.{codeOf}
@@ -24,7 +24,7 @@ use Rattle.two_ends_laws.specs.Past.{Entry, sent, refusedSend, delivered
 abbrev pub headPacket : Packet → Bool → Bool
 headPacket Packet.CPing before = before
 headPacket Packet.CPong before = before
-headPacket (Packet.Forward f) before = eqb (f .method) headMethod
+headPacket (Packet.Forward f) before = isHeadMethod (f .method)
 headPacket (Packet.Body p) before = before
 headPacket (Packet.GetBody asked) before = before
 headPacket (Packet.SendHeaders h) before = before
@@ -45,18 +45,18 @@ headUnderWay (refusedSend bytes e f ∷ before) = headUnderWay before
 headUnderWay (delivered packet lent answer ∷ before) = headAnswer answer (headUnderWay before)
 
 -- a packet to the server is a chunk with bytes: it has the code of a Send Body Chunk, and a length that is not 0
-abbrev pub isFullChunk : List ℕ → Bool
-isFullChunk s = both (eqb (getD s codePlace 0) (codeOf Kind.BodyChunk)) (not (eqb (integerIn s afterCodePlace) 0))
+abbrev pub isChunkWithBytes : List ℕ → Bool
+isChunkWithBytes s = both (eqb (getD s codePlace 0) (codeOf Kind.BodyChunk)) (not (eqb (integerIn s afterCodePlace) 0))
 
 -- no packet of a pipe is one
-abbrev pub NoFullChunk : List PipePacket → Type 0
-NoFullChunk [] = Unit
-NoFullChunk (packet ∷ later) = (isFullChunk (packet .bytes) ≡ false) × NoFullChunk later
+abbrev pub NoChunkWithBytes : List PipePacket → Type 0
+NoChunkWithBytes [] = Unit
+NoChunkWithBytes (packet ∷ later) = (isChunkWithBytes (packet .bytes) ≡ false) × NoChunkWithBytes later
 
 -- no chunk with bytes is in the pipe to the server
 pub record HeadBare (w : World) : Type 0 where
   -- while a HEAD is under way
-  pub under-way : headUnderWay (w .past) ≡ true → NoFullChunk (w .ends .toServer)
+  pub under-way : headUnderWay (w .past) ≡ true → NoChunkWithBytes (w .ends .toServer)
   -- and where either end has noted a HEAD; the server's does so when it sends the Forward
-  pub at-server : isHead (w .ends .atServer) ≡ true → NoFullChunk (w .ends .toServer)
-  pub at-container : isHead (w .ends .atContainer) ≡ true → NoFullChunk (w .ends .toServer)
+  pub at-server : isHead (w .ends .atServer) ≡ true → NoChunkWithBytes (w .ends .toServer)
+  pub at-container : isHead (w .ends .atContainer) ≡ true → NoChunkWithBytes (w .ends .toServer)

@@ -29,7 +29,7 @@ packetOf m payload = packet (directionOf (moveKind m)) payload
 abbrev pub stateFault : Connection → Move → ℕ
 stateFault c m = unless (inState c (moveKind m)) notNow
 
--- a body packet of a size that is not allowed is 14
+-- a body packet or a chunk of a size that is not allowed is 14
 abbrev pub sizeFault : Connection → Move → ℕ
 sizeFault c m = unless (inSize c m) bodySizeWrong
 

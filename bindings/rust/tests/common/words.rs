@@ -10,9 +10,7 @@ use ajp13::raw::{
     KIND_SEND_HEADERS, MAX_BODY, MAX_PACKET, SIZE_ANSWER, SIZE_BUILDING, SIZE_CONNECTION,
     STATE_BUSY, STATE_CLOSED, STATE_IDLE, STATE_PINGED,
 };
-
-/// The code of the method HEAD.
-pub const HEAD: u8 = 3;
+use ajp13::Method;
 
 /// The words of a connection.
 pub type Connection = [u32; SIZE_CONNECTION];
@@ -82,7 +80,7 @@ pub fn connection_mostly_for(rng: &mut Rng, kind: Kind) -> Connection {
 /// A method, often HEAD.
 pub fn method(rng: &mut Rng) -> u8 {
     match rng.one_in(4) {
-        true => HEAD,
+        true => Method::HEAD.code() as u8,
         false => rng.between(1, 27) as u8,
     }
 }

@@ -1,7 +1,7 @@
 -- Where the kind is not allowed now it is 13, and else what the size says.
 -- Assumes nothing.
 use mathlib.Core.Path.{refl, sym, ap, _∙_}
-use mathlib.Core.Bool.{true, false}
+use mathlib.Core.Bool.{false}
 use borrow.Author.Needs.{needs}
 use borrow.Author.Tests.{not-true, not-false}
 use Rattle.connection.specs.Cycle.{inState}

@@ -1,7 +1,7 @@
 -- Where a chunk is not allowed now it is 13, and else what its size says.
 -- Assumes nothing.
 use mathlib.Core.Path.{refl, sym, _∙_}
-use mathlib.Core.Bool.{true, false}
+use mathlib.Core.Bool.{false}
 use borrow.Author.Needs.{needs}
 use borrow.Author.Tests.{not-true, not-false}
 use Rattle.connection.specs.declared.Move.{Move}

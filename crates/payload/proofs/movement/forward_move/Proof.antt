@@ -1,9 +1,6 @@
 -- What the Forward declares, and what `is_head` answers of its method.
 -- Assumes nothing.
-use mathlib.Core.Path.{ap}
-use mathlib.Core.Bool.{Bool}
 use borrow.Author.Needs.{needs}
-use Rattle.connection.specs.declared.ForwardMove.{ForwardMove}
 use Rattle.payload.proofs.movement.forward_move.Statement.{statement}
 use Rattle.payload.proofs.movement.forward_move.Tie as tie
 
