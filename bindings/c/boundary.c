@@ -367,7 +367,7 @@ static void response_to_head(void)
     static const uint8_t unclosed[] = {0x41, 0x42, 0, 5, 3, 0, 1, 'a', 1}, end[] = {0x41, 0x42, 0, 2, 5, 1};
     static const uint8_t left_over[] = {0x41, 0x42, 0, 6, 3, 0, 1, 'a', 0, 0};
     static const uint8_t cut_short[] = {0x41, 0x42, 0, 5, 3, 0, 2, 'a', 0};
-    static const uint8_t chunk[AJP13_MAX_CHUNK + 1];
+    static const uint8_t chunk[AJP13_MAX_CHUNK + 1] = {0};
     const size_t places = AJP13_MAX_PLACES, method_place = 5;
 
     /* The mark is that of the method byte in the packet that is closed, and in the one that is read. */

@@ -27,13 +27,12 @@ use Rattle.capture.specs.Course.{Course, courseThen, course, seenBytes, total, 
 use Rattle.capture.proofs.Course.{course-by, course-none, first-at, covered, total-bytes}
 use Rattle.checking.specs.Checking.{maxCapture, checked}
 use Rattle.checking.proofs.Laws.{verdict-by, verdict-place-by}
-use Rattle.two_ends_laws.specs.Ends.{PipePacket, Ends, pipeOf, senderOf, receiverOf, withSent, withRead, sentFrom, Delivery, allBytes, answerOf, afterAnswer}
+use Rattle.two_ends_laws.specs.Ends.{PipePacket, Ends, pipeOf, senderOf, receiverOf, withSent, withRead, sentFrom, Delivery, afterAnswer}
 use Rattle.two_ends_laws.specs.Past.{World, start, Event, send, deliver, happen, run, deliverFrom}
 use Rattle.two_ends_laws.specs.Readable.{Readable}
 use Rattle.two_ends_laws.specs.Made.{packetBy}
-use Rattle.two_ends_laws.proofs.Moves.{opposite}
 use Rattle.two_ends_laws.proofs.Sends.{send-made}
-use Rattle.two_ends_laws.proofs.Meeting.{Meeting, First, meeting-first, meeting-of}
+use Rattle.two_ends_laws.proofs.Meeting.{first-of, first-answer}
 use Rattle.two_ends_laws.proofs.Invariant.{Kept, kept-start, send-keeps, deliver-keeps}
 use Rattle.crossing_laws.specs.Crossing.{atSending, atDelivery, crossedSend, crossedFrom, crossing, Passes}
 
@@ -111,18 +110,9 @@ deliver-passes direction d w kept rest last p = go (pipeOf direction (w .ends)) 
         → Passes (w .ends .atServer) (crossedFrom direction pipe ++ rest) last
     go [] e p = p
     go (packet ∷ later) e p =
-        let c : Connection = receiverOf direction (w .ends) in
-        let first : First direction (senderOf direction (w .ends)) c packet later (pipeOf (opposite direction) (w .ends)) =
-        meeting-first
-        (subst (λ (out : List PipePacket). Meeting direction (senderOf direction (w .ends)) c out (pipeOf (opposite direction) (w .ends))) e
-        (meeting-of direction (w .ends) (kept .meeting))) in
-        let m : Move = first .move in
-        let readable : Readable direction packet m = first .readable in
-        let behind : List ℕ = allBytes (take (d .behind) later) in
-        let answer : answerOf direction c d packet later ≡ accepted (readable .tells) (length (packet .bytes)) (after c m) =
-        ap (reading direction c (packet .bytes ++ behind)) (d .places) ∙ readable .reads c behind (first .allows) in
-        delivery-passes direction (w .ends) later packet m readable (first .allows) rest last
-        (subst (λ (a : Meaning). Passes (afterAnswer direction later (w .ends) a .atServer) rest last) answer p)
+        let first = first-of direction (w .ends) packet later (kept .meeting) e in
+        delivery-passes direction (w .ends) later packet (first .move) (first .readable) (first .allows) rest last
+        (subst (λ (a : Meaning). Passes (afterAnswer direction later (w .ends) a .atServer) rest last) (first-answer first d) p)
 
 -- so it is with a list of events
 passes-from : (events : List Event) (w : World) → Kept w → Passes (w .ends .atServer) (crossing events w) (run events w .ends .atServer)

@@ -9,7 +9,7 @@ use mathlib.Core.Bool.{Bool, true, false, not}
 use mathlib.Core.List.{List, [], _∷_, _++_, append-nil}
 use Prim.Native.Nat.{ℕ, _+_}
 use lib.Dec.{eqb, leb}
-use lib.ListN.{length, getD, take}
+use lib.ListN.{length, getD}
 use lib.Seq.{take-length}
 use Rattle.wire.specs.Pick.{pick, both}
 use Rattle.wire.specs.Bytes.{part, integerIn}
@@ -44,13 +44,13 @@ use Rattle.reader.specs.Reading.{parse, contextOf, reading, placesOf}
 use Rattle.reading_laws.proofs.Handed.{accepted-handed}
 use Rattle.reading_laws.proofs.Acceptance.{accepted-is}
 use Rattle.sends.specs.Send.{Send, callDirection, outcomeOf, bufferOf}
-use Rattle.two_ends_laws.specs.Ends.{PipePacket, Ends, pipeOf, senderOf, receiverOf, withSent, withRead, sentFrom, allBytes, Delivery, answerOf, afterAnswer, lent}
+use Rattle.two_ends_laws.specs.Ends.{PipePacket, Ends, pipeOf, senderOf, receiverOf, withSent, withRead, sentFrom, Delivery, afterAnswer, lent}
 use Rattle.two_ends_laws.specs.Past.{World, start, Event, send, deliver, entryOf, deliverFrom, happen, run, delivered}
 use Rattle.two_ends_laws.specs.Readable.{Readable}
 use Rattle.two_ends_laws.specs.Made.{packetBy}
 use Rattle.two_ends_laws.specs.Head.{headPacket, headUnderWay, isChunkWithBytes, NoChunkWithBytes, HeadBare}
 use Rattle.two_ends_laws.proofs.Moves.{opposite, AllAllowed, afterAll, AllGo}
-use Rattle.two_ends_laws.proofs.Meeting.{Pipe, empty, next, pipe-goes, Meeting, First, meeting-first, meeting-of}
+use Rattle.two_ends_laws.proofs.Meeting.{Pipe, empty, next, pipe-goes, Meeting, First, first-of, first-answer}
 use Rattle.two_ends_laws.proofs.Sends.{send-made}
 use Rattle.two_ends_laws.proofs.Invariant.{Kept, kept-start}
 use Rattle.two_ends_laws.proofs.Theorem.{happen-keeps, run-keeps}
@@ -279,19 +279,11 @@ deliver-notes direction d w kept noted = go (pipeOf direction (w .ends)) refl
     go : (pipe : List PipePacket) → pipeOf direction (w .ends) ≡ pipe → Noted (deliverFrom direction d w pipe)
     go [] e = noted
     go (packet ∷ later) e =
-        let c : Connection = receiverOf direction (w .ends) in
-        let first : First direction (senderOf direction (w .ends)) c packet later (pipeOf (opposite direction) (w .ends)) =
-        meeting-first
-        (subst (λ (out : List PipePacket). Meeting direction (senderOf direction (w .ends)) c out (pipeOf (opposite direction) (w .ends))) e
-        (meeting-of direction (w .ends) (kept .meeting))) in
-        let readable : Readable direction packet (first .move) = first .readable in
-        let rest : List ℕ = allBytes (take (d .behind) later) in
-        let answer : answerOf direction c d packet later ≡ read.accepted (readable .tells) (length (packet .bytes)) (after c (first .move)) =
-        ap (reading direction c (packet .bytes ++ rest)) (d .places) ∙ readable .reads c rest (first .allows) in
+        let first = first-of direction (w .ends) packet later (kept .meeting) e in
         subst (λ (a : read.Meaning). Noted (record {
           ends = afterAnswer direction later (w .ends) a;
           past = delivered (packet .bytes) (lent d packet later) a ∷ w .past;
-        })) (sym answer)
+        })) (sym (first-answer first d))
         (read-notes direction (w .ends) packet later (headUnderWay (w .past)) first noted)
 
 -- each event keeps it

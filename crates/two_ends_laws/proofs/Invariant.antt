@@ -5,7 +5,7 @@ use mathlib.Core.Path.{_≡_, refl, sym, ap, subst, _∙_}
 use mathlib.Core.Bool.{true}
 use mathlib.Core.List.{List, [], _∷_, _++_, append-assoc, append-nil}
 use Prim.Native.Nat.{ℕ}
-use lib.ListN.{length, take}
+use lib.ListN.{take}
 use Rattle.wire.specs.Bytes.{part}
 use Rattle.packet.specs.declared.Direction.{Direction}
 use Rattle.connection.specs.Cycle.{allowed, after}
@@ -14,16 +14,14 @@ use Rattle.connection.specs.declared.Move.{Move}
 use Rattle.building.specs.Call.{Outcome, refused, done}
 use Rattle.building.specs.Sent.{Written}
 use Rattle.reader.specs.Meaning as read
-use Rattle.reader.specs.Reading.{reading}
 use Rattle.sends.specs.Send.{Send, callDirection, outcomeOf, bufferOf, bodyGiven}
-use Rattle.two_ends_laws.specs.Ends.{PipePacket, Ends, pipeOf, senderOf, receiverOf, withSent, withRead, sentFrom, afterSend, allBytes, Delivery, lent, answerOf, afterAnswer}
+use Rattle.two_ends_laws.specs.Ends.{PipePacket, Ends, pipeOf, senderOf, receiverOf, withSent, withRead, sentFrom, afterSend, allBytes, Delivery, lent, afterAnswer}
 use Rattle.two_ends_laws.specs.Past.{sent, refusedSend, delivered, World, start, send, deliver, entryOf, deliverFrom, happen, sentBytes, receivedBytes, heldIn, bodyBytesIn, RequestBody, requests}
 use Rattle.two_ends_laws.specs.Claims.{AllTaken, NoneChanged}
-use Rattle.two_ends_laws.proofs.Moves.{opposite}
 use Rattle.two_ends_laws.specs.Readable.{counting, Readable}
 use Rattle.two_ends_laws.specs.Made.{packetBy, Made}
 use Rattle.two_ends_laws.proofs.Sends.{send-made}
-use Rattle.two_ends_laws.proofs.Meeting.{empty, Meeting, meeting-sent, First, meeting-first, EndsMeet, meeting-of, after-sent, after-read}
+use Rattle.two_ends_laws.proofs.Meeting.{empty, meeting-sent, EndsMeet, meeting-of, after-sent, after-read, first-of, first-answer}
 use Rattle.two_ends_laws.proofs.Counting.{Counted, count-move, reply-holds, reply-counts}
 
 -- the body bytes in a pipe with one packet more
@@ -167,19 +165,14 @@ module _ (direction : Direction) (d : Delivery) (w : World) (kept : Kept w) wher
       → Kept (deliverFrom direction d w (packet ∷ later))
   read-keeps packet later e =
       let c : Connection = receiverOf direction (w .ends) in
-      let first : First direction (senderOf direction (w .ends)) c packet later (pipeOf (opposite direction) (w .ends)) =
-      meeting-first
-      (subst (λ (out : List PipePacket). Meeting direction (senderOf direction (w .ends)) c out (pipeOf (opposite direction) (w .ends))) e
-      (meeting-of direction (w .ends) (kept .meeting))) in
+      let first = first-of direction (w .ends) packet later (kept .meeting) e in
       let m : Move = first .move in
       let readable : Readable direction packet m = first .readable in
       let rest : List ℕ = allBytes (take (d .behind) later) in
-      let answer : answerOf direction c d packet later ≡ read.accepted (readable .tells) (length (packet .bytes)) (after c m) =
-      ap (reading direction c (packet .bytes ++ rest)) (d .places) ∙ readable .reads c rest (first .allows) in
       subst (λ (a : read.Meaning). Kept (record {
         ends = afterAnswer direction later (w .ends) a;
         past = delivered (packet .bytes) (lent d packet later) a ∷ w .past;
-      })) (sym answer)
+      })) (sym (first-answer first d))
       (record {
         meeting = after-read direction (w .ends) (after c m) later (first .rest);
         taken = (refl, kept .taken);

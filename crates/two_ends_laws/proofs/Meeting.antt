@@ -4,11 +4,15 @@
 use mathlib.Core.Path.{_≡_, sym, ap, subst, _∙_}
 use mathlib.Core.Bool.{true}
 use mathlib.Core.List.{List, [], _∷_, _++_}
+use Prim.Native.Nat.{ℕ}
+use lib.ListN.{length, take}
 use Rattle.packet.specs.declared.Direction.{Direction}
 use Rattle.connection.specs.Cycle.{allowed, after}
 use Rattle.connection.specs.declared.Connection.{Connection}
 use Rattle.connection.specs.declared.Move.{Move}
-use Rattle.two_ends_laws.specs.Ends.{PipePacket, Ends, pipeOf, senderOf, receiverOf, withSent, withRead}
+use Rattle.reader.specs.Meaning.{accepted}
+use Rattle.reader.specs.Reading.{reading}
+use Rattle.two_ends_laws.specs.Ends.{PipePacket, Ends, pipeOf, senderOf, receiverOf, withSent, withRead, allBytes, Delivery, answerOf}
 use Rattle.two_ends_laws.proofs.Moves.{opposite, opposite-twice, AllAllowed, afterAll, AllGo, allowed-last, after-last, Passing, passing}
 use Rattle.two_ends_laws.specs.Readable.{Readable}
 
@@ -121,3 +125,19 @@ pub after-read : (direction : Direction) (e : Ends) (c : Connection) (out : List
     → Meeting direction (senderOf direction e) c out (pipeOf (opposite direction) e) → EndsMeet (withRead direction c out e)
 after-read Direction.ToContainer e c out ends = ends
 after-read Direction.ToServer e c out ends = turned ends
+
+-- the first packet of a pipe of two ends that meet
+pub first-of : (direction : Direction) (e : Ends) (packet : PipePacket) (later : List PipePacket) → EndsMeet e → pipeOf direction e ≡ packet ∷ later
+    → First direction (senderOf direction e) (receiverOf direction e) packet later (pipeOf (opposite direction) e)
+first-of direction e packet later ends p =
+    meeting-first
+    (subst (λ (out : List PipePacket). Meeting direction (senderOf direction e) (receiverOf direction e) out (pipeOf (opposite direction) e)) p
+    (meeting-of direction e ends))
+
+-- and what a delivery of it is answered with
+pub first-answer : {direction : Direction} {sender receiver : Connection} {packet : PipePacket} {later back : List PipePacket}
+    (first : First direction sender receiver packet later back) (d : Delivery)
+    → answerOf direction receiver d packet later ≡ accepted (first .readable .tells) (length (packet .bytes)) (after receiver (first .move))
+first-answer {direction} {receiver = receiver} {packet = packet} {later = later} first d =
+    let rest : List ℕ = allBytes (take (d .behind) later) in
+    ap (reading direction receiver (packet .bytes ++ rest)) (d .places) ∙ first .readable .reads receiver rest (first .allows)
