@@ -1,5 +1,7 @@
 // The attributes of a Forward: each one's code and value, one after the other, and their places. An inner crate: the layers above call
 // it, a user of the library does not. A packet is a slice of its own bytes and no others.
+#![tactic(auto)]
+
 ghost use Rattle.std.specs.Prelude.{◌≡◌, [], ◌+◌, ◌≤◌, length};
 ghost use Rattle.wire.specs.Bytes.{over};
 ghost use Rattle.wire.specs.Bits.{bit};
@@ -19,14 +21,14 @@ pub mod seen;
 pub const LAST_MARK: u8 = 0xFF;
 
 // An attribute's value: refused, or its place and the place after it.
-#[derive(Drop)]
+#[derive(Clone, Copy)]
 pub enum ValueRead {
     Refused(u8),
     Value { at: usize, next: usize },
 }
 
 // An attribute: refused, the byte behind the last one, or its code, its value's place and the place after it.
-#[derive(Drop)]
+#[derive(Clone, Copy)]
 pub enum AttributeRead {
     Refused(u8),
     Last { next: usize },
@@ -34,7 +36,7 @@ pub enum AttributeRead {
 }
 
 // The attributes: refused, or how many they are and the place after the byte behind the last one.
-#[derive(Drop)]
+#[derive(Clone, Copy)]
 pub enum AttributesRead {
     Refused(u8),
     Attributes { count: usize, next: usize },

@@ -1,5 +1,7 @@
 // What is known of a Forward or a Send Headers that is being built in pieces: the building record, and whether one is possible.
 // No call has a condition: any record gets an answer over any buffer.
+#![tactic(auto)]
+
 ghost use Rattle.std.specs.Prelude.{◌≡◌};
 ghost use Rattle.building_record.specs.Record.{built_kind, is_forward, direction_in, building_fields, is_possible, header_now, attribute_now, count_fault};
 
@@ -15,7 +17,7 @@ use wire::{CODE_PLACE, PAYLOAD_PLACE, refusal};
 pub const COUNT_SIZE: usize = INTEGER;
 
 // The packets that are built in pieces.
-#[derive(Drop)]
+#[derive(Clone, Copy)]
 pub enum BuildingKind {
     Forward,
     SendHeaders,
@@ -24,7 +26,7 @@ pub enum BuildingKind {
 // What is known of a packet that is being built: its kind, how far it reaches, where its count of headers stands, how many headers it
 // has, and whether an attribute was added. The calls for the fixed fields make such a record, and each piece makes the next.
 // Every record has an answer from every call, so its fields are open to the crates that build with it.
-#[derive(Drop)]
+#[derive(Clone, Copy)]
 pub struct Building {
     pub kind: BuildingKind,
     pub next: Place,

@@ -1,5 +1,7 @@
 // Captures: packets of both directions back to back, as they are seen at the server's end. An inner crate: what all tools over captures
 // share. The course of a capture is defined in `specs/`, and its laws are in `proofs/`; the calls are the first packet's.
+#![tactic(auto)]
+
 ghost use Rattle.std.specs.Prelude.{◌≡◌};
 ghost use Rattle.capture.specs.Course.{direction_in, first_in};
 ghost use Rattle.reader.specs.Meaning.{received_meaning};

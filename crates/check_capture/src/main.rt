@@ -1,5 +1,7 @@
 // Checks a capture of an AJP13 connection: a file by its name, or standard input. It writes the checker's six lines to standard output. What
 // keeps it from reading the whole of a capture is told on standard error, and then nothing is written to standard output.
+#![tactic(auto)]
+
 mod run;
 mod show;
 mod word;

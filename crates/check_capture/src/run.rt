@@ -18,7 +18,7 @@ fn window() -> [u8; WINDOW]
 }
 
 // How far a run has come.
-#[derive(Drop)]
+#[derive(Clone, Copy)]
 enum Stage {
     Reading,
     Ended,
@@ -26,7 +26,7 @@ enum Stage {
 }
 
 // A run on the way: the check, how many bytes are kept at the window's front, and how far it has come.
-#[derive(Drop)]
+#[derive(Clone, Copy)]
 struct Run {
     checking: Checking,
     kept: usize,

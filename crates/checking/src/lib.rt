@@ -1,5 +1,7 @@
 // The checker over a capture: does it keep the rules? Over a whole lent slice, or in parts: begin, go on with more bytes, finish with the
 // capture's size. No call has a condition: any record gets an answer.
+#![tactic(auto)]
+
 ghost use Rattle.std.specs.Prelude.{◌≡◌, ◌+◌, ◌-◌, ◌≤◌, length};
 ghost use Rattle.wire.specs.Refusal.{none};
 ghost use Rattle.capture.specs.Course.{course};
@@ -18,7 +20,7 @@ pub const MAX_CAPTURE: u32 = 4294967295;
 
 // A check on the way: the connection and the figures of the packets that were accepted, the place behind them, and the refusal of the
 // packet that stands there, 0 for none.
-#[derive(Drop)]
+#[derive(Clone, Copy)]
 pub struct Checking {
     pub connection: Connection,
     pub packets: u32,
@@ -30,7 +32,7 @@ pub struct Checking {
 
 // The checker's answer: packets, requests and body bytes of accepted packets, the state after them, the refusal, 0 where the capture
 // passes, and the place where the refused packet starts, or the end.
-#[derive(Drop)]
+#[derive(Clone, Copy)]
 pub struct Checked {
     pub packets: u32,
     pub requests: u32,

@@ -1,4 +1,6 @@
 // A check on the way and the checker's answer as words, for the C boundary. An error is found here.
+#![tactic(auto)]
+
 ghost use Rattle.std.specs.Prelude.{◌≡◌, length, take};
 ghost use Rattle.wire.specs.Refusal.{is_fault};
 ghost use Rattle.words.specs.ConnectionWords.{connection_size};

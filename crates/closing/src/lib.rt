@@ -2,6 +2,8 @@
 // length and, in a Forward, FF are set, and the packet that then stands there is judged by the reader of the end to which it goes. Where it
 // passes, its length and the connection after it are answered. A refusal leaves the buffer as it was, and the connection and the record
 // given still count. `close` answers for any connection, any record and any buffer.
+#![tactic(auto)]
+
 ghost use Rattle.std.specs.Prelude.{◌≡◌, length, get_or};
 ghost use Rattle.wire.specs.Bytes.{over};
 ghost use Rattle.reader.specs.Meaning as read;
@@ -22,7 +24,7 @@ use wire::{LENGTH_PLACE, PAYLOAD_PLACE, part_of, refusal, write};
 
 // What stood where closing writes: two bytes at the count and two at the length, each pair as the integer that it is, and the byte behind
 // the last piece.
-#[derive(Drop)]
+#[derive(Clone, Copy)]
 struct Old {
     count: u16,
     payload: u16,

@@ -1,5 +1,7 @@
 // One end's connection, and the cycle that every packet steps it through. It does not know which end holds it.
 // This crate alone makes a connection record or takes one apart. No call has a condition: any record gets an answer.
+#![tactic(auto)]
+
 ghost use Rattle.std.specs.Prelude.{◌≡◌, ◌-◌, leb};
 ghost use Rattle.connection.specs.Connection.{max_packet, max_payload, fresh, rest, with_left, with_due, with_headers, with_head, busy, is_idle, is_pinged, is_busy, body_due, is_head};
 ghost use Rattle.connection.specs.Cycle.{move_kind, direction_of, in_state, largest_body, size_allowed, chunk_allowed, forwarded, sized_step, step_of};
@@ -10,7 +12,7 @@ use packet::{BodyLeft, Direction};
 use wire::refusal;
 
 // Where a connection stands.
-#[derive(Drop)]
+#[derive(Clone, Copy)]
 pub enum State {
     Idle,
     Pinged,
@@ -20,7 +22,7 @@ pub enum State {
 
 // A connection. All but the state counts only in Busy, and asked only where a body packet is due.
 // The short fields come first: the compiler then loads each by itself, and not the state together with what lies behind it.
-#[derive(Drop)]
+#[derive(Clone, Copy)]
 pub struct Connection {
     state: State,
     due: bool,
@@ -31,7 +33,7 @@ pub struct Connection {
 }
 
 // The kinds of packet.
-#[derive(Drop)]
+#[derive(Clone, Copy)]
 pub enum Kind {
     CPing,
     CPong,
@@ -44,14 +46,14 @@ pub enum Kind {
 }
 
 // A Forward, as far as the cycle goes: the length of body that it declares, and whether its method is HEAD.
-#[derive(Drop)]
+#[derive(Clone, Copy)]
 pub struct ForwardMove {
     pub declared: BodyLeft,
     pub head: bool,
 }
 
 // A packet, as far as the cycle goes: how many bytes, how many asked for, whether the connection is kept.
-#[derive(Drop)]
+#[derive(Clone, Copy)]
 pub enum Move {
     CPing,
     CPong,
@@ -64,14 +66,14 @@ pub enum Move {
 }
 
 // What a move makes of a connection.
-#[derive(Drop)]
+#[derive(Clone, Copy)]
 pub enum Step {
     Refused(u8),
     Next(Connection),
 }
 
 // What a call that sends answers: the refusal's number, or the packet's length and the connection after it.
-#[derive(Drop)]
+#[derive(Clone, Copy)]
 pub enum Sent {
     Refused(u8),
     Written { size: usize, connection: Connection },

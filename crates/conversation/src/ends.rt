@@ -4,7 +4,7 @@ use conversation_text::record;
 use packet::Direction;
 use vectors_text::text;
 
-#[derive(Drop)]
+#[derive(Clone, Copy)]
 pub struct Ends {
     pub server: Connection,
     pub container: Connection,

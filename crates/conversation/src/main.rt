@@ -1,5 +1,7 @@
 // A conversation between the two ends of the library. Each end keeps its own connection, and this program carries every packet from the end
 // that sent it to the other, which reads it. It prints each send with its bytes, what the other end read of them, and both connections.
+#![tactic(auto)]
+
 mod delivery;
 mod ends;
 mod piece;

@@ -12,21 +12,21 @@ pub fn is_content_length(code: u16) -> bool
 }
 
 // A decimal number.
-#[derive(Drop)]
+#[derive(Clone, Copy)]
 pub enum Decimal {
     Bad,
     Value(u32),
 }
 
 // What a request declared so far.
-#[derive(Drop)]
+#[derive(Clone, Copy)]
 pub enum Declared {
     Absent,
     Known(u32),
 }
 
 // What a content-length's value makes of it.
-#[derive(Drop)]
+#[derive(Clone, Copy)]
 pub enum LengthRead {
     Refused(u8),
     Now(Declared),

@@ -1,5 +1,7 @@
 // The headers of a packet: each one's name and value, one after the other, and their places. An inner crate: the layers above call it,
 // a user of the library does not. A packet is a slice of its own bytes and no others.
+#![tactic(auto)]
+
 ghost use Rattle.std.specs.Prelude.{◌≡◌, ◌+◌, ◌≤◌, length};
 ghost use Rattle.wire.specs.Pick.{pick};
 ghost use Rattle.wire.specs.Refusal.{string_wrong};
@@ -22,7 +24,7 @@ pub mod length;
 use crate::length::{Declared, LengthRead};
 
 // A header's name: refused, its code, or where its bytes start and how many they are. next is the place after it.
-#[derive(Drop)]
+#[derive(Clone, Copy)]
 pub enum NameRead {
     Refused(u8),
     Code {
@@ -37,7 +39,7 @@ pub enum NameRead {
 }
 
 // A header: refused, or its value's place, what is declared after it, and the place after it.
-#[derive(Drop)]
+#[derive(Clone, Copy)]
 pub enum HeaderRead {
     Refused(u8),
     Header {
@@ -48,7 +50,7 @@ pub enum HeaderRead {
 }
 
 // The headers: refused, or what they declare and the place after the last one.
-#[derive(Drop)]
+#[derive(Clone, Copy)]
 pub enum HeadersRead {
     Refused(u8),
     Headers { declared: Declared, next: usize },

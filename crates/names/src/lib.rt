@@ -1,6 +1,7 @@
 // Names and codes: tokens, and the listed names of methods, headers and attributes.
 // An inner crate: the layers above call it, a user of the library does not. Every call answers for any bytes and any code; one that is
 // lent the flags of the token bytes asks that they follow the rule.
+#![tactic(auto)]
 
 pub mod attribute;
 pub mod header;
@@ -9,7 +10,7 @@ pub mod table;
 pub mod token;
 
 // The lists of names that have codes.
-#[derive(Drop)]
+#[derive(Clone, Copy)]
 pub enum NameList {
     Methods,
     RequestHeaders,
@@ -18,7 +19,7 @@ pub enum NameList {
 }
 
 // The code for a name.
-#[derive(Drop)]
+#[derive(Clone, Copy)]
 pub enum CodeFound {
     Code(u16),
     NotListed,

@@ -1,16 +1,18 @@
 // What the library hands out: packets as they were read, the parts they are made of, and places in them. Types alone, and the index of a
 // place; whoever uses the library imports them from here.
+#![tactic(auto)]
+
 ghost use Rattle.std.specs.Prelude.{◌≡◌, ◌-◌};
 
 // Which way a packet goes.
-#[derive(Drop)]
+#[derive(Clone, Copy)]
 pub enum Direction {
     ToContainer,
     ToServer,
 }
 
 // Bytes of a request's body that are still left. No place in a packet can be passed for it.
-#[derive(Drop)]
+#[derive(Clone, Copy)]
 pub struct BodyLeft(pub u32);
 
 impl BodyLeft {
@@ -27,7 +29,7 @@ impl BodyLeft {
 }
 
 // A place in a packet, counted from its first byte. No number of body bytes can be passed for it.
-#[derive(Drop)]
+#[derive(Clone, Copy)]
 pub struct Place(pub u16);
 
 impl Place {
@@ -40,7 +42,7 @@ impl Place {
 }
 
 // A part of a packet: where it starts and how many bytes it has.
-#[derive(Drop)]
+#[derive(Clone, Copy)]
 pub struct Part {
     pub start: Place,
     pub len: u16,
@@ -48,7 +50,7 @@ pub struct Part {
 
 // A Forward: its fixed numbers, the places of its fixed strings, how many headers and attributes it has, and the declared length of
 // the body, 0 where none is declared.
-#[derive(Drop)]
+#[derive(Clone, Copy)]
 pub struct Forward {
     pub method: u16,
     pub protocol: Place,
@@ -64,7 +66,7 @@ pub struct Forward {
 }
 
 // Send Headers: the status, the message's place and how many headers it has.
-#[derive(Drop)]
+#[derive(Clone, Copy)]
 pub struct SendHeaders {
     pub status: u16,
     pub message: Place,
@@ -72,7 +74,7 @@ pub struct SendHeaders {
 }
 
 // A packet, by its kind.
-#[derive(Drop)]
+#[derive(Clone, Copy)]
 pub enum Packet {
     CPing,
     CPong,
@@ -85,14 +87,14 @@ pub enum Packet {
 }
 
 // A header's name: its code, or a string, whose bytes `views::text_at` shows.
-#[derive(Drop)]
+#[derive(Clone, Copy)]
 pub enum HeaderName {
     Code(u16),
     Spelled,
 }
 
 // What value an attribute has.
-#[derive(Drop)]
+#[derive(Clone, Copy)]
 pub enum AttributeKind {
     NotServed,
     Text,
@@ -104,7 +106,7 @@ pub enum AttributeKind {
 pub const NAME_ROOM: usize = 17;
 
 // A name that is handed out: its bytes, zeros behind them, and how many bytes it has. Where there is no such name it has 0.
-#[derive(Drop)]
+#[derive(Clone, Copy)]
 pub struct Name {
     pub bytes: [u8; NAME_ROOM],
     pub len: usize,

@@ -9,7 +9,7 @@ use wire::read::{BooleanRead, NumberRead, StringRead};
 use wire::{AFTER_CODE_PLACE, CODE_PLACE, StringField, read};
 
 // A field: refused, or its place, its number (0 for a string) and the place after it.
-#[derive(Drop)]
+#[derive(Clone, Copy)]
 pub enum FieldRead {
     Refused(u8),
     Field { at: usize, value: u16, next: usize },

@@ -6,7 +6,7 @@ use packet::Packet;
 use wire::refusal;
 
 // What reading a packet finds: refused, or the packet.
-#[derive(Drop)]
+#[derive(Clone, Copy)]
 pub enum PacketRead {
     Refused(u8),
     Packet(Packet),

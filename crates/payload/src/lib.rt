@@ -1,5 +1,7 @@
 // What a packet says, from its own bytes alone: no connection is looked at. An inner crate: the layers above call it; what it hands out,
 // `Packet`, goes on to the user of the library. A file for each kind of packet, with a function `read`; here is what kind a packet is.
+#![tactic(auto)]
+
 ghost use Rattle.std.specs.Prelude.{◌≡◌};
 ghost use Rattle.payload.specs.Code.{code_of, code_kind, kind_of_code, kind_at};
 
@@ -40,14 +42,14 @@ pub const CPONG: u16 = 9;
 pub const CPING: u16 = 10;
 
 // What kind a packet is: refused, or the kind.
-#[derive(Drop)]
+#[derive(Clone, Copy)]
 pub enum KindRead {
     Refused(u8),
     Kind(Kind),
 }
 
 // What is known of a packet beside its bytes: which way it goes, and whether it is read as a body packet.
-#[derive(Drop)]
+#[derive(Clone, Copy)]
 pub struct Context {
     pub direction: Direction,
     pub body: bool,

@@ -15,7 +15,7 @@ use packet::{BodyLeft, Direction};
 use wire::refusal;
 
 // What follows a Forward's fixed fields: refused, or the declared length of the body and how many attributes there are.
-#[derive(Drop)]
+#[derive(Clone, Copy)]
 pub enum ListsRead {
     Refused(u8),
     Lists { declared: BodyLeft, attributes: u16 },

@@ -19,7 +19,7 @@ use payload::forward::{FIRST_METHOD, LAST_METHOD};
 use wire::{AFTER_CODE_PLACE, StringField, refusal, write};
 
 // A Forward's fixed numbers.
-#[derive(Drop)]
+#[derive(Clone, Copy)]
 pub struct Numbers {
     pub method: u16,
     pub server_port: u16,
@@ -27,7 +27,7 @@ pub struct Numbers {
 }
 
 // Which of a Forward's strings are null; the text given for such a one does not matter.
-#[derive(Drop)]
+#[derive(Clone, Copy)]
 pub struct Nulls {
     pub protocol: bool,
     pub req_uri: bool,

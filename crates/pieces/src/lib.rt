@@ -3,6 +3,8 @@
 // leaves the buffer as it was, and the record given still counts. Every public call answers for any record, any buffer and any arguments.
 // For each piece a call with the same arguments tells how many bytes the buffer needs for it, counted from the buffer's first byte;
 // 8193 says that no buffer helps. When a Forward is closed, its FF needs one byte more. A buffer of 8192 bytes is always long enough.
+#![tactic(auto)]
+
 ghost use Rattle.std.specs.Prelude.{◌≡◌, ◌≤◌, ◌<◌};
 ghost use Rattle.places.specs.Entries.{max_headers};
 ghost use Rattle.connection.specs.Connection.{max_packet};
@@ -18,7 +20,7 @@ pub mod header;
 pub mod send_headers;
 
 // What a piece answers: the refusal's number, or the next building record.
-#[derive(Drop)]
+#[derive(Clone, Copy)]
 pub enum Added {
     Refused(u8),
     Next(Building),

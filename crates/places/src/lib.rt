@@ -1,5 +1,7 @@
 // The table of places: two for each header and then two for each attribute. An inner crate: the layers above call it, a user of the
 // library does not.
+#![tactic(auto)]
+
 ghost use Rattle.std.specs.Prelude.{◌≡◌, [], ◌∷◌, ◌+◌, ◌≤◌, length, take};
 ghost use Rattle.wire.specs.Bytes.{over};
 

@@ -9,7 +9,7 @@ use wire::read::NumberRead;
 use wire::{LENGTH_PLACE, PAYLOAD_PLACE, has_room, leading_bytes, read, refusal};
 
 // The first packet of the bytes: how many bytes it needs, refused, or how many bytes it has.
-#[derive(Drop)]
+#[derive(Clone, Copy)]
 pub enum FrameRead {
     Needs(usize),
     Refused(u8),

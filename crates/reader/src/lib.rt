@@ -1,5 +1,7 @@
 // Reading at both ends: takes a packet out of lent bytes, checks it, tells what it is, fills the lent table and steps the connection.
 // `read_at_container` and `read_at_server` answer for any connection, any bytes and any table.
+#![tactic(auto)]
+
 ghost use Rattle.std.specs.Prelude.{◌≡◌, ◌≤◌, length};
 ghost use Rattle.connection.specs.Connection.{max_packet};
 ghost use Rattle.reader.specs.Meaning.{received_meaning, places_needed};
@@ -20,7 +22,7 @@ use crate::frame::FrameRead;
 
 // What reading answers: how many bytes it needs in all, the refusal's number, or the packet, how many bytes were taken, and the connection
 // after it.
-#[derive(Drop)]
+#[derive(Clone, Copy)]
 pub enum Received {
     Needs(usize),
     Refused(u8),

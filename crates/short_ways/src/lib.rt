@@ -1,5 +1,7 @@
 // The short ways: a body packet at the container's end and a Send Body Chunk at the server's, each where it is whole and allowed now.
 // They answer what `read` answers. Each has one caller, in which the compiler keeps all of it in registers; `read` is too large for that.
+#![tactic(auto)]
+
 ghost use Rattle.std.specs.Prelude.{◌≡◌, length};
 ghost use Rattle.wire.specs.Field.{byte_at};
 ghost use Rattle.packet.specs.declared.Direction.{Direction};
@@ -22,7 +24,7 @@ use wire::{CODE_PLACE, part_of};
 
 // What a short way answers: that the packet is another one, which `read` reads; the refusal's number; or the packet's part, how many bytes
 // were taken, and the connection after it.
-#[derive(Drop)]
+#[derive(Clone, Copy)]
 pub enum PartRead {
     Other,
     Refused(u8),

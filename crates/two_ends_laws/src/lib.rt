@@ -1,1 +1,2 @@
 // No calls: the theorem on two ends and their pipes. An inner crate.
+#![tactic(auto)]

@@ -1,5 +1,7 @@
 // Runs the library on the cases that standard input lists, one a line, and compares its answers with those of the list. It prints each case
 // that differs, and at the end how many there were. The list itself says how a case is written.
+#![tactic(auto)]
+
 mod check;
 mod command;
 mod line;

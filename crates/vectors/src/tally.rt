@@ -7,7 +7,7 @@ const ALL: usize = commands::UNKNOWN;
 
 const ROWS: usize = ALL + 1;
 
-#[derive(Drop)]
+#[derive(Clone, Copy)]
 pub struct Tallies {
     cases: [u64; ROWS],
     differ: [u64; ROWS],

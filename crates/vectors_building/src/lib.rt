@@ -1,5 +1,7 @@
 // The library's answers to the cases of building: packets that one call sends, and those that are built in pieces and closed. The building
 // half of the program `vectors`.
+#![tactic(auto)]
+
 mod piece;
 mod record;
 mod send;

@@ -70,7 +70,7 @@ packets=N;requests=N;body=N;state=closed;refusal=N;place=N";
 // The most values of an answer.
 const VALUES: usize = 16;
 
-#[derive(Drop)]
+#[derive(Clone, Copy)]
 pub struct Answer {
     pub form: usize,
     count: usize,

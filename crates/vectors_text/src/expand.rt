@@ -2,7 +2,7 @@
 use crate::{parse, put, text};
 
 // What a byte of the line stands in: plain text, a group that begins at a place, or quotes.
-#[derive(Drop)]
+#[derive(Clone, Copy)]
 pub enum Within {
     Plain,
     Group(usize),
@@ -10,7 +10,7 @@ pub enum Within {
 }
 
 // How far the text is written, and what the next byte of the line stands in.
-#[derive(Drop)]
+#[derive(Clone, Copy)]
 pub struct Written {
     pub at: usize,
     pub within: Within,

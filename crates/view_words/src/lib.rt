@@ -1,5 +1,7 @@
 // Views of a packet's fields as words: a string as three words, the number of a kind of value and (`name`) the listed names. What a view of
 // `views` hands out as a slice crosses the C boundary as where it starts and how long it is.
+#![tactic(auto)]
+
 ghost use Rattle.std.specs.Prelude.{◌≡◌, ◌+◌, ◌≤◌};
 ghost use Rattle.views.specs.View.{integer_view, text_view};
 ghost use Rattle.words.specs.Number.{last_number};

@@ -1,5 +1,7 @@
 // Views of the fields of a packet, at the places that reading gives: parts of the lent bytes, not copies. Each answers for any bytes and
 // any place.
+#![tactic(auto)]
+
 ghost use Rattle.std.specs.Prelude.{◌≡◌, ◌+◌, get_or};
 ghost use Rattle.wire.specs.Bytes.{part};
 ghost use Rattle.views.specs.View.{null_view, text_view, name_view, integer_view};

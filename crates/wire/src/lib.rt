@@ -1,6 +1,8 @@
 // The fields of a packet, over lent bytes: `read` and `write`. An inner crate: the layers above call it, a user of the library does not.
 // A packet is a slice of its own bytes and no others; a place is an index into it. Every call that reads answers for any place; one that
 // writes asks that the field fits.
+#![tactic(auto)]
+
 ghost use Rattle.std.specs.Prelude.{◌≡◌, ◌+◌, ◌≤◌, ◌<◌, leb, length};
 ghost use Rattle.wire.specs.Bytes.{part};
 ghost use Rattle.wire.specs.Field.{is_optional, lacks, barred, holds_barred, string_allowed};
@@ -14,7 +16,7 @@ pub mod refusal;
 pub mod write;
 
 // The fields that are strings.
-#[derive(Drop)]
+#[derive(Clone, Copy)]
 pub enum StringField {
     Protocol,
     ReqUri,

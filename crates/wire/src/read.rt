@@ -7,21 +7,21 @@ use crate::{
 };
 
 // A byte or an integer: refused, or its value and the place after it.
-#[derive(Drop)]
+#[derive(Clone, Copy)]
 pub enum NumberRead {
     Refused(u8),
     Number { value: u16, next: usize },
 }
 
 // A boolean: refused, or its value and the place after it.
-#[derive(Drop)]
+#[derive(Clone, Copy)]
 pub enum BooleanRead {
     Refused(u8),
     Boolean { value: bool, next: usize },
 }
 
 // A string: refused, null, or where its bytes start and how many they are. next is the place after the field.
-#[derive(Drop)]
+#[derive(Clone, Copy)]
 pub enum StringRead {
     Refused(u8),
     Null {

@@ -3,6 +3,8 @@
 // is touched. A refusal leaves the buffer as it was, and the connection given still counts. Every public call answers for any connection,
 // any buffer and any bytes. A CPing and a CPong have 5 bytes, a Get Body Chunk 7, an End 6; `body_needs` and `body_chunk_needs` tell the
 // others. A buffer of 8192 bytes is long enough for every packet.
+#![tactic(auto)]
+
 ghost use Rattle.std.specs.Prelude.{◌≡◌, length};
 ghost use Rattle.wire.specs.Bytes.{over};
 ghost use Rattle.wire.specs.Packet.{Fits};

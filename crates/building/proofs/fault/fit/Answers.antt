@@ -1,0 +1,17 @@
+-- `fields::fault::fit` meets its contract, by whether the end is within a packet and within the room.
+-- Assumes nothing.
+use mathlib.Core.Path.{refl, sym, ◌∙◌}
+use mathlib.Core.Bool.{true, false}
+use borrow.Author.Tests.{not-true, not-false}
+use Rattle.building.specs.Fault.{unless}
+use Rattle.building.proofs.Sizes.{fit_by}
+use borrow.Author.Rules.{rules}
+use Rattle.std.proofs.Common.{not}
+use Rattle.std.proofs.Common.{ap}
+use Rattle.building.proofs.fault.fit.Goals as goal
+
+pub returns-then-not-fits_packet : goal.returns-then-not-fits_packet
+returns-then-not-fits_packet c = fit_by _ _ false _ (sym c.fits_packet.ensures ∙ c.if-not-fits_packet.true) refl
+
+pub returns : goal.returns
+returns c = c.unless.ensures ∙ fit_by _ _ true _ (sym c.fits_packet.ensures ∙ c.if-not-fits_packet.false) refl

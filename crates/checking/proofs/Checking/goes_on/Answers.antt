@@ -1,0 +1,9 @@
+-- `Checking::goes_on` meets its contract.
+-- Assumes nothing.
+use Rattle.checking.proofs.Laws.{goes_on_is}
+use Rattle.std.proofs.Common.{not}
+use Rattle.std.proofs.Common.{ap}
+use Rattle.checking.proofs.Checking.goes_on.Goals as goal
+
+pub returns : goal.returns
+returns c = goes_on_is _

@@ -1,0 +1,17 @@
+-- `headers::spelled_name` meets its contract, by what the name's length reads as.
+-- Assumes nothing.
+use borrow.Author.Rules.{rules}
+use mathlib.Core.Path.{sym, ◌∙◌}
+use Rattle.wire.specs.declared.read.NumberRead.{NumberRead}
+use Rattle.headers.proofs.Laws.{spelled_by}
+use Rattle.std.proofs.Common.{not}
+use Rattle.std.proofs.Common.{ap}
+use Rattle.headers.proofs.spelled_name.Goals as goal
+
+pub returns-in-Refused : goal.returns-in-Refused
+returns-in-Refused c = spelled_by _ _ _ (NumberRead.Refused _) (sym c.integer.ensures ∙ c.in-Refused.is)
+
+pub returns-in-Number : goal.returns-in-Number
+returns-in-Number c =
+    c.name_text.ensures
+    ∙ spelled_by _ _ _ (NumberRead.Number _ _) (sym c.integer.ensures ∙ c.in-Number.is)

@@ -1,0 +1,17 @@
+-- `header::lengths_of` meets its contract: antt computes the lengths of the names and looks each of them up in the set.
+-- Assumes nothing.
+use borrow.Author.Rules.{rules}
+use Rattle.wire.specs.Pick.{all}
+use Rattle.names.specs.Names.{request_names, response_names}
+use Rattle.wire.specs.Bits.{bit}
+use Rattle.std.proofs.Common.{not}
+use Rattle.std.proofs.Common.{ap}
+use Rattle.names.proofs.header.lengths_of.Goals as goal
+
+pub returns-in-ToContainer : goal.returns-in-ToContainer
+unfolding all bit request_names
+returns-in-ToContainer c = rw c.in-ToContainer.is
+
+pub returns-in-ToServer : goal.returns-in-ToServer
+unfolding all bit response_names
+returns-in-ToServer c = rw c.in-ToServer.is

@@ -1,0 +1,17 @@
+-- `field::integer_after` meets its contract: by whether the field before was refused.
+-- Assumes nothing.
+use borrow.Author.Rules.{rules}
+use mathlib.Core.Path.{sym, ap, ◌∙◌}
+use Rattle.payload.specs.Sequence.{integer_after}
+use Rattle.payload.proofs.Laws.{integer_after_is}
+use Rattle.std.proofs.Common.{not}
+use Rattle.payload.proofs.field.integer_after.Goals as goal
+
+pub returns-in-Refused : goal.returns-in-Refused
+unfolding integer_after
+returns-in-Refused c = sym (ap (integer_after _ _ _ _) c.in-Refused.is)
+
+pub returns-in-Field : goal.returns-in-Field
+returns-in-Field c =
+    c.bounded.ensures
+    ∙ sym (integer_after_is _ _ _ _ _ _ _ _ _ c.in-Field.is (sym c.integer.ensures))

@@ -1,0 +1,62 @@
+-- `pieces::header::coded` meets its contract: refused with the fault found; else its bytes are written, and the record tells their end.
+-- Assumes nothing.
+use mathlib.Core.Path.{◌≡◌, refl}
+use mathlib.Core.List.{◌++◌, append-nil}
+use borrow.Author.Rules.{rules}
+use Rattle.wire.specs.Bytes.{integer_bytes}
+use Rattle.wire.specs.Field.{string_bytes}
+use Rattle.building.specs.Call.{Call}
+use Rattle.building_record.specs.declared.Building.{Building}
+use Rattle.pieces.specs.Header.{coded_fields, coded_call}
+use Rattle.building_record.specs.Record.{direction_in, with_header}
+use Rattle.pieces.proofs.Pieces.{Checked, checked, refused_both, row_fits, done_both, header_room}
+use Rattle.std.proofs.Common.{not}
+use Rattle.std.proofs.Common.{ap}
+use Rattle.pieces.proofs.header.coded.Goals as goal
+
+pub returns-then-found-ne-NONE : goal.returns-then-found-ne-NONE
+unfolding coded_call
+returns-then-found-ne-NONE c =
+    let call : Call Building =
+    let a = c.args in coded_call a.building a.buffer.now a.code a.null a.value.now in
+    let known : Checked (call) c.args.buffer.now c.coded_needs-end.result c.or_else-found.result =
+    checked c.coded_header_fault-found.ensures c.fit.ensures c.coded_needs-end.ensures c.or_else-found.ensures in
+    let all = refused_both (known) c.if-found-ne-NONE.true in
+    record { result_value = all.0; buffer_after = all.1 }
+
+pub write_coded-requires : goal.write_coded-requires
+unfolding coded_call
+write_coded-requires c =
+    let call : Call Building =
+    let a = c.args in coded_call a.building a.buffer.now a.code a.null a.value.now in
+    let known : Checked (call) c.args.buffer.now c.coded_needs-end.result c.or_else-found.result =
+    checked c.coded_header_fault-found.ensures c.fit.ensures c.coded_needs-end.ensures c.or_else-found.ensures in
+    let row : let a = c.args in (call).bytes ≡ integer_bytes a.code ++ string_bytes a.null a.value.now =
+    rw append-nil in
+    row_fits (known) c.if-found-ne-NONE.false (row) c.index.ensures
+
+pub with_header-requires : goal.with_header-requires
+unfolding coded_call
+with_header-requires c =
+    let call : Call Building =
+    let a = c.args in coded_call a.building a.buffer.now a.code a.null a.value.now in
+    let known : Checked (call) c.args.buffer.now c.coded_needs-end.result c.or_else-found.result =
+    checked c.coded_header_fault-found.ensures c.fit.ensures c.coded_needs-end.ensures c.or_else-found.ensures in
+    let a = c.args in
+    header_room (coded_fields (direction_in a.building) a.code a.null a.value.now) (known) c.if-found-ne-NONE.false
+
+pub returns : goal.returns
+unfolding coded_call
+returns c =
+    let call : Call Building =
+    let a = c.args in coded_call a.building a.buffer.now a.code a.null a.value.now in
+    let known : Checked (call) c.args.buffer.now c.coded_needs-end.result c.or_else-found.result =
+    checked c.coded_header_fault-found.ensures c.fit.ensures c.coded_needs-end.ensures c.or_else-found.ensures in
+    let row : let a = c.args in (call).bytes ≡ integer_bytes a.code ++ string_bytes a.null a.value.now =
+    rw append-nil in
+    let all = done_both (known) (with_header c.args.building) c.if-found-ne-NONE.false refl
+    c.with_header.ensures
+    (row)
+    c.index.ensures
+    c.write_coded.ensures in
+    record { result_value = all.0; buffer_after = all.1 }

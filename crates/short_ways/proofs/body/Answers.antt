@@ -1,0 +1,23 @@
+-- `short_ways::body` meets its contract, by what is read and by the step.
+-- Assumes nothing.
+use mathlib.Core.Path.{refl, sym, ap, ◌∙◌}
+use Rattle.connection.specs.declared.Kind.{Kind}
+use Rattle.packet.specs.declared.Direction.{Direction}
+use Rattle.packet.specs.declared.Packet.{Packet}
+use Rattle.reader.specs.Reading.{context_of, accepting}
+use Rattle.short_ways.specs.Short.{answered}
+use Rattle.short_ways.proofs.ShortWays.{part_stepped}
+use borrow.Author.Rules.{rules}
+use Rattle.std.proofs.Common.{not}
+use Rattle.short_ways.proofs.body.Goals as goal
+
+pub returns-in-Refused : goal.returns-in-Refused
+unfolding accepting
+returns-in-Refused c = ap answered (sym (ap (accepting _ _) (sym c.read.ensures ∙ c.in-Refused.is)))
+
+pub returns-in-Packet : goal.returns-in-Packet
+returns-in-Packet c =
+    let a = c.args in
+    part_stepped (context_of Direction.ToContainer a.connection) Kind.Body Packet.Body a.connection a.packet.now _ _ _ _ _ refl
+    (sym c.read.ensures ∙ c.in-Packet.is)
+    c.part_in-part.ensures c.step_body.ensures c.stepped.ensures

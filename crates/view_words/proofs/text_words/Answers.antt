@@ -1,0 +1,25 @@
+-- `text_words` meets its contract, word by word.
+-- Assumes nothing.
+use mathlib.Core.Path.{ap, ◌∙◌}
+use native.Mathlib.Omega.{arith}
+use lib.ListN.{length}
+use Rattle.views.proofs.Laws.{null_is}
+use Rattle.view_words.proofs.Views.{start_within, text_most, words_are}
+use borrow.Author.Rules.{rules}
+use Rattle.wire.specs.Field.{boolean_number}
+use Rattle.std.proofs.Common.{not}
+use Rattle.view_words.proofs.text_words.Goals as goal
+
+pub overflow_cast-start : goal.overflow_cast-start
+overflow_cast-start c =
+    let a = c.args in
+    omega (arith, c.start_at-start.ensures, (start_within a.packet.now a.at).1)
+
+pub overflow_cast-size : goal.overflow_cast-size
+overflow_cast-size c = omega (arith, ap length c.requires.1, text_most c.args.packet.now c.args.at, c.length_at-null.ensures)
+
+pub returns : goal.returns
+returns c =
+    let l = c.length_at-null in
+    words_are _ _ c.start_at-start.ensures (ap length c.requires.1)
+    (c.flag_word.ensures ∙ ap boolean_number (null_is _ _ _ l.ensures))

@@ -1,0 +1,12 @@
+-- `reader::view::header_name` meets its contract, by the direction's list.
+-- Assumes nothing.
+use mathlib.Core.Path.{ap, ◌∙◌}
+use Rattle.names.specs.Names.{name_for}
+use Rattle.names.specs.Row.{padded}
+use Rattle.names.specs.declared.NameList.{NameList}
+use borrow.Author.Rules.{rules}
+use Rattle.std.proofs.Common.{not}
+use Rattle.views.proofs.header_name.Goals as goal
+
+pub returns : goal.returns
+returns c = c.name_of.ensures ∙ ap (λ (l : NameList). padded (name_for l c.args.code)) c.names_of.ensures

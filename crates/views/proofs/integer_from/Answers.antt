@@ -1,0 +1,14 @@
+-- `reader::view::integer_from` meets its contract, by what is read at the index.
+-- Assumes nothing.
+use mathlib.Core.Path.{sym, ◌∙◌}
+use Rattle.views.proofs.Laws.{number_is}
+use borrow.Author.Rules.{rules}
+use Rattle.std.proofs.Common.{not}
+use Rattle.std.proofs.Common.{ap}
+use Rattle.views.proofs.integer_from.Goals as goal
+
+pub returns-in-Refused : goal.returns-in-Refused
+returns-in-Refused c = number_is _ _ _ (sym c.integer.ensures ∙ c.in-Refused.is)
+
+pub returns-in-Number : goal.returns-in-Number
+returns-in-Number c = number_is _ _ _ (sym c.integer.ensures ∙ c.in-Number.is)
