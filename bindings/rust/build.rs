@@ -1,5 +1,5 @@
 //! Finds the static library and tells cargo to link it: in the directory that the environment variable `AJP13_LIB_DIR`
-//! names, else where `rt staticlib ajp13` leaves it in this checkout.
+//! names, else where `rt lib` leaves it in this checkout, crates/ajp13/out.
 
 use std::env;
 use std::path::PathBuf;
@@ -11,14 +11,14 @@ fn main() {
         Some(dir) => PathBuf::from(dir),
         None => {
             let root = env::var_os("CARGO_MANIFEST_DIR").expect("cargo sets CARGO_MANIFEST_DIR");
-            PathBuf::from(root).join("../../target/staticlib")
+            PathBuf::from(root).join("../../crates/ajp13/out")
         }
     };
     let archive = dir.join("libajp13.a");
     println!("cargo:rerun-if-changed={}", archive.display());
     if !archive.is_file() {
         eprintln!("there is no {}", archive.display());
-        eprintln!("run `rt staticlib ajp13` in the root of the checkout first,");
+        eprintln!("run `bindings/archive` in the root of the checkout first,");
         eprintln!("or set AJP13_LIB_DIR to the directory that holds libajp13.a");
         exit(1);
     }
