@@ -196,7 +196,7 @@ module _ {s : List ℕ} (short : length s ≤ max_packet) where
       let here : Ahead s p (fields_bytes (header_fields d header) ++ (headers_bytes d later ++ rest)) =
       rw handed.1 (simp append_assoc at r) in
       let first = header_by (headers_bytes d later ++ rest) d header.value header.name fine.0 here q handed.0 handed.2 handed.3 in
-      let others = headers_show rest d later fine.1 first.2 places (omega arith) next handed.4 after handed.6 in
+      let others = headers_show {at = handed.0} rest d later fine.1 first.2 places (omega arith) next handed.4 after handed.6 in
       (rw (first.0, first.1, others.0), others.1)
 
   -- an attribute's value behind its code: it is shown as it was written, and where it ends stand the bytes behind it
@@ -261,5 +261,5 @@ module _ {s : List ℕ} (short : length s ≤ max_packet) where
       let there : ValueThere s (kind_for attribute.value) (p + 1) q handed.0 =
       subst (λ (k : AttributeKind). ValueThere s k (p + 1) q handed.0) kind handed.2 in
       let first = value_shows rest attribute.code attribute.value fine.0 fit.1 here q handed.0 there in
-      let others = attributes_show later fine.1 fit.2 first.1 places next handed.3 in
+      let others = attributes_show {at = handed.0} later fine.1 fit.2 first.1 places next handed.3 in
       rw (kind, code, first.0, others)

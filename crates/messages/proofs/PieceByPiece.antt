@@ -251,7 +251,7 @@ headers_unstopped {x} {kind} {count} {before} {buffer} {raw} [] here h =
     (tt, reached_same (sym (add-zero before)) (sym (append-nil raw)) here)
 headers_unstopped {x} {kind} {count} {before} {buffer} {raw} (header ∷ later) here h =
     let first = header_unstopped header here (headers_before later h) in
-    let rest = headers_unstopped later first.1 h in
+    let rest = headers_unstopped {x = add_header x header} later first.1 h in
     let n : before + 1 + length later ≡ before + length (header ∷ later) = omega arith in
     let d : Direction = direction_of (built_kind kind) in
     ((first.0, rest.0), reached_same n (append_assoc raw (fields_bytes (header_fields d header)) (headers_bytes d later)) rest.1)
@@ -271,7 +271,7 @@ headers_fit {x} {kind} {count} {before} {buffer} {raw} (header ∷ later) here f
     let n : before + 1 + length later ≡ before + length (header ∷ later) = omega arith in
     let first = header_fits header here fine.0 (omega arith) (first_within raw own later_bytes within) (first_within raw own later_bytes fits) in
     reached_same n (append_assoc raw own later_bytes)
-    (headers_fit later first fine.1 (omega arith) (regrouped_within raw own later_bytes within) (regrouped_within raw own later_bytes fits))
+    (headers_fit {x = add_header x header} later first fine.1 (omega arith) (regrouped_within raw own later_bytes within) (regrouped_within raw own later_bytes fits))
 
 -- an attribute behind what was built
 module _ {x : Built} {kind : BuildingKind} {count headers : ℕ} {came : Bool} {buffer raw : List ℕ} (attribute : Attribute)
@@ -340,10 +340,10 @@ pub attributes_unstopped : {x : Built} {kind : BuildingKind} {count headers : �
     → Reached x kind count headers came buffer raw → Unstopped (add_attributes x attributes)
     → AttributesFine attributes
     × Reached (add_attributes x attributes) kind count headers (came_after came attributes) buffer (raw ++ attributes_bytes attributes)
-attributes_unstopped {raw = raw} [] here h = (tt, reached_same refl (sym (append-nil raw)) here)
-attributes_unstopped {raw = raw} (attribute ∷ later) here h =
+attributes_unstopped {x = x} {raw = raw} [] here h = (tt, reached_same refl (sym (append-nil raw)) here)
+attributes_unstopped {x = x} {raw = raw} (attribute ∷ later) here h =
     let first = attribute_unstopped attribute here (attributes_before later h) in
-    let rest = attributes_unstopped later first.1 h in
+    let rest = attributes_unstopped {x = add_attribute x attribute} later first.1 h in
     ((first.0, rest.0), reached_same refl (append_assoc raw (fields_bytes (attribute_fields attribute)) (attributes_bytes later)) rest.1)
 
 -- where none has a fault, the packet takes them, and all fit, they are written
@@ -351,12 +351,12 @@ pub attributes_fit : {x : Built} {kind : BuildingKind} {count headers : ℕ} {ca
     → Reached x kind count headers came buffer raw → Takes kind attributes → AttributesFine attributes → length (raw ++ attributes_bytes attributes) ≤ max_packet
     → length (raw ++ attributes_bytes attributes) ≤ length buffer
     → Reached (add_attributes x attributes) kind count headers (came_after came attributes) buffer (raw ++ attributes_bytes attributes)
-attributes_fit {raw = raw} [] here takes fine within fits = reached_same refl (sym (append-nil raw)) here
-attributes_fit {kind = BuildingKind.SendHeaders} (attribute ∷ later) here takes fine within fits =
+attributes_fit {x = x} {raw = raw} [] here takes fine within fits = reached_same refl (sym (append-nil raw)) here
+attributes_fit {x = x} {kind = BuildingKind.SendHeaders} (attribute ∷ later) here takes fine within fits =
     absurd (let z : ◌≡◌ {A = ℕ} 0 1 = cc in omega arith)
-attributes_fit {kind = BuildingKind.Forward} {buffer = buffer} {raw = raw} (attribute ∷ later) here takes fine within fits =
+attributes_fit {x = x} {kind = BuildingKind.Forward} {buffer = buffer} {raw = raw} (attribute ∷ later) here takes fine within fits =
     let own : List ℕ = fields_bytes (attribute_fields attribute) in
     let later_bytes : List ℕ = attributes_bytes later in
     let first = attribute_fits attribute here refl fine.0 (first_within raw own later_bytes within) (first_within raw own later_bytes fits) in
     reached_same refl (append_assoc raw own later_bytes)
-    (attributes_fit later first takes fine.1 (regrouped_within raw own later_bytes within) (regrouped_within raw own later_bytes fits))
+    (attributes_fit {x = add_attribute x attribute} later first takes fine.1 (regrouped_within raw own later_bytes within) (regrouped_within raw own later_bytes fits))
