@@ -1,0 +1,58 @@
+-- `piece::ajp13_words_attribute_integer` meets its contract: a fault is told and nothing is written, else all is as the library's call leaves it.
+-- Assumes nothing.
+use mathlib.Core.Path.{◌≡◌, refl, sym, ◌∙◌}
+use Rattle.building.specs.Fault.{first_fault}
+use Rattle.building.proofs.Faults.{Faultless, faultless}
+use Rattle.words.proofs.Records.{building_all, number_within, capped_same}
+use Rattle.ajp13.specs.Piece.{Piece, integer_piece}
+use Rattle.ajp13.proofs.Pieces.{piece_fault, piece_called}
+use borrow.Author.Rules.{rules}
+use Rattle.std.proofs.Common.{not}
+use Rattle.std.proofs.Common.{ap}
+use Rattle.ajp13.proofs.piece.ajp13_words_attribute_integer.Goals as goal
+
+pub returns-then-found-ne-DONE : goal.returns-then-found-ne-DONE
+unfolding integer_piece
+returns-then-found-ne-DONE c =
+    let piece : Piece =
+    let a = c.args in integer_piece a.building.now a.buffer.now a.code a.value in
+    let found : c.or_else-found.result ≡ first_fault (piece).faults =
+    c.or_else-found.ensures ∙ rw (c.building_fault.ensures, c.number_fault.ensures) refl in
+    let a = c.args in
+    piece_fault (piece) a.building.now a.buffer.now (found) c.if-found-ne-DONE.true
+
+pub building_in-requires : goal.building_in-requires
+unfolding integer_piece
+building_in-requires c =
+    let piece : Piece =
+    let a = c.args in integer_piece a.building.now a.buffer.now a.code a.value in
+    let found : c.or_else-found.result ≡ first_fault (piece).faults =
+    c.or_else-found.ensures ∙ rw (c.building_fault.ensures, c.number_fault.ensures) refl in
+    let none : Faultless (piece).faults =
+    faultless (piece).faults (sym (found) ∙ c.if-found-ne-DONE.false) in
+    building_all _ (none).0
+
+pub put_added-requires : goal.put_added-requires
+unfolding integer_piece
+put_added-requires c =
+    let piece : Piece =
+    let a = c.args in integer_piece a.building.now a.buffer.now a.code a.value in
+    let found : c.or_else-found.result ≡ first_fault (piece).faults =
+    c.or_else-found.ensures ∙ rw (c.building_fault.ensures, c.number_fault.ensures) refl in
+    let none : Faultless (piece).faults =
+    faultless (piece).faults (sym (found) ∙ c.if-found-ne-DONE.false) in
+    building_all _ (none).0
+
+pub returns : goal.returns
+unfolding integer_piece
+returns c =
+    let piece : Piece =
+    let a = c.args in integer_piece a.building.now a.buffer.now a.code a.value in
+    let found : c.or_else-found.result ≡ first_fault (piece).faults =
+    c.or_else-found.ensures ∙ rw (c.building_fault.ensures, c.number_fault.ensures) refl in
+    let none : Faultless (piece).faults =
+    faultless (piece).faults (sym (found) ∙ c.if-found-ne-DONE.false) in
+    let a = c.args in
+    piece_called (piece) a.building.now a.buffer.now (found) c.if-found-ne-DONE.false
+    (rw (c.building_in.ensures, c.number_in.ensures, c.number_in-2.ensures, capped_same a.value (number_within a.value (none).1.0)) refl)
+    c.integer-added.ensures.result_value c.integer-added.ensures.buffer_after (c.put_added.ensures _)
