@@ -153,7 +153,7 @@ forward_clear s f e =
     (shown_clear s f.remote_addr.0 StringField.RemoteAddr f.remote_host.0 h.addr_there)
     (all_append host (name ++ (headers ++ attributes))
     (shown_clear s f.remote_host.0 StringField.RemoteHost f.server_name.0 h.host_there)
-    (all_append name (headers ++ attributes) (shown_clear s f.server_name.0 StringField.ServerName h.port_place_lem h.name_there)
+    (all_append name (headers ++ attributes) (shown_clear s f.server_name.0 StringField.ServerName h.port_place h.name_there)
     (all_append headers attributes
     (headers_clear Direction.ToContainer s h.lists_place Declared.Absent lists.of_headers lists.middle lists.of_length lists.headers_there)
     (attributes_clear s lists.middle lists.of_attributes (length s) lists.attributes_there))))))
@@ -164,8 +164,8 @@ send_headers_clear : (s : List ℕ) (h : SendHeaders) → (send_headers_at s).en
 send_headers_clear s response e =
     let h = send_headers_handed s response e in
     all_append (texts_of (text_shown s response.message.0)) (headers_texts (headers_shown s (send_headers_at s).places))
-    (shown_clear s response.message.0 StringField.Message h.count_place_lem h.message_there)
-    (headers_clear Direction.ToServer s h.headers_place_lem Declared.Absent (send_headers_at s).places (length s) Declared.Absent h.headers_there)
+    (shown_clear s response.message.0 StringField.Message h.count_place h.message_there)
+    (headers_clear Direction.ToServer s h.headers_place Declared.Absent (send_headers_at s).places (length s) Declared.Absent h.headers_there)
 
 -- a packet that was read shows a message with clear strings
 packet_clear : (p : Packet) (s table : List ℕ) → (packet_at (context_for (packet_kind p)) (packet_kind p) s).end ≡ PacketRead.Packet p

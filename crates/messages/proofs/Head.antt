@@ -18,7 +18,7 @@ use Rattle.packet.specs.declared.Forward.{Forward}
 use Rattle.packet.specs.declared.Packet.{Packet}
 use Rattle.places.specs.Entries.{max_places}
 use Rattle.connection.specs.Connection.{is_head}
-use Rattle.connection.specs.Cycle.{direction_of, in_state, chunk_allowed, in_size, allowed, after}
+use Rattle.connection.specs.Cycle.{direction_of, in_state, chunk_allowed, in_size, allowed}
 use Rattle.connection.specs.declared.Connection.{Connection}
 use Rattle.connection.specs.declared.Kind.{Kind}
 use Rattle.connection.specs.declared.Move.{Move}

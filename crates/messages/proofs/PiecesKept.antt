@@ -6,7 +6,7 @@ use native.Mathlib.Omega.{arith}
 use mathlib.Core.Path.{◌≡◌, refl, sym, ap, subst, ◌∙◌}
 use mathlib.Core.Bool.{true}
 use mathlib.Core.List.{List, [], ◌∷◌, ◌++◌}
-use Prim.Native.Nat.{ℕ, ◌+◌, ◌-◌, ◌≤◌}
+use Prim.Native.Nat.{ℕ, ◌+◌, ◌≤◌}
 use lib.ListN.{length, drop}
 use Rattle.wire.specs.Pick.{between}
 use Rattle.wire.specs.Bytes.{integer_bytes}
@@ -106,8 +106,8 @@ forward_kept s f bytes r =
     let h = forward_handed s f r.fields_are in
     let lists = h.lists in
     let in_range : range_fault first_method last_method f.method ≡ 0 = range_fine first_method last_method f.method h.method_range in
-    let port = integer_held s h.port_place_lem f.server_port h.ssl_place_lem bytes h.port_read in
-    let ssl = boolean_held s h.ssl_place_lem f.is_ssl h.count_place_lem h.ssl_read in
+    let port = integer_held s h.port_place f.server_port h.ssl_place bytes h.port_read in
+    let ssl = boolean_held s h.ssl_place f.is_ssl h.count_place h.ssl_read in
     let attributes = attributes_kept s lists.middle lists.of_attributes (length s) bytes (omega arith) lists.attributes_there in
     let headers =
     headers_kept Direction.ToContainer s h.lists_place Declared.Absent lists.of_headers lists.middle lists.of_length bytes attributes.held.forth
@@ -118,12 +118,12 @@ forward_kept s f bytes r =
     (fields_front (string_kept s f.req_uri.0 StringField.ReqUri f.remote_addr.0 bytes h.uri_there)
     (fields_front (string_kept s f.remote_addr.0 StringField.RemoteAddr f.remote_host.0 bytes h.addr_there)
     (fields_front (string_kept s f.remote_host.0 StringField.RemoteHost f.server_name.0 bytes h.host_there)
-    (fields_front (string_kept s f.server_name.0 StringField.ServerName h.port_place_lem bytes h.name_there)
+    (fields_front (string_kept s f.server_name.0 StringField.ServerName h.port_place bytes h.name_there)
     (fields_front (record { held = port.0; fine = refl }) (fields_last (record { held = ssl; fine = refl })))))))) in (
       _,
       refl,
       pieces_kept BuildingKind.Forward s (attributes_shown s lists.of_attributes) _ (coded_kept r refl bytes) refl refl fixed
-          (integer_held s h.count_place_lem f.headers h.lists_place bytes h.count_read).0 h.headers_most lists.headers_many headers
+          (integer_held s h.count_place f.headers h.lists_place bytes h.count_read).0 h.headers_most lists.headers_many headers
           attributes.held attributes.fine
           (omega (arith, range_most first_method last_method f.method in_range), port.1, headers.fit, attributes.fit),
     )
@@ -136,14 +136,14 @@ send_headers_kept s response bytes r =
     let status = integer_held s after_code_place response.status response.message.0 bytes h.status_read in
     let in_range : range_fault least_status greatest_status response.status ≡ 0 = range_fine least_status greatest_status response.status h.status_range in
     let headers =
-    headers_kept Direction.ToServer s h.headers_place_lem Declared.Absent (send_headers_at s).places (length s) Declared.Absent bytes (omega arith)
+    headers_kept Direction.ToServer s h.headers_place Declared.Absent (send_headers_at s).places (length s) Declared.Absent bytes (omega arith)
     h.headers_there in
     let fixed =
     fields_front (record { held = status.0; fine = in_range })
-    (fields_last (string_kept s response.message.0 StringField.Message h.count_place_lem bytes h.message_there)) in (
+    (fields_last (string_kept s response.message.0 StringField.Message h.count_place bytes h.message_there)) in (
       _,
       refl,
       pieces_kept BuildingKind.SendHeaders s [] _ (coded_kept r refl bytes) refl refl fixed
-          (integer_held s h.count_place_lem response.headers h.headers_place_lem bytes h.count_read).0 h.headers_most h.headers_many headers
+          (integer_held s h.count_place response.headers h.headers_place bytes h.count_read).0 h.headers_most h.headers_many headers
           (held_none s (length s) (omega arith)) tt (status.1, headers.fit),
     )

@@ -104,7 +104,7 @@ module _ {s : List ℕ} (short : length s ≤ max_packet) (request : Request) (o
       let r3 = string_shows short t3 StringField.ReqUri request.uri r2.1 none.1.1.0 f.remote_addr.0 handed.uri_there in
       let r4 = string_shows short t4 StringField.RemoteAddr request.addr r3.1 none.1.1.1.0 f.remote_host.0 handed.addr_there in
       let r5 = string_shows short t5 StringField.RemoteHost request.host r4.1 none.1.1.1.1.0 f.server_name.0 handed.host_there in
-      let r6 = string_shows short t6 StringField.ServerName request.name r5.1 none.1.1.1.1.1.0 handed.port_place_lem handed.name_there in
+      let r6 = string_shows short t6 StringField.ServerName request.name r5.1 none.1.1.1.1.1.0 handed.port_place handed.name_there in
       let port = integer_shows t7 request.port port_fits r6.1 handed.port_read in
       let ssl = boolean_shows t8 request.ssl port.1 handed.ssl_read in
       let count = integer_shows b (length request.headers) (omega arith) ssl.1 handed.count_read in
@@ -135,7 +135,7 @@ module _ {s : List ℕ} (short : length s ≤ max_packet) (response : Response) 
       let fields : Ahead s after_code_place (integer_bytes response.status ++ t1) = simp append_assoc at stands in
       let small : response.status < 65536 = omega (arith, range_most least_status greatest_status response.status none.0) in
       let first = integer_shows t1 response.status small fields handed.status_read in
-      let r2 = string_shows short t2 StringField.Message response.message first.1 none.1.0 handed.count_place_lem handed.message_there in
+      let r2 = string_shows short t2 StringField.Message response.message first.1 none.1.0 handed.count_place handed.message_there in
       let count = integer_shows t3 (length response.headers) (omega arith) r2.1 handed.count_read in
       let many : length (send_headers_at s).places ≡ length response.headers + length response.headers =
       omega (arith, handed.headers_many, count.0) in

@@ -119,14 +119,14 @@ pub record ForwardHanded (s : List ℕ) (f : Forward) (places : List ℕ) : Type
   pub uri_there : StringThere s StringField.ReqUri f.req_uri.0 f.remote_addr.0
   pub addr_there : StringThere s StringField.RemoteAddr f.remote_addr.0 f.remote_host.0
   pub host_there : StringThere s StringField.RemoteHost f.remote_host.0 f.server_name.0
-  pub port_place_lem : ℕ
-  pub name_there : StringThere s StringField.ServerName f.server_name.0 port_place_lem
-  pub ssl_place_lem : ℕ
-  pub port_read : integer_at s port_place_lem ≡ NumberRead.Number f.server_port ssl_place_lem
-  pub count_place_lem : ℕ
-  pub ssl_read : boolean_at s ssl_place_lem ≡ BooleanRead.Boolean f.is_ssl count_place_lem
+  pub port_place : ℕ
+  pub name_there : StringThere s StringField.ServerName f.server_name.0 port_place
+  pub ssl_place : ℕ
+  pub port_read : integer_at s port_place ≡ NumberRead.Number f.server_port ssl_place
+  pub count_place : ℕ
+  pub ssl_read : boolean_at s ssl_place ≡ BooleanRead.Boolean f.is_ssl count_place
   pub lists_place : ℕ
-  pub count_read : integer_at s count_place_lem ≡ NumberRead.Number f.headers lists_place
+  pub count_read : integer_at s count_place ≡ NumberRead.Number f.headers lists_place
   pub headers_most : f.headers ≤ max_headers
   pub lists : ListsHanded s lists_place f.headers f.attributes f.declared.0 places
 
@@ -135,13 +135,13 @@ pub record ForwardHanded (s : List ℕ) (f : Forward) (places : List ℕ) : Type
 pub record SendHeadersHanded (s : List ℕ) (h : SendHeaders) (places : List ℕ) : Type 0 where
   pub status_read : integer_at s after_code_place ≡ NumberRead.Number h.status h.message.0
   pub status_range : between least_status greatest_status h.status ≡ true
-  pub count_place_lem : ℕ
-  pub message_there : StringThere s StringField.Message h.message.0 count_place_lem
-  pub headers_place_lem : ℕ
-  pub count_read : integer_at s count_place_lem ≡ NumberRead.Number h.headers headers_place_lem
+  pub count_place : ℕ
+  pub message_there : StringThere s StringField.Message h.message.0 count_place
+  pub headers_place : ℕ
+  pub count_read : integer_at s count_place ≡ NumberRead.Number h.headers headers_place
   pub headers_most : h.headers ≤ max_headers
   pub headers_many : length places ≡ h.headers + h.headers
-  pub headers_there : HeadersHanded Direction.ToServer s headers_place_lem Declared.Absent places (length s) Declared.Absent
+  pub headers_there : HeadersHanded Direction.ToServer s headers_place Declared.Absent places (length s) Declared.Absent
 
 -- the size that a body packet tells: none where it has no payload, else the payload's first integer
 abbrev pub body_size_read : List ℕ → NumberRead

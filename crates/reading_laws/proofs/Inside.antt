@@ -29,7 +29,6 @@ use Rattle.payload.specs.SendHeaders.{send_headers_at}
 use Rattle.payload.specs.Kinds.{packet_at, packet_kind}
 use Rattle.payload.specs.declared.field.FieldRead.{FieldRead}
 use Rattle.packet.specs.declared.Forward.{Forward}
-use Rattle.packet.specs.declared.SendHeaders.{SendHeaders}
 use Rattle.packet.specs.declared.Packet.{Packet}
 use Rattle.payload.specs.declared.Context.{Context}
 use Rattle.payload.specs.declared.found.PacketRead.{PacketRead}

@@ -305,6 +305,6 @@ head_no_body events =
     bare_pipe w.ends.at_server kept.meeting.on_way_back kept.meeting.sender_allows in
     record {
       under_way = λ h. bare (run_notes events start kept_start (λ e. never e) h);
-      at_server_lem = bare;
-      at_container_lem = λ h. bare (server_has kept.meeting h);
+      at_server = bare;
+      at_container = λ h. bare (server_has kept.meeting h);
     }

@@ -53,5 +53,5 @@ pub record HeadBare (w : World) : Type 0 where
   -- while a HEAD is under way
   pub under_way : head_under_way w.past ≡ true → NoChunkWithBytes w.ends.to_server
   -- and where either end has noted a HEAD; the server's does so when it sends the Forward
-  pub at_server_lem : is_head w.ends.at_server ≡ true → NoChunkWithBytes w.ends.to_server
-  pub at_container_lem : is_head w.ends.at_container ≡ true → NoChunkWithBytes w.ends.to_server
+  pub at_server : is_head w.ends.at_server ≡ true → NoChunkWithBytes w.ends.to_server
+  pub at_container : is_head w.ends.at_container ≡ true → NoChunkWithBytes w.ends.to_server

@@ -1,7 +1,6 @@
 -- `attributes::attribute_at` meets its contract: each return knows the tests before it.
 -- Assumes nothing.
-use borrow.Author.Rules.{rules}
-use borrow.Author.Tests.{le-leb, eq-eqb, ne_eqb, not-true}
+use borrow.Author.Tests.{le-leb, eq-eqb, ne_eqb}
 use native.Mathlib.Omega.{arith}
 use mathlib.Core.Path.{refl, sym, ap, ◌∙◌}
 use mathlib.Core.Bool.{true, false}

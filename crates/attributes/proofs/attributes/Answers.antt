@@ -3,14 +3,7 @@
 use borrow.Author.Rules.{rules}
 use native.Mathlib.Omega.{arith}
 use mathlib.Core.Path.{refl, sym, ◌∙◌}
-use Prim.Native.Nat.{◌-◌}
-use lib.ListN.{length}
-use Rattle.attributes.specs.declared.AttributeRead.{AttributeRead}
-use Rattle.attributes.proofs.Laws.{attribute_inside, full_none, Reading, start, turn, stop, last}
-use Rattle.places.specs.Entries.{max_attributes}
-use Rattle.attributes.specs.Facts.{AttributeInside}
-use Rattle.std.proofs.Common.{not}
-use Rattle.std.proofs.Common.{ap}
+use Rattle.attributes.proofs.Laws.{attribute_inside, full_none, start, turn, stop, last}
 use Rattle.attributes.proofs.attributes.Goals as goal
 
 pub overflow_cast-place : goal.overflow_cast-place

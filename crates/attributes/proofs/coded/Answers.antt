@@ -1,13 +1,11 @@
 -- `attributes::coded` meets its contract: by the code's fault, and then by what its value reads as.
 -- Assumes nothing.
-use borrow.Author.Rules.{rules}
 use borrow.Author.Tests.{eq-eqb, ne_eqb}
 use mathlib.Core.Path.{◌≡◌, refl, sym, ap, ◌∙◌}
 use mathlib.Core.Bool.{true, false}
 use Rattle.names.specs.Attribute.{attribute_kind}
 use Rattle.attributes.specs.Attributes.{attribute_value_at}
 use Rattle.attributes.proofs.Laws.{coded_by}
-use Rattle.std.proofs.Common.{not}
 use Rattle.attributes.proofs.coded.Goals as goal
 
 pub returns-then-fault-ne-NONE : goal.returns-then-fault-ne-NONE

@@ -1,10 +1,7 @@
 -- `attributes::text_value` meets its contract, by what the string reads as.
 -- Assumes nothing.
-use borrow.Author.Rules.{rules}
 use mathlib.Core.Path.{sym, ◌∙◌}
 use Rattle.attributes.proofs.Laws.{text_value}
-use Rattle.std.proofs.Common.{not}
-use Rattle.std.proofs.Common.{ap}
 use Rattle.attributes.proofs.text_value.Goals as goal
 
 pub returns-in-Refused : goal.returns-in-Refused

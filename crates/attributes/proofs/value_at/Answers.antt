@@ -1,9 +1,7 @@
 -- `attributes::value_at` meets its contract, by the kind of value.
 -- Assumes nothing.
-use borrow.Author.Rules.{rules}
 use mathlib.Core.Path.{sym, ap, ◌∙◌}
 use Rattle.attributes.specs.Attributes.{attribute_value_at}
-use Rattle.std.proofs.Common.{not}
 use Rattle.attributes.proofs.value_at.Goals as goal
 
 pub returns-in-NotServed : goal.returns-in-NotServed

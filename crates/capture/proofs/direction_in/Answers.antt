@@ -4,8 +4,6 @@ use borrow.Author.Rules.{rules}
 use borrow.Author.Tests.{eq-eqb, ne_eqb}
 use mathlib.Core.Bool.{true, false}
 use Rattle.capture.proofs.Course.{direction_is, direction_none}
-use Rattle.std.proofs.Common.{not}
-use Rattle.std.proofs.Common.{ap}
 use Rattle.capture.proofs.direction_in.Goals as goal
 
 pub returns-then-bytes-eq0 : goal.returns-then-bytes-eq0

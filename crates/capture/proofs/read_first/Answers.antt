@@ -3,8 +3,6 @@
 use borrow.Author.Rules.{rules}
 use mathlib.Core.Path.{◌∙◌}
 use Rattle.capture.proofs.Course.{first_is}
-use Rattle.std.proofs.Common.{not}
-use Rattle.std.proofs.Common.{ap}
 use Rattle.capture.proofs.read_first.Goals as goal
 
 pub returns : goal.returns

@@ -2,8 +2,6 @@
 -- Assumes nothing.
 use mathlib.Core.Path.{sym, ap}
 use Rattle.checking.specs.Checking.{body_in}
-use borrow.Author.Rules.{rules}
-use Rattle.std.proofs.Common.{not}
 use Rattle.checking.proofs.body_in.Goals as goal
 
 pub returns-in-Forward : goal.returns-in-Forward

@@ -1,9 +1,6 @@
 -- `checking_words::are_checking` meets its contract, test by test.
 -- Assumes nothing.
 use Rattle.checking_words.proofs.Laws.{checking_by}
-use borrow.Author.Rules.{rules}
-use Rattle.std.proofs.Common.{not}
-use Rattle.std.proofs.Common.{ap}
 use Rattle.checking_words.proofs.are_checking.Goals as goal
 
 pub returns : goal.returns

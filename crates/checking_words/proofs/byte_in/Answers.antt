@@ -3,9 +3,6 @@
 use borrow.Author.Tests.{le-leb, lt-leb}
 use mathlib.Core.Bool.{true, false}
 use Rattle.checking_words.proofs.Laws.{byte_same}
-use borrow.Author.Rules.{rules}
-use Rattle.std.proofs.Common.{not}
-use Rattle.std.proofs.Common.{ap}
 use Rattle.checking_words.proofs.byte_in.Goals as goal
 
 pub returns-then-word-le-LAST_BYTE : goal.returns-then-word-le-LAST_BYTE

@@ -1,9 +1,6 @@
 -- `checking_words::checked_fault` meets its contract, which is the definition.
 -- Assumes nothing.
 use Rattle.checking_words.specs.CheckingWords.{checked_fault}
-use borrow.Author.Rules.{rules}
-use Rattle.std.proofs.Common.{not}
-use Rattle.std.proofs.Common.{ap}
 use Rattle.checking_words.proofs.checked_fault.Goals as goal
 
 pub returns : goal.returns

@@ -1,9 +1,6 @@
 -- `checking_words::checked_words` meets its contract: each word is its field's.
 -- Assumes nothing.
 use Rattle.checking_words.specs.CheckingWords.{checked_words}
-use borrow.Author.Rules.{rules}
-use Rattle.std.proofs.Common.{not}
-use Rattle.std.proofs.Common.{ap}
 use Rattle.checking_words.proofs.checked_words.Goals as goal
 
 pub returns : goal.returns

@@ -2,9 +2,6 @@
 -- Assumes nothing.
 use mathlib.Core.Path.{◌∙◌}
 use Rattle.checking_words.proofs.Laws.{checking_short, checking_judged}
-use borrow.Author.Rules.{rules}
-use Rattle.std.proofs.Common.{not}
-use Rattle.std.proofs.Common.{ap}
 use Rattle.checking_words.proofs.checking_fault.Goals as goal
 
 pub returns-then-words-ne-CHECKING_SIZE : goal.returns-then-words-ne-CHECKING_SIZE

@@ -2,9 +2,6 @@
 -- Assumes nothing.
 use Rattle.checking_words.specs.CheckingWords.{checking_in}
 use Rattle.checking_words.proofs.Laws.{held_size}
-use borrow.Author.Rules.{rules}
-use Rattle.std.proofs.Common.{not}
-use Rattle.std.proofs.Common.{ap}
 use Rattle.checking_words.proofs.checking_in.Goals as goal
 
 pub connection_in-connection-requires : goal.connection_in-connection-requires

@@ -1,9 +1,6 @@
 -- `checking_words::checking_room` meets its contract, which is the definition.
 -- Assumes nothing.
 use Rattle.checking_words.specs.CheckingWords.{checking_room}
-use borrow.Author.Rules.{rules}
-use Rattle.std.proofs.Common.{not}
-use Rattle.std.proofs.Common.{ap}
 use Rattle.checking_words.proofs.checking_room.Goals as goal
 
 pub returns : goal.returns

@@ -2,9 +2,6 @@
 -- Assumes nothing.
 use Rattle.words.specs.ConnectionWords.{connection_words}
 use Rattle.checking_words.specs.CheckingWords.{checking_words}
-use borrow.Author.Rules.{rules}
-use Rattle.std.proofs.Common.{not}
-use Rattle.std.proofs.Common.{ap}
 use Rattle.checking_words.proofs.checking_words.Goals as goal
 
 pub returns : goal.returns

@@ -2,9 +2,6 @@
 -- Assumes nothing.
 use mathlib.Core.Path.{refl, sym}
 use Rattle.checking_words.proofs.Laws.{held_size}
-use borrow.Author.Rules.{rules}
-use Rattle.std.proofs.Common.{not}
-use Rattle.std.proofs.Common.{ap}
 use Rattle.checking_words.proofs.held.Goals as goal
 
 pub slice_bounds-result-end : goal.slice_bounds-result-end

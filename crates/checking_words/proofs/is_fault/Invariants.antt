@@ -1,17 +1,10 @@
 -- `checking_words::is_fault` meets its contract: the loop has looked at the first numbers of the table.
 -- Assumes nothing.
-use mathlib.Core.Path.{◌≡◌, ap, ◌∙◌}
+use mathlib.Core.Path.{◌≡◌}
 use Prim.Native.Nat.{◌-◌, ◌≤◌}
-use mathlib.Core.Bool.{Bool}
-use mathlib.Core.List.{List}
-use Prim.Native.Nat.{ℕ}
-use lib.Dec.{eqb}
-use lib.ListN.{length, get_or, take}
-use Rattle.wire.specs.Pick.{one_of, either}
+use lib.ListN.{length, take}
+use Rattle.wire.specs.Pick.{one_of}
 use Rattle.wire.specs.Refusal.{faults}
-use Rattle.checking_words.proofs.Laws.{one_more, all_faults}
-use borrow.Author.Rules.{rules}
-use Rattle.std.proofs.Common.{not}
 use Rattle.checking_words.proofs.is_fault.Given as goal
 
 abbrev pub invariant-loop-i : goal.invariant-loop-i

@@ -5,7 +5,6 @@ use Rattle.building.specs.Call.{refused}
 use Rattle.closing.specs.Private.{Closable, put_back}
 use Rattle.closing.proofs.Setting.{set_closable}
 use Rattle.closing.proofs.Laws.{fault_ready, ready_closable, found_refused, outcome_buffer, Closes, closes}
-use borrow.Author.Rules.{rules}
 use Rattle.std.proofs.Common.{not}
 use Rattle.closing.proofs.close.Goals as goal
 

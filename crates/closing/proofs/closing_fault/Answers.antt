@@ -9,8 +9,6 @@ use Rattle.connection.specs.Cycle.{in_state}
 use Rattle.building.specs.Fault.{unless, fit_fault}
 use Rattle.building_record.specs.Record.{built_kind}
 use Rattle.closing.proofs.Laws.{fault_by}
-use borrow.Author.Rules.{rules}
-use Rattle.std.proofs.Common.{not}
 use Rattle.closing.proofs.closing_fault.Goals as goal
 
 pub returns : goal.returns

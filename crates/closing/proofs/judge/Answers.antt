@@ -5,8 +5,6 @@ use lib.ListN.{length}
 use Rattle.reader.specs.declared.Received.{Received}
 use Rattle.reader.specs.Meaning.{received_meaning}
 use Rattle.closing.specs.Closing.{verdict}
-use borrow.Author.Rules.{rules}
-use Rattle.std.proofs.Common.{not}
 use Rattle.closing.proofs.judge.Goals as goal
 
 pub returns-in-Needs : goal.returns-in-Needs

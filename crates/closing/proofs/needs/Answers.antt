@@ -4,9 +4,6 @@ use native.Mathlib.Nat.{add-zero}
 use mathlib.Core.Path.{sym, ◌∙◌}
 use Rattle.building_record.specs.declared.BuildingKind.{BuildingKind}
 use Rattle.closing.proofs.Setting.{length_seen}
-use borrow.Author.Rules.{rules}
-use Rattle.std.proofs.Common.{not}
-use Rattle.std.proofs.Common.{ap}
 use Rattle.closing.proofs.needs.Goals as goal
 
 pub returns-in-Forward : goal.returns-in-Forward

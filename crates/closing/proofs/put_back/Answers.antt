@@ -2,9 +2,6 @@
 -- Assumes nothing.
 use native.Mathlib.Omega.{arith}
 use Rattle.closing.proofs.Setting.{place_seen, back_by}
-use borrow.Author.Rules.{rules}
-use Rattle.std.proofs.Common.{not}
-use Rattle.std.proofs.Common.{ap}
 use Rattle.closing.proofs.put_back.Goals as goal
 
 pub integer-requires-2 : goal.integer-requires-2

@@ -5,9 +5,6 @@ use mathlib.Core.Path.{sym, ◌∙◌}
 use Rattle.wire.proofs.Bytes.{over_none}
 use Rattle.building_record.specs.declared.BuildingKind.{BuildingKind}
 use Rattle.closing.proofs.Setting.{length_seen, last_seen}
-use borrow.Author.Rules.{rules}
-use Rattle.std.proofs.Common.{not}
-use Rattle.std.proofs.Common.{ap}
 use Rattle.closing.proofs.put_last.Goals as goal
 
 pub byte-requires : goal.byte-requires

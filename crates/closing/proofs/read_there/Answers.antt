@@ -5,8 +5,6 @@ use mathlib.Core.Path.{◌≡◌, ap, ◌∙◌}
 use Rattle.connection.specs.Cycle.{direction_of}
 use Rattle.building_record.specs.Record.{built_kind, direction_in}
 use Rattle.closing.proofs.Laws.{read_there}
-use borrow.Author.Rules.{rules}
-use Rattle.std.proofs.Common.{not}
 use Rattle.closing.proofs.read_there.Goals as goal
 
 pub returns : goal.returns

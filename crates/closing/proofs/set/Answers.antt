@@ -2,9 +2,6 @@
 -- Assumes nothing.
 use native.Mathlib.Omega.{arith}
 use Rattle.closing.proofs.Setting.{place_seen, set_by}
-use borrow.Author.Rules.{rules}
-use Rattle.std.proofs.Common.{not}
-use Rattle.std.proofs.Common.{ap}
 use Rattle.closing.proofs.set.Goals as goal
 
 pub integer-requires : goal.integer-requires

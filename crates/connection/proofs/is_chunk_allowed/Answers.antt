@@ -1,7 +1,5 @@
 -- A request that is HEAD, and one that is not.
 -- Assumes nothing.
-use Rattle.std.proofs.Common.{not}
-use Rattle.std.proofs.Common.{ap}
 use Rattle.connection.proofs.is_chunk_allowed.Goals as goal
 
 pub returns-then-head : goal.returns-then-head

@@ -2,8 +2,6 @@
 -- Assumes nothing.
 use mathlib.Core.Path.{sym}
 use Rattle.connection.proofs.Laws.{size_none, size_some}
-use Rattle.std.proofs.Common.{not}
-use Rattle.std.proofs.Common.{ap}
 use Rattle.connection.proofs.is_size_allowed.Goals as goal
 
 pub returns-then-k-eq0 : goal.returns-then-k-eq0

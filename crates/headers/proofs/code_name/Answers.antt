@@ -1,11 +1,8 @@
 -- `headers::code_name` meets its contract: by what its code reads as, and then by the code's fault.
 -- Assumes nothing.
-use borrow.Author.Rules.{rules}
 use borrow.Author.Tests.{eq-eqb, ne_eqb}
 use mathlib.Core.Bool.{true, false}
 use Rattle.headers.proofs.Laws.{code_is, code_refused}
-use Rattle.std.proofs.Common.{not}
-use Rattle.std.proofs.Common.{ap}
 use Rattle.headers.proofs.code_name.Goals as goal
 
 pub returns-then-fault-ne-NONE : goal.returns-then-fault-ne-NONE

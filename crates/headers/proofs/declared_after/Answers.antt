@@ -1,11 +1,8 @@
 -- `headers::declared_after` meets its contract, by whether the value declares.
 -- Assumes nothing.
-use borrow.Author.Rules.{rules}
 use mathlib.Core.Path.{◌∙◌}
 use mathlib.Core.Bool.{true, false}
 use Rattle.headers.proofs.Laws.{declared_is}
-use Rattle.std.proofs.Common.{not}
-use Rattle.std.proofs.Common.{ap}
 use Rattle.headers.proofs.declared_after.Goals as goal
 
 pub returns-then-declares : goal.returns-then-declares

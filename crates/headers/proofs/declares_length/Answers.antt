@@ -1,10 +1,8 @@
 -- `headers::declares_length` meets its contract: each arm is a case of the definition.
 -- Assumes nothing.
-use borrow.Author.Rules.{rules}
 use mathlib.Core.Path.{sym, ap, ◌∙◌}
 use Rattle.packet.specs.declared.Direction.{Direction}
 use Rattle.headers.specs.Headers.{declares}
-use Rattle.std.proofs.Common.{not}
 use Rattle.headers.proofs.declares_length.Goals as goal
 
 pub returns-in-ToContainer : goal.returns-in-ToContainer

@@ -1,12 +1,10 @@
 -- `headers::header_at` meets its contract, by what its name reads as.
 -- Assumes nothing.
-use borrow.Author.Rules.{rules}
 use mathlib.Core.Path.{◌≡◌, sym, ap, ◌∙◌}
 use mathlib.Core.Bool.{Bool}
 use Rattle.headers.specs.declared.NameRead.{NameRead}
 use Rattle.headers.specs.Headers.{header_value_at, header_of, header_at}
 use Rattle.headers.proofs.Laws.{header_is}
-use Rattle.std.proofs.Common.{not}
 use Rattle.headers.proofs.header_at.Goals as goal
 
 pub returns-in-Refused : goal.returns-in-Refused

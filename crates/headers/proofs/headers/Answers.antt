@@ -2,14 +2,8 @@
 -- Assumes nothing.
 use native.Mathlib.Omega.{arith}
 use mathlib.Core.Path.{sym, ◌∙◌}
-use Prim.Native.Nat.{◌-◌}
 use borrow.Author.Rules.{rules}
-use lib.ListN.{length}
-use Rattle.headers.specs.declared.HeaderRead.{HeaderRead}
-use Rattle.headers.proofs.Laws.{header_inside, Reading, reading_start, reading_turn, reading_stop, reading_done}
-use Rattle.headers.specs.Facts.{HeaderInside}
-use Rattle.std.proofs.Common.{not}
-use Rattle.std.proofs.Common.{ap}
+use Rattle.headers.proofs.Laws.{header_inside, reading_start, reading_turn, reading_stop, reading_done}
 use Rattle.headers.proofs.headers.Goals as goal
 
 pub loop-i-init : goal.loop-i-init

@@ -1,11 +1,8 @@
 -- `headers::spelled_name` meets its contract, by what the name's length reads as.
 -- Assumes nothing.
-use borrow.Author.Rules.{rules}
 use mathlib.Core.Path.{sym, ◌∙◌}
 use Rattle.wire.specs.declared.read.NumberRead.{NumberRead}
 use Rattle.headers.proofs.Laws.{spelled_by}
-use Rattle.std.proofs.Common.{not}
-use Rattle.std.proofs.Common.{ap}
 use Rattle.headers.proofs.spelled_name.Goals as goal
 
 pub returns-in-Refused : goal.returns-in-Refused

@@ -1,13 +1,10 @@
 -- `headers::text_fault` meets its contract: a name that has no fault holds no barred byte, and any other was looked through for one.
 -- Assumes nothing.
-use borrow.Author.Rules.{rules}
 use native.Mathlib.Omega.{arith}
 use mathlib.Core.Path.{sym, ◌∙◌}
 use mathlib.Core.Bool.{true, false}
 use Rattle.names.proofs.Codes.{spelled_clear}
 use Rattle.headers.proofs.Laws.{fault_is}
-use Rattle.std.proofs.Common.{not}
-use Rattle.std.proofs.Common.{ap}
 use Rattle.headers.proofs.text_fault.Goals as goal
 
 pub returns-then-fault-eq-NONE : goal.returns-then-fault-eq-NONE

@@ -1,12 +1,10 @@
 -- `headers::value_at` meets its contract, by what the value's string reads as.
 -- Assumes nothing.
-use borrow.Author.Rules.{rules}
 use mathlib.Core.Path.{◌≡◌, refl, sym, ap, ◌∙◌}
 use mathlib.Core.Bool.{true, false}
 use Rattle.wire.specs.declared.read.StringRead.{StringRead}
 use Rattle.headers.specs.Headers.{declared_after, header_valued, header_value_of, header_value_at}
 use Rattle.headers.proofs.Laws.{value_is, part_none}
-use Rattle.std.proofs.Common.{not}
 use Rattle.headers.proofs.value_at.Goals as goal
 
 pub returns-in-Refused : goal.returns-in-Refused

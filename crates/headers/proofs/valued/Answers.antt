@@ -1,9 +1,7 @@
 -- `headers::headerValued` meets its contract: each arm is a case of the definition.
 -- Assumes nothing.
-use borrow.Author.Rules.{rules}
 use mathlib.Core.Path.{sym, ap}
 use Rattle.headers.specs.Headers.{header_valued}
-use Rattle.std.proofs.Common.{not}
 use Rattle.headers.proofs.valued.Goals as goal
 
 pub returns-in-Refused : goal.returns-in-Refused

@@ -1,12 +1,9 @@
 -- `payload::kind_of` meets its contract: by whether the packet is read as a body packet, and by what its code reads as.
 -- Assumes nothing.
-use borrow.Author.Rules.{rules}
 use mathlib.Core.Path.{refl, sym, ◌∙◌}
 use mathlib.Core.Bool.{true, false}
 use Rattle.wire.specs.Field.{byte_at}
 use Rattle.payload.proofs.Laws.{kind_is}
-use Rattle.std.proofs.Common.{not}
-use Rattle.std.proofs.Common.{ap}
 use Rattle.payload.proofs.kind_of.Goals as goal
 
 pub returns-then-context : goal.returns-then-context

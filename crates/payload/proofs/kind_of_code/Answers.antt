@@ -1,10 +1,8 @@
 -- `payload::kind_of_code` meets its contract: by what the code reads as, and then by the direction.
 -- Assumes nothing.
-use borrow.Author.Rules.{rules}
 use mathlib.Core.Path.{sym, ap, ◌∙◌}
 use Rattle.packet.specs.declared.Direction.{Direction}
 use Rattle.payload.specs.Code.{code_kind, kind_of_code}
-use Rattle.std.proofs.Common.{not}
 use Rattle.payload.proofs.kind_of_code.Goals as goal
 
 pub returns-in-Refused : goal.returns-in-Refused

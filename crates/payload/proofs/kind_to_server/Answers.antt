@@ -1,11 +1,8 @@
 -- `payload::kind_to_server` meets its contract, by the code that the arm has.
 -- Assumes nothing.
-use borrow.Author.Tests.{ne_eqb}
 use mathlib.Core.Path.{sym, ap}
 use Rattle.packet.specs.declared.Direction.{Direction}
-use Rattle.connection.specs.declared.Kind.{Kind}
-use Rattle.payload.specs.Code.{code_of, code_kind}
-use Rattle.std.proofs.Common.{not}
+use Rattle.payload.specs.Code.{code_kind}
 use Rattle.std.proofs.lemmas.Grind.{common_steps}
 use Rattle.std.proofs.Common.{arith}
 use Rattle.payload.proofs.kind_to_server.Goals as goal

@@ -1,13 +1,9 @@
 -- `places::fill` meets its contract: the loop copies the places over the table's start.
 -- Assumes nothing.
-use Prim.Native.Nat.{◌-◌}
 use native.Mathlib.Nat.{zero-add}
 use mathlib.Core.Path.{sym}
 use borrow.Author.Rules.{rules}
-use lib.ListN.{length}
-use Rattle.wire.proofs.Copying.{Copying, copying_start, copying_turn, copying_end}
-use Rattle.std.proofs.Common.{not}
-use Rattle.std.proofs.Common.{ap}
+use Rattle.wire.proofs.Copying.{copying_start, copying_turn, copying_end}
 use Rattle.places.proofs.fill.Goals as goal
 
 pub loop-i-init : goal.loop-i-init

@@ -1,13 +1,8 @@
 -- `places::fill` meets its contract: the loop copies the places over the table's start.
 -- Assumes nothing.
 use Prim.Native.Nat.{◌-◌}
-use native.Mathlib.Nat.{zero-add}
-use mathlib.Core.Path.{sym}
-use borrow.Author.Rules.{rules}
 use lib.ListN.{length}
-use Rattle.wire.proofs.Copying.{Copying, copying_start, copying_turn, copying_end}
-use Rattle.std.proofs.Common.{not}
-use Rattle.std.proofs.Common.{ap}
+use Rattle.wire.proofs.Copying.{Copying}
 use Rattle.places.proofs.fill.Given as goal
 
 abbrev pub invariant-loop-i : goal.invariant-loop-i

@@ -3,8 +3,6 @@
 use mathlib.Core.Path.{sym}
 use borrow.Author.Rules.{rules}
 use lib.Seq.{take_all, length-take-le}
-use Rattle.std.proofs.Common.{not}
-use Rattle.std.proofs.Common.{ap}
 use Rattle.places.proofs.first.Goals as goal
 
 pub returns-then-list-count : goal.returns-then-list-count

@@ -1,11 +1,8 @@
 -- `places::put_pair` meets its contract: two stores, one behind the other.
 -- Assumes nothing.
 use native.Mathlib.Omega.{arith}
-use borrow.Author.Rules.{rules}
 use lib.ListN.{length-set}
 use Rattle.wire.proofs.Bytes.{over_two}
-use Rattle.std.proofs.Common.{not}
-use Rattle.std.proofs.Common.{ap}
 use Rattle.places.proofs.put_pair.Goals as goal
 
 pub bounds-table-at-2 : goal.bounds-table-at-2

@@ -4,8 +4,6 @@ use mathlib.Core.Path.{sym, ap, ◌∙◌}
 use Rattle.connection.specs.Cycle.{sized_step}
 use Rattle.reader.specs.Private.{sizing}
 use Rattle.reader.proofs.Laws.{sizing_is}
-use borrow.Author.Rules.{rules}
-use Rattle.std.proofs.Common.{not}
 use Rattle.reader.proofs.accept.Goals as goal
 
 pub returns-in-Refused : goal.returns-in-Refused

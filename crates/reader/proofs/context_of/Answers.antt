@@ -3,8 +3,6 @@
 use mathlib.Core.Path.{sym, ap}
 use Rattle.packet.specs.declared.Direction.{Direction}
 use Rattle.reader.specs.Reading.{context_of}
-use borrow.Author.Rules.{rules}
-use Rattle.std.proofs.Common.{not}
 use Rattle.reader.proofs.context_of.Goals as goal
 
 pub returns-in-ToContainer : goal.returns-in-ToContainer

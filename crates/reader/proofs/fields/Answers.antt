@@ -3,9 +3,6 @@
 use mathlib.Core.Path.{refl}
 use Rattle.connection.specs.declared.Kind.{Kind}
 use Rattle.reader.proofs.Laws.{plain_is}
-use borrow.Author.Rules.{rules}
-use Rattle.std.proofs.Common.{not}
-use Rattle.std.proofs.Common.{ap}
 use Rattle.reader.proofs.fields.Goals as goal
 
 pub returns-in-CPing : goal.returns-in-CPing

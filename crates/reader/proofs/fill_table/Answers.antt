@@ -7,9 +7,6 @@ use borrow.Author.Tests.{le-leb, lt-leb}
 use Rattle.reader.specs.Meaning.{received_meaning}
 use Rattle.reader.specs.Private.{needed}
 use Rattle.reader.proofs.Laws.{room_short, room_filled, laid_first, first_few}
-use borrow.Author.Rules.{rules}
-use Rattle.std.proofs.Common.{not}
-use Rattle.std.proofs.Common.{ap}
 use Rattle.reader.proofs.fill_table.Goals as goal
 
 pub returns-then-table-count : goal.returns-then-table-count

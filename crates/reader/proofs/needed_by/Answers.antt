@@ -4,8 +4,6 @@ use mathlib.Core.Path.{sym, ap, ◌∙◌}
 use Rattle.reader.specs.declared.Received.{Received}
 use Rattle.reader.specs.Meaning.{received_meaning}
 use Rattle.reader.specs.Private.{needed}
-use borrow.Author.Rules.{rules}
-use Rattle.std.proofs.Common.{not}
 use Rattle.reader.proofs.needed_by.Goals as goal
 
 pub returns-in-Accepted : goal.returns-in-Accepted

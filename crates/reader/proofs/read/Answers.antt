@@ -3,9 +3,6 @@
 use mathlib.Core.Path.{sym, ◌∙◌}
 use Rattle.reader.proofs.Framing.{whole_fits}
 use Rattle.reader.proofs.Laws.{read_needs, read_refused, read_whole}
-use borrow.Author.Rules.{rules}
-use Rattle.std.proofs.Common.{not}
-use Rattle.std.proofs.Common.{ap}
 use Rattle.reader.proofs.read.Goals as goal
 
 pub whole-requires : goal.whole-requires

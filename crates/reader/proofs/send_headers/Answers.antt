@@ -2,9 +2,6 @@
 -- Assumes nothing.
 use Rattle.connection.specs.declared.Kind.{Kind}
 use Rattle.reader.proofs.Laws.{listed_is}
-use borrow.Author.Rules.{rules}
-use Rattle.std.proofs.Common.{not}
-use Rattle.std.proofs.Common.{ap}
 use Rattle.reader.proofs.send_headers.Goals as goal
 
 pub returns : goal.returns

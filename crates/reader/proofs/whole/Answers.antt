@@ -1,11 +1,7 @@
 -- `reader::whole` meets its contract, by the kind and by whether it is allowed.
 -- Assumes nothing.
 use mathlib.Core.Path.{sym, ◌∙◌}
-use borrow.Author.Tests.{not-true, not-false}
 use Rattle.reader.proofs.Laws.{whole_refused, whole_not, whole_kind}
-use borrow.Author.Rules.{rules}
-use Rattle.std.proofs.Common.{not}
-use Rattle.std.proofs.Common.{ap}
 use Rattle.reader.proofs.whole.Goals as goal
 
 pub returns-then-not-allows : goal.returns-then-not-allows

@@ -7,8 +7,6 @@ use Rattle.packet.specs.declared.Packet.{Packet}
 use Rattle.reader.specs.Reading.{context_of, accepting}
 use Rattle.short_ways.specs.Short.{answered}
 use Rattle.short_ways.proofs.ShortWays.{part_stepped}
-use borrow.Author.Rules.{rules}
-use Rattle.std.proofs.Common.{not}
 use Rattle.short_ways.proofs.body.Goals as goal
 
 pub returns-in-Refused : goal.returns-in-Refused

@@ -2,11 +2,7 @@
 -- Assumes nothing.
 use mathlib.Core.Path.{sym, ◌∙◌}
 use mathlib.Core.Bool.{true, false}
-use borrow.Author.Tests.{not-true, not-false}
 use Rattle.short_ways.proofs.ShortWays.{body_size_by}
-use borrow.Author.Rules.{rules}
-use Rattle.std.proofs.Common.{not}
-use Rattle.std.proofs.Common.{ap}
 use Rattle.short_ways.proofs.body_size.Goals as goal
 
 pub returns-then-not-is_body_due : goal.returns-then-not-is_body_due

@@ -4,14 +4,11 @@ use mathlib.Core.Path.{◌≡◌, refl, sym, ap, ◌∙◌}
 use mathlib.Core.Bool.{Bool, true, false}
 use mathlib.Core.List.{List}
 use Prim.Native.Nat.{ℕ}
-use borrow.Author.Tests.{not-true, not-false}
 use Rattle.wire.specs.Pick.{pick}
 use Rattle.wire.specs.Field.{byte_at}
 use Rattle.short_ways.specs.Short.{is_chunk, chunk_size}
 use Rattle.short_ways.proofs.ShortWays.{chunk_size_by}
-use borrow.Author.Rules.{rules}
 use Rattle.wire.specs.Packet.{code_place}
-use Rattle.std.proofs.Common.{not}
 use Rattle.short_ways.proofs.chunk_size.Goals as goal
 
 pub returns-then-not-allows : goal.returns-then-not-allows

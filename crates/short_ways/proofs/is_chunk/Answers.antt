@@ -2,8 +2,6 @@
 -- Assumes nothing.
 use mathlib.Core.Path.{sym, ap, ◌∙◌}
 use Rattle.short_ways.specs.Short.{is_chunk}
-use borrow.Author.Rules.{rules}
-use Rattle.std.proofs.Common.{not}
 use Rattle.short_ways.proofs.is_chunk.Goals as goal
 
 pub returns-in-Refused : goal.returns-in-Refused

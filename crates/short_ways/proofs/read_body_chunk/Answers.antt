@@ -4,9 +4,6 @@ use mathlib.Core.Path.{refl, ◌∙◌}
 use Rattle.packet.specs.declared.Direction.{Direction}
 use Rattle.connection.specs.declared.Kind.{Kind}
 use Rattle.short_ways.proofs.ShortWays.{short_chunk, short_other, short_answers}
-use borrow.Author.Rules.{rules}
-use Rattle.std.proofs.Common.{not}
-use Rattle.std.proofs.Common.{ap}
 use Rattle.short_ways.proofs.read_body_chunk.Goals as goal
 
 pub returns-then-size-eq0 : goal.returns-then-size-eq0

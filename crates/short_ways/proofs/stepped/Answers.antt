@@ -2,8 +2,6 @@
 -- Assumes nothing.
 use mathlib.Core.Path.{sym, ap}
 use Rattle.short_ways.specs.Private.{stepped_part}
-use borrow.Author.Rules.{rules}
-use Rattle.std.proofs.Common.{not}
 use Rattle.short_ways.proofs.stepped.Goals as goal
 
 pub returns-in-Refused : goal.returns-in-Refused

@@ -2,8 +2,6 @@
 -- Assumes nothing.
 use mathlib.Core.Path.{sym, ap, ◌∙◌}
 use Rattle.short_ways.specs.Short.{whole_size}
-use borrow.Author.Rules.{rules}
-use Rattle.std.proofs.Common.{not}
 use Rattle.short_ways.proofs.whole_size.Goals as goal
 
 pub returns-in-Needs : goal.returns-in-Needs

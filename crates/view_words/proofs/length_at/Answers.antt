@@ -2,9 +2,6 @@
 -- Assumes nothing.
 use mathlib.Core.Path.{sym, ◌∙◌}
 use Rattle.views.proofs.Laws.{number_is}
-use borrow.Author.Rules.{rules}
-use Rattle.std.proofs.Common.{not}
-use Rattle.std.proofs.Common.{ap}
 use Rattle.view_words.proofs.length_at.Goals as goal
 
 pub returns-in-Refused : goal.returns-in-Refused

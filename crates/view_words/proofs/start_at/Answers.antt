@@ -6,9 +6,6 @@ use Prim.Native.Nat.{◌+◌, ◌≤◌}
 use lib.ListN.{length}
 use Rattle.wire.proofs.Bytes.{room_yes}
 use Rattle.view_words.specs.View.{length_size, text_start}
-use borrow.Author.Rules.{rules}
-use Rattle.std.proofs.Common.{not}
-use Rattle.std.proofs.Common.{ap}
 use Rattle.view_words.proofs.start_at.Goals as goal
 
 pub overflow_add-result : goal.overflow_add-result

@@ -2,9 +2,6 @@
 -- Assumes nothing.
 use mathlib.Core.Path.{◌∙◌, refl}
 use Rattle.view_words.specs.View.{text_fault}
-use borrow.Author.Rules.{rules}
-use Rattle.std.proofs.Common.{not}
-use Rattle.std.proofs.Common.{ap}
 use Rattle.view_words.proofs.text_fault.Goals as goal
 
 pub returns : goal.returns

@@ -5,9 +5,7 @@ use native.Mathlib.Omega.{arith}
 use lib.ListN.{length}
 use Rattle.views.proofs.Laws.{null_is}
 use Rattle.view_words.proofs.Views.{start_within, text_most, words_are}
-use borrow.Author.Rules.{rules}
 use Rattle.wire.specs.Field.{boolean_number}
-use Rattle.std.proofs.Common.{not}
 use Rattle.view_words.proofs.text_words.Goals as goal
 
 pub overflow_cast-start : goal.overflow_cast-start

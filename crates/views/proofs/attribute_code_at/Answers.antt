@@ -3,8 +3,6 @@
 use mathlib.Core.Path.{sym, ap, ◌∙◌}
 use Rattle.wire.specs.Field.{byte_at}
 use Rattle.views.proofs.Laws.{byte_is}
-use borrow.Author.Rules.{rules}
-use Rattle.std.proofs.Common.{not}
 use Rattle.views.proofs.attribute_code_at.Goals as goal
 
 pub returns-in-Refused : goal.returns-in-Refused

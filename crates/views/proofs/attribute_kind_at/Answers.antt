@@ -4,9 +4,7 @@ use mathlib.Core.Path.{sym, ap, ◌∙◌}
 use Prim.Native.Nat.{ℕ, ◌≤◌}
 use native.Mathlib.Omega.{arith}
 use lib.ListN.{length, get_or, get_or-eq_default}
-use borrow.Author.Rules.{rules}
 use Rattle.names.specs.Attribute.{attribute_kind}
-use Rattle.std.proofs.Common.{not}
 use Rattle.views.proofs.attribute_kind_at.Goals as goal
 
 pub returns-then-at-packet : goal.returns-then-at-packet

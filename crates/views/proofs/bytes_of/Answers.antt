@@ -3,8 +3,6 @@
 use mathlib.Core.Path.{ap, ◌∙◌}
 use Prim.Native.Nat.{ℕ}
 use Rattle.wire.specs.Bytes.{part}
-use borrow.Author.Rules.{rules}
-use Rattle.std.proofs.Common.{not}
 use Rattle.views.proofs.bytes_of.Goals as goal
 
 pub returns : goal.returns

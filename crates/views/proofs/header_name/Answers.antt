@@ -4,8 +4,6 @@ use mathlib.Core.Path.{ap, ◌∙◌}
 use Rattle.names.specs.Names.{name_for}
 use Rattle.names.specs.Row.{padded}
 use Rattle.names.specs.declared.NameList.{NameList}
-use borrow.Author.Rules.{rules}
-use Rattle.std.proofs.Common.{not}
 use Rattle.views.proofs.header_name.Goals as goal
 
 pub returns : goal.returns

@@ -2,9 +2,6 @@
 -- Assumes nothing.
 use mathlib.Core.Path.{sym, ◌∙◌}
 use Rattle.views.proofs.Laws.{number_is}
-use borrow.Author.Rules.{rules}
-use Rattle.std.proofs.Common.{not}
-use Rattle.std.proofs.Common.{ap}
 use Rattle.views.proofs.integer_from.Goals as goal
 
 pub returns-in-Refused : goal.returns-in-Refused

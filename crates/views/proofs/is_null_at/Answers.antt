@@ -1,9 +1,6 @@
 -- `reader::view::is_null_at` meets its contract, by the integer at the place.
 -- Assumes nothing.
 use Rattle.views.proofs.Laws.{null_is}
-use borrow.Author.Rules.{rules}
-use Rattle.std.proofs.Common.{not}
-use Rattle.std.proofs.Common.{ap}
 use Rattle.views.proofs.is_null_at.Goals as goal
 
 pub returns : goal.returns

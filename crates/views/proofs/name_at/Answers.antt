@@ -9,9 +9,6 @@ use lib.ListN.{length, get_or}
 use Rattle.wire.proofs.Bytes.{room_yes}
 use Rattle.names.specs.Header.{begins_code}
 use Rattle.views.proofs.Laws.{name_is}
-use borrow.Author.Rules.{rules}
-use Rattle.std.proofs.Common.{not}
-use Rattle.std.proofs.Common.{ap}
 use Rattle.views.proofs.name_at.Goals as goal
 
 pub bounds-packet-index : goal.bounds-packet-index

@@ -7,7 +7,6 @@ use lib.ListN.{length}
 use borrow.Author.Tests.{eq-eqb, ne_eqb}
 use Rattle.wire.proofs.Bytes.{room_in, room_out}
 use Rattle.views.proofs.Laws.{text_gone, text_null, text_is}
-use borrow.Author.Rules.{rules}
 use Rattle.std.proofs.Common.{not}
 use Rattle.std.proofs.Common.{ap}
 use Rattle.views.proofs.text_from.Goals as goal

@@ -2,11 +2,8 @@
 -- Assumes nothing.
 use mathlib.Core.Path.{refl, sym, ◌∙◌}
 use mathlib.Core.Bool.{true, false}
-use borrow.Author.Rules.{rules}
 use Rattle.wire.specs.Field.{holds_barred}
 use Rattle.wire.proofs.Field.{allowed_is}
-use Rattle.std.proofs.Common.{not}
-use Rattle.std.proofs.Common.{ap}
 use Rattle.wire.proofs.allows_string.Goals as goal
 
 pub returns-then-lacks : goal.returns-then-lacks

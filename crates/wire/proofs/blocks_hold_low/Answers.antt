@@ -1,16 +1,12 @@
 -- `wire::blocks_hold_low` meets its contract. The invariant: none of the first i bytes is low.
 -- Assumes nothing.
-use mathlib.Core.Path.{◌≡◌, sym, ◌∙◌}
-use mathlib.Core.Bool.{false}
+use mathlib.Core.Path.{sym, ◌∙◌}
 use borrow.Author.Rules.{rules}
 use native.Mathlib.Omega.{arith}
-use Prim.Native.Nat.{◌-◌, ◌≤◌}
+use Prim.Native.Nat.{◌-◌}
 use lib.ListN.{length}
-use Rattle.wire.specs.Bytes.{part}
-use Rattle.wire.specs.Private.{low, holds_low}
+use Rattle.wire.specs.Private.{low}
 use Rattle.wire.proofs.Blocks.{any_none, any_more, any_within, any_last}
-use Rattle.std.proofs.Common.{not}
-use Rattle.std.proofs.Common.{ap}
 use Rattle.wire.proofs.blocks_hold_low.Goals as goal
 
 pub loop-i-init : goal.loop-i-init

@@ -1,16 +1,11 @@
 -- `wire::blocks_hold_low` meets its contract. The invariant: none of the first i bytes is low.
 -- Assumes nothing.
-use mathlib.Core.Path.{◌≡◌, sym, ◌∙◌}
+use mathlib.Core.Path.{◌≡◌}
 use mathlib.Core.Bool.{false}
-use borrow.Author.Rules.{rules}
-use native.Mathlib.Omega.{arith}
 use Prim.Native.Nat.{◌-◌, ◌≤◌}
 use lib.ListN.{length}
 use Rattle.wire.specs.Bytes.{part}
-use Rattle.wire.specs.Private.{low, holds_low}
-use Rattle.wire.proofs.Blocks.{any_none, any_more, any_within, any_last}
-use Rattle.std.proofs.Common.{not}
-use Rattle.std.proofs.Common.{ap}
+use Rattle.wire.specs.Private.{holds_low}
 use Rattle.wire.proofs.blocks_hold_low.Given as goal
 
 abbrev pub invariant-loop-i : goal.invariant-loop-i

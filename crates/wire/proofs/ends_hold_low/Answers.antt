@@ -1,13 +1,10 @@
 -- `wire::ends_hold_low` meets its contract: the two blocks cover the text.
 -- Assumes nothing.
-use borrow.Author.Rules.{rules}
 use native.Mathlib.Omega.{arith}
 use Prim.Native.Nat.{◌-◌}
 use lib.ListN.{length}
 use Rattle.wire.specs.Private.{low}
 use Rattle.wire.proofs.Blocks.{any_ends}
-use Rattle.std.proofs.Common.{not}
-use Rattle.std.proofs.Common.{ap}
 use Rattle.wire.proofs.ends_hold_low.Goals as goal
 
 pub returns : goal.returns

@@ -1,14 +1,9 @@
 -- `wire::finds_barred` meets its contract. The invariant: what was found, or what is left of the text, decides as the whole text does.
 -- Assumes nothing.
-use mathlib.Core.Path.{◌≡◌, refl}
+use mathlib.Core.Path.{refl}
 use borrow.Author.Rules.{rules}
-use Prim.Native.Nat.{◌-◌, ◌≤◌}
-use lib.ListN.{length, drop}
-use Rattle.wire.specs.Pick.{either}
-use Rattle.wire.specs.Field.{barred, holds_barred}
+use Rattle.wire.specs.Field.{barred}
 use Rattle.wire.proofs.Scan.{any_step, any_end}
-use Rattle.std.proofs.Common.{not}
-use Rattle.std.proofs.Common.{ap}
 use Rattle.wire.proofs.finds_barred.Goals as goal
 
 pub loop-i-init : goal.loop-i-init

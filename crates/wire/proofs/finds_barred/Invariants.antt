@@ -1,14 +1,10 @@
 -- `wire::finds_barred` meets its contract. The invariant: what was found, or what is left of the text, decides as the whole text does.
 -- Assumes nothing.
-use mathlib.Core.Path.{◌≡◌, refl}
-use borrow.Author.Rules.{rules}
+use mathlib.Core.Path.{◌≡◌}
 use Prim.Native.Nat.{◌-◌, ◌≤◌}
 use lib.ListN.{length, drop}
 use Rattle.wire.specs.Pick.{either}
-use Rattle.wire.specs.Field.{barred, holds_barred}
-use Rattle.wire.proofs.Scan.{any_step, any_end}
-use Rattle.std.proofs.Common.{not}
-use Rattle.std.proofs.Common.{ap}
+use Rattle.wire.specs.Field.{holds_barred}
 use Rattle.wire.proofs.finds_barred.Given as goal
 
 abbrev pub invariant-loop-i : goal.invariant-loop-i

@@ -6,8 +6,6 @@ use Prim.Native.Nat.{◌+◌}
 use borrow.Author.Rules.{rules}
 use borrow.Author.Tests.{lt-leb}
 use Rattle.wire.proofs.Bytes.{room_shift}
-use Rattle.std.proofs.Common.{not}
-use Rattle.std.proofs.Common.{ap}
 use Rattle.wire.proofs.has_room.Goals as goal
 
 pub returns-then-size-count : goal.returns-then-size-count

@@ -1,10 +1,7 @@
 -- `wire::holds_barred` meets its contract: a text without a low byte holds no barred one, and any other was looked through.
 -- Assumes nothing.
 use mathlib.Core.Path.{sym, ◌∙◌}
-use borrow.Author.Rules.{rules}
 use Rattle.wire.proofs.Clear.{none_barred}
-use Rattle.std.proofs.Common.{not}
-use Rattle.std.proofs.Common.{ap}
 use Rattle.wire.proofs.holds_barred.Goals as goal
 
 pub returns : goal.returns

@@ -5,8 +5,6 @@ use borrow.Author.Rules.{rules}
 use lib.ListN.{length}
 use Rattle.wire.specs.Private.{low}
 use Rattle.wire.proofs.Blocks.{any_whole}
-use Rattle.std.proofs.Common.{not}
-use Rattle.std.proofs.Common.{ap}
 use Rattle.wire.proofs.holds_low.Goals as goal
 
 pub returns : goal.returns

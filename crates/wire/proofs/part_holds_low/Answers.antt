@@ -3,15 +3,12 @@
 use mathlib.Core.Path.{◌≡◌, refl, sym, ap, ◌∙◌}
 use borrow.Author.Rules.{rules}
 use native.Mathlib.Omega.{arith}
-use Prim.Native.Nat.{◌-◌, ◌≤◌}
-use lib.ListN.{length, drop}
-use Rattle.wire.specs.Pick.{either}
+use lib.ListN.{length}
 use Rattle.wire.specs.Bytes.{part}
-use Rattle.wire.specs.Private.{low, holds_low}
+use Rattle.wire.specs.Private.{low}
 use Rattle.wire.proofs.Bytes.{length_part}
 use Rattle.wire.proofs.Scan.{any_step, any_end}
 use Rattle.wire.proofs.Blocks.{part_element}
-use Rattle.std.proofs.Common.{not}
 use Rattle.wire.proofs.part_holds_low.Goals as goal
 
 pub loop-i-init : goal.loop-i-init

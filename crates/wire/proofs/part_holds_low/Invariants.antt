@@ -1,17 +1,11 @@
 -- `wire::part_holds_low` meets its contract. The invariant: what was found, or what is left of the part, decides as the whole part does.
 -- Assumes nothing.
-use mathlib.Core.Path.{◌≡◌, refl, sym, ap, ◌∙◌}
-use borrow.Author.Rules.{rules}
-use native.Mathlib.Omega.{arith}
+use mathlib.Core.Path.{◌≡◌}
 use Prim.Native.Nat.{◌-◌, ◌≤◌}
-use lib.ListN.{length, drop}
+use lib.ListN.{drop}
 use Rattle.wire.specs.Pick.{either}
 use Rattle.wire.specs.Bytes.{part}
-use Rattle.wire.specs.Private.{low, holds_low}
-use Rattle.wire.proofs.Bytes.{length_part}
-use Rattle.wire.proofs.Scan.{any_step, any_end}
-use Rattle.wire.proofs.Blocks.{part_element}
-use Rattle.std.proofs.Common.{not}
+use Rattle.wire.specs.Private.{holds_low}
 use Rattle.wire.proofs.part_holds_low.Given as goal
 
 abbrev pub invariant-loop-i : goal.invariant-loop-i

@@ -5,8 +5,6 @@ use Prim.Native.Nat.{◌+◌}
 use lib.ListN.{length}
 use borrow.Author.Rules.{rules}
 use Rattle.wire.proofs.Bytes.{part_to, part_rest, part_past, part_none}
-use Rattle.std.proofs.Common.{not}
-use Rattle.std.proofs.Common.{ap}
 use Rattle.wire.proofs.part_of.Goals as goal
 
 pub returns-then-n-start : goal.returns-then-n-start

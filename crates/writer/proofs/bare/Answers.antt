@@ -1,7 +1,6 @@
 -- `writer::bare` meets its contract: what is ready to be sent is written.
 -- Assumes nothing.
 use native.Mathlib.Omega.{arith}
-use borrow.Author.Rules.{rules}
 use mathlib.Core.Path.{sym, ap, subst, ◌∙◌}
 use Rattle.wire.specs.Bytes.{over}
 use Rattle.wire.specs.Packet.{Fits}
@@ -9,7 +8,6 @@ use Rattle.building.specs.Field.{opening, size_told}
 use Rattle.building.proofs.Sizes.{told_exact}
 use Rattle.writer.specs.Sending.{bare_payload, bare_call}
 use Rattle.writer.proofs.Laws.{Sends, sends, bare_size}
-use Rattle.std.proofs.Common.{not}
 use Rattle.writer.proofs.bare.Goals as goal
 
 pub open-requires : goal.open-requires

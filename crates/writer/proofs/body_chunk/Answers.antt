@@ -1,13 +1,10 @@
 -- `writer::body_chunk` meets its contract: what is ready to be sent is written.
 -- Assumes nothing.
-use borrow.Author.Rules.{rules}
 use mathlib.Core.Path.{◌∙◌}
 use lib.ListN.{length}
 use Rattle.connection.specs.declared.Move.{Move}
 use Rattle.writer.specs.Sending.{chunk_payload, chunk_call}
 use Rattle.writer.proofs.Laws.{Sends, sends}
-use Rattle.std.proofs.Common.{not}
-use Rattle.std.proofs.Common.{ap}
 use Rattle.writer.proofs.body_chunk.Goals as goal
 
 pub write_body_chunk-requires : goal.write_body_chunk-requires

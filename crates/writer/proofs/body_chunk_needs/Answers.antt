@@ -1,12 +1,10 @@
 -- `writer::body_chunk_needs` meets its contract: a string right behind the code.
 -- Assumes nothing.
 use native.Mathlib.Omega.{arith}
-use borrow.Author.Rules.{rules}
 use mathlib.Core.Path.{ap, ◌∙◌}
 use lib.ListN.{length}
 use Rattle.building.specs.Field.{size_told}
 use Rattle.writer.proofs.Laws.{chunk_row}
-use Rattle.std.proofs.Common.{not}
 use Rattle.writer.proofs.body_chunk_needs.Goals as goal
 
 pub returns : goal.returns

@@ -1,14 +1,12 @@
 -- `writer::body_needs` meets its contract, by whether there are bytes.
 -- Assumes nothing.
 use native.Mathlib.Omega.{arith}
-use borrow.Author.Rules.{rules}
 use mathlib.Core.Path.{sym, ap, ◌∙◌}
 use lib.ListN.{length}
 use Rattle.building.specs.Field.{size_told}
 use Rattle.building.proofs.Sizes.{told_exact}
 use Rattle.writer.proofs.Laws.{body_none, body_row}
 use Rattle.wire.specs.Packet.{payload_place}
-use Rattle.std.proofs.Common.{not}
 use Rattle.writer.proofs.body_needs.Goals as goal
 
 pub returns-then-bytes-eq0 : goal.returns-then-bytes-eq0

@@ -1,14 +1,12 @@
 -- `writer::end` meets its contract: what is ready to be sent is written.
 -- Assumes nothing.
 use native.Mathlib.Omega.{arith}
-use borrow.Author.Rules.{rules}
 use mathlib.Core.Path.{sym, ap, ◌∙◌}
 use Rattle.connection.specs.declared.Move.{Move}
 use Rattle.building.specs.Field.{size_told}
 use Rattle.building.proofs.Sizes.{told_exact}
 use Rattle.writer.specs.Sending.{end_payload, end_call}
 use Rattle.writer.proofs.Laws.{end_size, Sends, sends}
-use Rattle.std.proofs.Common.{not}
 use Rattle.writer.proofs.end.Goals as goal
 
 pub write_end-requires : goal.write_end-requires

@@ -1,14 +1,11 @@
 -- `writer::get_body` meets its contract: what is ready to be sent is written.
 -- Assumes nothing.
 use native.Mathlib.Omega.{arith}
-use borrow.Author.Rules.{rules}
 use mathlib.Core.Path.{sym, ◌∙◌}
 use Rattle.connection.specs.declared.Move.{Move}
 use Rattle.building.proofs.Sizes.{told_exact}
 use Rattle.writer.specs.Sending.{get_payload, get_call}
 use Rattle.writer.proofs.Laws.{Sends, sends}
-use Rattle.std.proofs.Common.{not}
-use Rattle.std.proofs.Common.{ap}
 use Rattle.writer.proofs.get_body.Goals as goal
 
 pub write_get_body-requires : goal.write_get_body-requires

@@ -6,8 +6,6 @@ use mathlib.Core.Path.{sym, ap}
 use Rattle.connection.specs.declared.Step.{Step}
 use Rattle.writer.specs.Private.{ready_of}
 use Rattle.writer.proofs.Laws.{ready_next}
-use borrow.Author.Rules.{rules}
-use Rattle.std.proofs.Common.{not}
 use Rattle.writer.proofs.ready.Goals as goal
 
 pub returns-then-found-ne-NONE : goal.returns-then-found-ne-NONE

@@ -1,7 +1,6 @@
 -- `writer::write_body` meets its contract: the first four bytes; behind them, unless there are none, the number of the bytes and the bytes.
 -- Assumes nothing.
 use native.Mathlib.Omega.{arith}
-use borrow.Author.Rules.{rules}
 use mathlib.Core.Path.{sym, ap, ◌∙◌}
 use mathlib.Core.List.{◌++◌}
 use Prim.Native.Nat.{◌+◌}
@@ -11,7 +10,6 @@ use Rattle.wire.specs.Packet.{packet_head, Fits}
 use Rattle.packet.specs.declared.Direction.{Direction}
 use Rattle.wire.proofs.Rows.{fits_first, fits_later, joined}
 use Rattle.writer.proofs.Laws.{body_none, body_row, second_fits, packet_stands}
-use Rattle.std.proofs.Common.{not}
 use Rattle.writer.proofs.write_body.Goals as goal
 
 pub returns-then-bytes-eq0 : goal.returns-then-bytes-eq0

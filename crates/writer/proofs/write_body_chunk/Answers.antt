@@ -1,7 +1,6 @@
 -- `writer::write_body_chunk` meets its contract: the chunk right behind the code, as a string.
 -- Assumes nothing.
 use native.Mathlib.Omega.{arith}
-use borrow.Author.Rules.{rules}
 use mathlib.Core.Bool.{false}
 use mathlib.Core.List.{[], ◌∷◌}
 use Prim.Native.Nat.{◌+◌}
@@ -10,8 +9,6 @@ use Rattle.wire.specs.Field.{string_bytes}
 use Rattle.connection.specs.declared.Kind.{Kind}
 use Rattle.building.specs.Field.{opening}
 use Rattle.writer.proofs.Laws.{chunk_row, second_fits, packet_stands}
-use Rattle.std.proofs.Common.{not}
-use Rattle.std.proofs.Common.{ap}
 use Rattle.writer.proofs.write_body_chunk.Goals as goal
 
 pub overflow_cast-bytes : goal.overflow_cast-bytes

@@ -1,12 +1,9 @@
 -- `writer::write_end` meets its contract: the boolean right behind the code.
 -- Assumes nothing.
-use borrow.Author.Rules.{rules}
 use Rattle.wire.specs.Field.{boolean_bytes}
 use Rattle.connection.specs.declared.Kind.{Kind}
 use Rattle.building.specs.Field.{opening}
 use Rattle.writer.proofs.Laws.{end_row, packet_stands}
-use Rattle.std.proofs.Common.{not}
-use Rattle.std.proofs.Common.{ap}
 use Rattle.writer.proofs.write_end.Goals as goal
 
 pub returns : goal.returns

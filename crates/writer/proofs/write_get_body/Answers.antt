@@ -1,13 +1,10 @@
 -- `writer::write_get_body` meets its contract: the number right behind the code.
 -- Assumes nothing.
-use borrow.Author.Rules.{rules}
 use mathlib.Core.Path.{refl}
 use Rattle.wire.specs.Bytes.{integer_bytes}
 use Rattle.connection.specs.declared.Kind.{Kind}
 use Rattle.building.specs.Field.{opening}
 use Rattle.writer.proofs.Laws.{packet_stands}
-use Rattle.std.proofs.Common.{not}
-use Rattle.std.proofs.Common.{ap}
 use Rattle.writer.proofs.write_get_body.Goals as goal
 
 pub returns : goal.returns

@@ -1,9 +1,6 @@
 -- `added::piece_fault` meets its contract: one fault is looked for behind the other.
 -- Assumes nothing.
 use mathlib.Core.Path.{refl, ◌∙◌}
-use borrow.Author.Rules.{rules}
-use Rattle.std.proofs.Common.{not}
-use Rattle.std.proofs.Common.{ap}
 use Rattle.answers.proofs.added.piece_fault.Goals as goal
 
 pub returns : goal.returns

@@ -1,9 +1,6 @@
 -- `answer::answer_fault` meets its contract, which is the definition.
 -- Assumes nothing.
 use Rattle.answers.specs.Answer.{answer_fault}
-use borrow.Author.Rules.{rules}
-use Rattle.std.proofs.Common.{not}
-use Rattle.std.proofs.Common.{ap}
 use Rattle.answers.proofs.answer.answer_fault.Goals as goal
 
 pub returns : goal.returns

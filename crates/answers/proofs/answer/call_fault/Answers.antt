@@ -1,9 +1,6 @@
 -- `answer::call_fault` meets its contract: each fault is the definition's, and they are looked for in its order.
 -- Assumes nothing.
 use Rattle.answers.specs.Effect.{call_fault}
-use borrow.Author.Rules.{rules}
-use Rattle.std.proofs.Common.{not}
-use Rattle.std.proofs.Common.{ap}
 use Rattle.answers.proofs.answer.call_fault.Goals as goal
 
 pub returns : goal.returns

@@ -3,8 +3,6 @@
 use mathlib.Core.Path.{sym, ap, ◌∙◌}
 use Rattle.packet.specs.declared.Packet.{Packet}
 use Rattle.answers.specs.Answer.{written_words, packet_words}
-use borrow.Author.Rules.{rules}
-use Rattle.std.proofs.Common.{not}
 use Rattle.answers.proofs.answer.packet_words.Goals as goal
 
 pub returns-in-CPing : goal.returns-in-CPing

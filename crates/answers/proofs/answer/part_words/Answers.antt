@@ -3,8 +3,6 @@
 use mathlib.Core.Path.{ap, ◌∙◌}
 use Prim.Native.Nat.{ℕ}
 use Rattle.answers.specs.Answer.{row}
-use borrow.Author.Rules.{rules}
-use Rattle.std.proofs.Common.{not}
 use Rattle.answers.proofs.answer.part_words.Goals as goal
 
 pub returns : goal.returns

@@ -1,9 +1,6 @@
 -- `answer::written_words` meets its contract, which is the definition.
 -- Assumes nothing.
 use Rattle.answers.specs.Answer.{written_words}
-use borrow.Author.Rules.{rules}
-use Rattle.std.proofs.Common.{not}
-use Rattle.std.proofs.Common.{ap}
 use Rattle.answers.proofs.answer.written_words.Goals as goal
 
 pub returns : goal.returns

@@ -4,8 +4,6 @@ use mathlib.Core.Path.{ap, ◌∙◌}
 use Rattle.words.specs.Status as status
 use Rattle.answers.specs.Answer.{part_words}
 use Rattle.answers.proofs.Effects.{leaves_same}
-use borrow.Author.Rules.{rules}
-use Rattle.std.proofs.Common.{not}
 use Rattle.answers.proofs.received.tell_part.Goals as goal
 
 pub returns : goal.returns

@@ -8,8 +8,6 @@ use Rattle.words.specs.Status as status
 use Rattle.answers.specs.Told.{after_reading}
 use Rattle.answers.specs.Private.{ReadWithin}
 use Rattle.answers.proofs.Effects.{leaves_same}
-use borrow.Author.Rules.{rules}
-use Rattle.std.proofs.Common.{not}
 use Rattle.answers.proofs.received.tell_received.Goals as goal
 
 pub bytes_word-requires : goal.bytes_word-requires

@@ -4,8 +4,6 @@ use mathlib.Core.Path.{◌≡◌, sym, ap, ◌∙◌}
 use mathlib.Core.Bool.{Bool, true, false}
 use Rattle.wire.specs.Refusal.{not_now, out_of_range}
 use Rattle.building.specs.Fault.{unless, or_else}
-use borrow.Author.Rules.{rules}
-use Rattle.std.proofs.Common.{not}
 use Rattle.answers.proofs.sent.reuse_refusal.Goals as goal
 
 -- the refusal by the test

@@ -4,8 +4,6 @@ use borrow.Author.Rules.{rules}
 use mathlib.Core.Path.{sym}
 use Rattle.wire.proofs.Bits.{bit_shifted, bit_above}
 use Rattle.attributes.specs.Private.{set_room}
-use Rattle.std.proofs.Common.{not}
-use Rattle.std.proofs.Common.{ap}
 use Rattle.attributes.proofs.seen.has.Goals as goal
 
 pub returns-then-code-ge-BITS : goal.returns-then-code-ge-BITS

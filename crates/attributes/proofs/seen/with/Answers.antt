@@ -1,10 +1,8 @@
 -- `seen::with` meets its contract: the code's own bit is set.
 -- Assumes nothing.
-use borrow.Author.Rules.{rules}
 use mathlib.Core.Path.{sym, ap, ◌∙◌}
 use lib.Bits.{bit_or}
 use Rattle.attributes.proofs.Bits.{with_high, with_low, shifted}
-use Rattle.std.proofs.Common.{not}
 use Rattle.attributes.proofs.seen.with.Goals as goal
 
 pub returns-then-code-ge-BITS : goal.returns-then-code-ge-BITS

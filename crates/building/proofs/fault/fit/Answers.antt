@@ -2,12 +2,7 @@
 -- Assumes nothing.
 use mathlib.Core.Path.{refl, sym, ◌∙◌}
 use mathlib.Core.Bool.{true, false}
-use borrow.Author.Tests.{not-true, not-false}
-use Rattle.building.specs.Fault.{unless}
 use Rattle.building.proofs.Sizes.{fit_by}
-use borrow.Author.Rules.{rules}
-use Rattle.std.proofs.Common.{not}
-use Rattle.std.proofs.Common.{ap}
 use Rattle.building.proofs.fault.fit.Goals as goal
 
 pub returns-then-not-fits_packet : goal.returns-then-not-fits_packet

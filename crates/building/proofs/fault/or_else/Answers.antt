@@ -2,8 +2,6 @@
 -- Assumes nothing.
 use borrow.Author.Tests.{eq-eqb, ne_eqb}
 use mathlib.Core.Path.{refl}
-use Rattle.std.proofs.Common.{not}
-use Rattle.std.proofs.Common.{ap}
 use Rattle.building.proofs.fault.or_else.Goals as goal
 
 pub returns-then-fault-eq-NONE : goal.returns-then-fault-eq-NONE

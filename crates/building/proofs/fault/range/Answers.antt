@@ -5,8 +5,6 @@ use mathlib.Core.Bool.{true, false}
 use borrow.Author.Tests.{le-leb, lt-leb}
 use Rattle.building.proofs.Sizes.{range_by}
 use borrow.Author.Rules.{rules}
-use Rattle.std.proofs.Common.{not}
-use Rattle.std.proofs.Common.{ap}
 use Rattle.building.proofs.fault.range.Goals as goal
 
 pub returns-then-value-low : goal.returns-then-value-low

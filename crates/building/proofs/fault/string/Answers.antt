@@ -4,8 +4,6 @@ use mathlib.Core.Path.{ap, ◌∙◌}
 use Rattle.wire.specs.Field.{string_allowed}
 use Rattle.wire.specs.Refusal.{string_wrong}
 use Rattle.building.specs.Fault.{unless, string_fault}
-use borrow.Author.Rules.{rules}
-use Rattle.std.proofs.Common.{not}
 use Rattle.building.proofs.fault.string.Goals as goal
 
 pub returns : goal.returns

@@ -5,7 +5,6 @@ use mathlib.Core.Path.{◌≡◌, sym, ap, ◌∙◌}
 use mathlib.Core.List.{List, [], ◌∷◌}
 use Prim.Native.Nat.{ℕ, ◌+◌}
 use native.Mathlib.Nat.{zero-add}
-use borrow.Author.Rules.{rules}
 use lib.ListN.{length, length-append}
 use Rattle.wire.specs.Bytes.{over}
 use Rattle.wire.specs.Packet.{packet_head}
@@ -13,7 +12,6 @@ use Rattle.connection.specs.Cycle.{direction_of}
 use Rattle.payload.specs.Code.{code_of}
 use Rattle.wire.proofs.Rows.{fits_first, fits_later, joined}
 use Rattle.building.proofs.Rows.{code_small}
-use Rattle.std.proofs.Common.{not}
 use Rattle.building.proofs.opening.open.Goals as goal
 
 pub packet_head-at-requires : goal.packet_head-at-requires

@@ -3,8 +3,6 @@
 use mathlib.Core.Path.{sym}
 use Rattle.building.proofs.Sizes.{told_exact, told_over}
 use borrow.Author.Rules.{rules}
-use Rattle.std.proofs.Common.{not}
-use Rattle.std.proofs.Common.{ap}
 use Rattle.building.proofs.size.plus.Goals as goal
 
 pub returns-then-more-gt-OVER_PACKET : goal.returns-then-more-gt-OVER_PACKET

@@ -3,8 +3,6 @@
 use mathlib.Core.Path.{ap, ◌∙◌}
 use Prim.Native.Nat.{◌+◌}
 use Rattle.building.specs.Field.{size_told}
-use borrow.Author.Rules.{rules}
-use Rattle.std.proofs.Common.{not}
 use Rattle.building.proofs.size.string.Goals as goal
 
 pub returns : goal.returns

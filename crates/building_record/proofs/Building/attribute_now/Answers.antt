@@ -5,8 +5,6 @@ use Rattle.wire.specs.Pick.{both}
 use Rattle.wire.specs.Refusal.{record_wrong}
 use Rattle.building.specs.Fault.{unless}
 use Rattle.building_record.specs.Record.{is_possible, attribute_now}
-use borrow.Author.Rules.{rules}
-use Rattle.std.proofs.Common.{not}
 use Rattle.building_record.proofs.Building.attribute_now.Goals as goal
 
 pub returns : goal.returns

@@ -1,9 +1,6 @@
 -- `Building::count_fault` meets its contract: a hundred headers came before, or not.
 -- Assumes nothing.
 use Rattle.building_record.specs.Record.{count_fault}
-use borrow.Author.Rules.{rules}
-use Rattle.std.proofs.Common.{not}
-use Rattle.std.proofs.Common.{ap}
 use Rattle.building_record.proofs.Building.count_fault.Goals as goal
 
 pub returns : goal.returns

@@ -6,7 +6,6 @@ use Rattle.wire.specs.Pick.{both}
 use Rattle.wire.specs.Refusal.{record_wrong}
 use Rattle.building.specs.Fault.{unless}
 use Rattle.building_record.specs.Record.{header_now}
-use borrow.Author.Rules.{rules}
 use Rattle.building_record.proofs.Building.header_now.Goals as goal
 
 pub returns : goal.returns

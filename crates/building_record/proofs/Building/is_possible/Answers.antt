@@ -4,7 +4,7 @@ use native.Mathlib.Omega.{arith}
 use mathlib.Core.Path.{refl, sym, ap, ◌∙◌}
 use mathlib.Core.Bool.{true, false}
 use Prim.Native.Nat.{◌+◌}
-use borrow.Author.Tests.{le-leb, lt-leb, not-true, not-false}
+use borrow.Author.Tests.{le-leb, lt-leb}
 use lib.Dec.{leb, eqb}
 use lib.ListN.{length, get_or}
 use Rattle.connection.specs.Connection.{max_packet}
@@ -12,9 +12,7 @@ use Rattle.places.specs.Entries.{max_headers}
 use Rattle.payload.specs.Code.{code_of}
 use Rattle.building_record.proofs.Laws.{possible_by}
 use Rattle.building_record.specs.Record.{count_size}
-use borrow.Author.Rules.{rules}
 use Rattle.wire.specs.Packet.{code_place, payload_place}
-use Rattle.std.proofs.Common.{not}
 use Rattle.building_record.proofs.Building.is_possible.Goals as goal
 
 pub returns-then-not-fits_packet : goal.returns-then-not-fits_packet

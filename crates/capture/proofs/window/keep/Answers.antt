@@ -4,13 +4,10 @@ use native.Mathlib.Omega.{arith}
 use native.Mathlib.Nat.{zero-add}
 use borrow.Author.Rules.{rules}
 use mathlib.Core.Path.{sym}
-use Prim.Native.Nat.{◌-◌}
 use Rattle.wire.specs.Bytes.{part}
 use Rattle.wire.proofs.Bytes.{length_part}
-use Rattle.wire.proofs.Copying.{Copying, copying_start, copying_turn, copying_end}
+use Rattle.wire.proofs.Copying.{copying_start, copying_turn, copying_end}
 use Rattle.capture.proofs.Moving.{next_byte}
-use Rattle.std.proofs.Common.{not}
-use Rattle.std.proofs.Common.{ap}
 use Rattle.capture.proofs.window.keep.Goals as goal
 
 pub loop-i-init : goal.loop-i-init

@@ -1,16 +1,8 @@
 -- `window::keep` meets its contract: the loop copies bytes of the window over its own front.
 -- Assumes nothing.
-use native.Mathlib.Omega.{arith}
-use native.Mathlib.Nat.{zero-add}
-use borrow.Author.Rules.{rules}
-use mathlib.Core.Path.{sym}
 use Prim.Native.Nat.{◌-◌}
 use Rattle.wire.specs.Bytes.{part}
-use Rattle.wire.proofs.Bytes.{length_part}
-use Rattle.wire.proofs.Copying.{Copying, copying_start, copying_turn, copying_end}
-use Rattle.capture.proofs.Moving.{next_byte}
-use Rattle.std.proofs.Common.{not}
-use Rattle.std.proofs.Common.{ap}
+use Rattle.wire.proofs.Copying.{Copying}
 use Rattle.capture.proofs.window.keep.Given as goal
 
 abbrev pub invariant-loop-i : goal.invariant-loop-i

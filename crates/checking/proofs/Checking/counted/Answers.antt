@@ -1,8 +1,5 @@
 -- `Checking::counted` meets its contract.
 -- Assumes nothing.
-use borrow.Author.Rules.{rules}
-use Rattle.std.proofs.Common.{not}
-use Rattle.std.proofs.Common.{ap}
 use Rattle.checking.proofs.Checking.counted.Goals as goal
 
 pub returns : goal.returns

@@ -1,9 +1,6 @@
 -- `Checking::finish` meets its contract.
 -- Assumes nothing.
 use Rattle.checking.proofs.Laws.{finished_by}
-use borrow.Author.Rules.{rules}
-use Rattle.std.proofs.Common.{not}
-use Rattle.std.proofs.Common.{ap}
 use Rattle.checking.proofs.Checking.finish.Goals as goal
 
 pub returns : goal.returns

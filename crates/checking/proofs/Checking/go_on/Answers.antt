@@ -1,11 +1,8 @@
 -- `Checking::go_on` meets its contract.
 -- Assumes nothing.
 use mathlib.Core.Path.{sym, ◌∙◌}
-use borrow.Author.Tests.{not-true, not-false}
 use Rattle.checking.proofs.Laws.{goes_on_by, gone_on_stays, gone_on_is, room_is}
 use borrow.Author.Rules.{rules}
-use Rattle.std.proofs.Common.{not}
-use Rattle.std.proofs.Common.{ap}
 use Rattle.checking.proofs.Checking.go_on.Goals as goal
 
 pub returns-then-not-goes_on : goal.returns-then-not-goes_on

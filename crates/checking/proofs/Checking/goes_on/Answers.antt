@@ -1,8 +1,6 @@
 -- `Checking::goes_on` meets its contract.
 -- Assumes nothing.
 use Rattle.checking.proofs.Laws.{goes_on_is}
-use Rattle.std.proofs.Common.{not}
-use Rattle.std.proofs.Common.{ap}
 use Rattle.checking.proofs.Checking.goes_on.Goals as goal
 
 pub returns : goal.returns

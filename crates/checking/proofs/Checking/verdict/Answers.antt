@@ -4,9 +4,6 @@ use mathlib.Core.Path.{refl}
 use mathlib.Core.Bool.{true, false}
 use borrow.Author.Tests.{lt-ltb, le-ltb, eq-eqb, ne_eqb}
 use Rattle.checking.proofs.Laws.{verdict_by}
-use borrow.Author.Rules.{rules}
-use Rattle.std.proofs.Common.{not}
-use Rattle.std.proofs.Common.{ap}
 use Rattle.checking.proofs.Checking.verdict.Goals as goal
 
 pub returns-then-self-ne-NONE : goal.returns-then-self-ne-NONE

@@ -2,9 +2,6 @@
 -- Assumes nothing.
 use mathlib.Core.Bool.{true, false}
 use Rattle.checking.proofs.Laws.{verdict_place_by}
-use borrow.Author.Rules.{rules}
-use Rattle.std.proofs.Common.{not}
-use Rattle.std.proofs.Common.{ap}
 use Rattle.checking.proofs.Checking.verdict_place.Goals as goal
 
 pub returns-then-self-size : goal.returns-then-self-size

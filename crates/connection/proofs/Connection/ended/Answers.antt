@@ -1,8 +1,5 @@
 -- Each branch makes the connection that `pick` has for its value of `reuse`.
 -- Assumes nothing.
-use borrow.Author.Rules.{rules}
-use Rattle.std.proofs.Common.{not}
-use Rattle.std.proofs.Common.{ap}
 use Rattle.connection.proofs.Connection.ended.Goals as goal
 
 pub returns-then-reuse : goal.returns-then-reuse

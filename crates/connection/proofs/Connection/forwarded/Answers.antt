@@ -1,9 +1,7 @@
 -- The changes of the record, one after the other, are those of the Forward's row.
 -- Assumes nothing.
 use mathlib.Core.Path.{ap, ◌∙◌}
-use borrow.Author.Rules.{rules}
 use Rattle.connection.specs.Connection.{with_left, with_due, with_head}
-use Rattle.std.proofs.Common.{not}
 use Rattle.connection.proofs.Connection.forwarded.Goals as goal
 
 pub returns : goal.returns

@@ -2,13 +2,8 @@
 -- Assumes nothing.
 use mathlib.Core.Path.{sym, ◌∙◌}
 use mathlib.Core.Bool.{true, false}
-use mathlib.Core.Logic.{⊎_elim}
 use native.Mathlib.Omega.{arith}
-use borrow.Author.Rules.{rules}
-use borrow.Author.Tests.{not-true, not-false}
 use Rattle.connection.proofs.Laws.{largest_by}
-use Rattle.std.proofs.Common.{not}
-use Rattle.std.proofs.Common.{ap}
 use Rattle.connection.proofs.Connection.largest_body.Goals.{else-most-gt-MAX_BODY, then-most-gt-MAX_BODY}
 use Rattle.connection.proofs.Connection.largest_body.Goals as goal
 

@@ -3,13 +3,10 @@
 use mathlib.Core.Path.{◌≡◌, sym, ap, ◌∙◌}
 use mathlib.Core.Bool.{false}
 use Prim.Native.Nat.{ℕ}
-use borrow.Author.Rules.{rules}
-use borrow.Author.Tests.{not-true, not-false}
 use Rattle.connection.specs.declared.Move.{Move}
 use Rattle.connection.specs.declared.Step.{Step}
 use Rattle.connection.specs.Connection.{with_left, with_due}
 use Rattle.connection.specs.Cycle.{size_allowed, in_size}
-use Rattle.std.proofs.Common.{not}
 use Rattle.connection.proofs.Connection.sized_body.Goals as goal
 
 pub returns-then-not-is_size_allowed : goal.returns-then-not-is_size_allowed

@@ -2,12 +2,9 @@
 -- Assumes nothing.
 use mathlib.Core.Path.{◌≡◌, sym, ap, ◌∙◌}
 use mathlib.Core.Bool.{Bool}
-use borrow.Author.Rules.{rules}
-use borrow.Author.Tests.{not-true, not-false}
 use Rattle.connection.specs.declared.Move.{Move}
 use Rattle.connection.specs.declared.Step.{Step}
 use Rattle.connection.specs.Cycle.{chunk_allowed, in_size}
-use Rattle.std.proofs.Common.{not}
 use Rattle.connection.proofs.Connection.sized_chunk.Goals as goal
 
 pub returns-then-not-is_chunk_allowed : goal.returns-then-not-is_chunk_allowed

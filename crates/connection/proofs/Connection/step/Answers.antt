@@ -2,11 +2,8 @@
 -- Assumes nothing.
 use mathlib.Core.Path.{refl, sym, ap, ◌∙◌}
 use mathlib.Core.Bool.{false}
-use borrow.Author.Rules.{rules}
-use borrow.Author.Tests.{not-true, not-false}
 use Rattle.connection.specs.Cycle.{in_state}
 use Rattle.connection.proofs.Laws.{step_by, step_now}
-use Rattle.std.proofs.Common.{not}
 use Rattle.connection.proofs.Connection.step.Goals as goal
 
 pub returns-then-not-allows : goal.returns-then-not-allows

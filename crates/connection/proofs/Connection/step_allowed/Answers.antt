@@ -2,11 +2,9 @@
 -- Assumes nothing.
 use mathlib.Core.Path.{sym, ap, ◌∙◌}
 use mathlib.Core.Bool.{true}
-use borrow.Author.Rules.{rules}
 use Rattle.connection.specs.declared.Step.{Step}
 use Rattle.connection.specs.Connection.{with_due, with_headers, busy}
 use Rattle.connection.specs.Cycle.{sized_step}
-use Rattle.std.proofs.Common.{not}
 use Rattle.connection.proofs.Connection.step_allowed.Goals as goal
 
 pub returns-in-CPing : goal.returns-in-CPing

@@ -1,10 +1,6 @@
 -- Each return knows whether the state allows the kind, and answers what `pick` has for that.
 -- Assumes nothing.
 use mathlib.Core.Path.{sym, ◌∙◌}
-use borrow.Author.Rules.{rules}
-use borrow.Author.Tests.{not-true, not-false}
-use Rattle.std.proofs.Common.{not}
-use Rattle.std.proofs.Common.{ap}
 use Rattle.connection.proofs.Connection.step_any_size.Goals as goal
 
 pub returns-then-not-allows : goal.returns-then-not-allows

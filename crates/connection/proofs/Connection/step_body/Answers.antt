@@ -2,12 +2,8 @@
 -- Assumes nothing.
 use mathlib.Core.Path.{refl, sym, ◌∙◌}
 use mathlib.Core.Bool.{false}
-use borrow.Author.Rules.{rules}
-use borrow.Author.Tests.{not-true, not-false}
 use Rattle.connection.specs.declared.Move.{Move}
 use Rattle.connection.proofs.Laws.{step_by, step_now}
-use Rattle.std.proofs.Common.{not}
-use Rattle.std.proofs.Common.{ap}
 use Rattle.connection.proofs.Connection.step_body.Goals as goal
 
 pub returns-then-not-is_body_due : goal.returns-then-not-is_body_due

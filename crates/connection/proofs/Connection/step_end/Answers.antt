@@ -1,11 +1,8 @@
 -- An End leads to where `ended` says.
 -- Assumes nothing.
 use mathlib.Core.Path.{refl, ◌∙◌}
-use borrow.Author.Rules.{rules}
 use Rattle.connection.specs.declared.Move.{Move}
 use Rattle.connection.proofs.Laws.{any_size}
-use Rattle.std.proofs.Common.{not}
-use Rattle.std.proofs.Common.{ap}
 use Rattle.connection.proofs.Connection.step_end.Goals as goal
 
 pub returns : goal.returns

@@ -2,11 +2,9 @@
 -- Assumes nothing.
 use mathlib.Core.Path.{refl, ap, ◌∙◌}
 use mathlib.Core.Bool.{true}
-use borrow.Author.Rules.{rules}
 use Rattle.connection.specs.declared.Move.{Move}
 use Rattle.connection.specs.Connection.{with_due}
 use Rattle.connection.proofs.Laws.{any_size}
-use Rattle.std.proofs.Common.{not}
 use Rattle.connection.proofs.Connection.step_get_body.Goals as goal
 
 pub returns : goal.returns

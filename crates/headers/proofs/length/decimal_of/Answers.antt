@@ -4,12 +4,8 @@ use borrow.Author.Tests.{le-leb, lt-leb}
 use borrow.Author.Rules.{rules}
 use mathlib.Core.Path.{sym, ◌∙◌}
 use mathlib.Core.Bool.{false}
-use Prim.Native.Nat.{◌-◌}
 use native.Mathlib.Omega.{arith}
-use lib.ListN.{length}
-use Rattle.headers.proofs.ContentLength.{Reading, start, room, turn, stop, done, decimal_long}
-use Rattle.std.proofs.Common.{not}
-use Rattle.std.proofs.Common.{ap}
+use Rattle.headers.proofs.ContentLength.{start, room, turn, stop, done, decimal_long}
 use Rattle.headers.proofs.length.decimal_of.Goals as goal
 
 pub returns-then-text-lt1 : goal.returns-then-text-lt1

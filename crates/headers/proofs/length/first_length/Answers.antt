@@ -1,6 +1,5 @@
 -- `length::first_length` meets its contract, by the test and by what the call answers.
 -- Assumes nothing.
-use borrow.Author.Rules.{rules}
 use mathlib.Core.Path.{◌≡◌, refl, sym, ◌∙◌}
 use mathlib.Core.Bool.{Bool, true, false}
 use mathlib.Core.List.{List}
@@ -11,8 +10,6 @@ use Rattle.headers.specs.declared.length.Decimal.{Decimal}
 use Rattle.headers.specs.declared.length.Declared.{Declared}
 use Rattle.headers.specs.declared.length.LengthRead.{LengthRead}
 use Rattle.headers.specs.Length.{decimal_of, decimal_declared, length_after}
-use Rattle.std.proofs.Common.{not}
-use Rattle.std.proofs.Common.{ap}
 use Rattle.headers.proofs.length.first_length.Goals as goal
 
 -- what null and the number make

@@ -1,13 +1,11 @@
 -- `length::length_after` meets its contract: each arm is a case of the definition.
 -- Assumes nothing.
-use borrow.Author.Rules.{rules}
 use mathlib.Core.Path.{◌≡◌, sym, ap, ◌∙◌}
 use mathlib.Core.Bool.{Bool}
 use mathlib.Core.List.{List}
 use Prim.Native.Nat.{ℕ}
 use Rattle.headers.specs.declared.length.Declared.{Declared}
 use Rattle.headers.specs.Length.{length_after}
-use Rattle.std.proofs.Common.{not}
 use Rattle.headers.proofs.length.length_after.Goals as goal
 
 -- the definition at what was declared before

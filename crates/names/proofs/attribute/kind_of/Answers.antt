@@ -4,7 +4,6 @@ use borrow.Author.Tests.{le-leb, lt-leb, ne_eqb}
 use mathlib.Core.Path.{sym, ap}
 use native.Mathlib.Omega.{arith}
 use Rattle.names.specs.Attribute.{attribute_kind}
-use Rattle.std.proofs.Common.{not}
 use Rattle.std.proofs.lemmas.Grind.{common_steps}
 use Rattle.names.proofs.attribute.kind_of.Goals as goal
 

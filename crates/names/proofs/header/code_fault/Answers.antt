@@ -1,6 +1,5 @@
 -- `header::code_fault` meets its contract, by what the two calls answer.
 -- Assumes nothing.
-use borrow.Author.Rules.{rules}
 use mathlib.Core.Path.{◌≡◌, sym}
 use mathlib.Core.Bool.{Bool, true, false}
 use Prim.Native.Nat.{ℕ}
@@ -10,8 +9,6 @@ use Rattle.wire.specs.Refusal.{none, name_wrong}
 use Rattle.names.specs.declared.NameList.{NameList}
 use Rattle.names.specs.Names.{is_listed}
 use Rattle.names.specs.Header.{header_names, code_fault}
-use Rattle.std.proofs.Common.{not}
-use Rattle.std.proofs.Common.{ap}
 use Rattle.names.proofs.header.code_fault.Goals as goal
 
 -- what the answers of the two calls make

@@ -1,11 +1,8 @@
 -- `header::code_of` meets its contract: a text that cannot spell a listed name has no code, and any other is looked up.
 -- Assumes nothing.
-use borrow.Author.Tests.{not-true}
-use borrow.Author.Rules.{rules}
 use mathlib.Core.Path.{sym, ap, ◌∙◌}
 use Rattle.names.specs.declared.NameList.{NameList}
 use Rattle.names.specs.Names.{code_in}
-use Rattle.std.proofs.Common.{not}
 use Rattle.names.proofs.header.code_of.Goals as goal
 
 pub returns-then-not-may_be_listed : goal.returns-then-not-may_be_listed

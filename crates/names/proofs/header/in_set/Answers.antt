@@ -1,9 +1,6 @@
 -- `header::in_set` meets its contract: the number's bit is shifted to the lowest place and looked at there.
 -- Assumes nothing.
-use borrow.Author.Rules.{rules}
 use Rattle.wire.proofs.Bits.{bit_shifted}
-use Rattle.std.proofs.Common.{not}
-use Rattle.std.proofs.Common.{ap}
 use Rattle.names.proofs.header.in_set.Goals as goal
 
 pub returns : goal.returns

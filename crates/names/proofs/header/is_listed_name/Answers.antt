@@ -1,9 +1,7 @@
 -- `header::is_listed_name` meets its contract, by what the look-up answers.
 -- Assumes nothing.
-use borrow.Author.Rules.{rules}
 use mathlib.Core.Path.{sym, ap, ◌∙◌}
 use Rattle.names.specs.Header.{is_found}
-use Rattle.std.proofs.Common.{not}
 use Rattle.names.proofs.header.is_listed_name.Goals as goal
 
 pub returns-in-Code : goal.returns-in-Code

@@ -1,9 +1,6 @@
 -- `header::is_transfer_encoding` meets its contract: the name that it makes is the one of the definition, which antt computes.
 -- Assumes nothing.
-use borrow.Author.Rules.{rules}
 use Rattle.names.specs.Header.{is_transfer_encoding}
-use Rattle.std.proofs.Common.{not}
-use Rattle.std.proofs.Common.{ap}
 use Rattle.names.proofs.header.is_transfer_encoding.Goals as goal
 
 pub returns : goal.returns

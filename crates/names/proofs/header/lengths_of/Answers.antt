@@ -1,11 +1,8 @@
 -- `header::lengths_of` meets its contract: antt computes the lengths of the names and looks each of them up in the set.
 -- Assumes nothing.
-use borrow.Author.Rules.{rules}
 use Rattle.wire.specs.Pick.{all}
 use Rattle.names.specs.Names.{request_names, response_names}
 use Rattle.wire.specs.Bits.{bit}
-use Rattle.std.proofs.Common.{not}
-use Rattle.std.proofs.Common.{ap}
 use Rattle.names.proofs.header.lengths_of.Goals as goal
 
 pub returns-in-ToContainer : goal.returns-in-ToContainer

@@ -1,15 +1,11 @@
 -- `header::may_be_listed` meets its contract: where it answers no, the text is longer than every listed name, or has a length or a first
 -- letter that none of them has.
 -- Assumes nothing.
-use borrow.Author.Rules.{rules}
-use borrow.Author.Tests.{not-true}
 use native.Mathlib.Omega.{arith}
 use mathlib.Core.Path.{◌≡◌, sym, ◌∙◌}
 use Prim.Native.Nat.{ℕ}
 use Rattle.names.specs.Header.{header_names}
 use Rattle.names.proofs.Codes.{unlisted_long, unlisted_length, unlisted_letter}
-use Rattle.std.proofs.Common.{not}
-use Rattle.std.proofs.Common.{ap}
 use Rattle.names.proofs.header.may_be_listed.Goals as goal
 
 pub returns-then-n-eq0 : goal.returns-then-n-eq0

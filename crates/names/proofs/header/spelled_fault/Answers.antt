@@ -1,7 +1,5 @@
 -- `header::spelled_fault` meets its contract, by what its calls answer.
 -- Assumes nothing.
-use borrow.Author.Tests.{not-true, not-false}
-use borrow.Author.Rules.{rules}
 use mathlib.Core.Path.{◌≡◌, refl, sym, ◌∙◌}
 use mathlib.Core.Bool.{Bool, true, false}
 use mathlib.Core.List.{List}
@@ -12,8 +10,6 @@ use Rattle.wire.specs.Refusal.{name_wrong}
 use Rattle.names.specs.Token.{is_token}
 use Rattle.names.specs.Names.{code_in}
 use Rattle.names.specs.Header.{header_names, is_found, unlisted_fault, spelled_fault}
-use Rattle.std.proofs.Common.{not}
-use Rattle.std.proofs.Common.{ap}
 use Rattle.names.proofs.header.spelled_fault.Goals as goal
 
 -- what the answers of the calls make

@@ -1,6 +1,5 @@
 -- `header::unlisted_fault` meets its contract, by the direction and by what the comparison answers.
 -- Assumes nothing.
-use borrow.Author.Rules.{rules}
 use mathlib.Core.Path.{◌≡◌, refl, sym, ◌∙◌}
 use mathlib.Core.Bool.{Bool, true, false}
 use mathlib.Core.List.{List}
@@ -9,8 +8,6 @@ use Rattle.packet.specs.declared.Direction.{Direction}
 use Rattle.wire.specs.Pick.{pick, both}
 use Rattle.wire.specs.Refusal.{none, content_length_wrong}
 use Rattle.names.specs.Header.{is_request, is_transfer_encoding, unlisted_fault}
-use Rattle.std.proofs.Common.{not}
-use Rattle.std.proofs.Common.{ap}
 use Rattle.names.proofs.header.unlisted_fault.Goals as goal
 
 -- what the direction and the comparison make

@@ -1,11 +1,8 @@
 -- `table::attribute_row` meets its contract: its table is that of the list of names.
 -- Assumes nothing.
-use borrow.Author.Rules.{rules}
 use mathlib.Core.List.{[]}
 use Rattle.names.specs.Names.{attribute_names}
 use Rattle.names.proofs.Rows.{row_in, row_out}
-use Rattle.std.proofs.Common.{not}
-use Rattle.std.proofs.Common.{ap}
 use Rattle.names.proofs.table.attribute_row.Goals as goal
 
 pub returns-then-k-lt-ATTRIBUTES : goal.returns-then-k-lt-ATTRIBUTES

@@ -1,10 +1,8 @@
 -- `table::code_of` meets its contract: each list has its own tables of lengths and first letters, which antt computes from the names.
 -- Assumes nothing.
-use borrow.Author.Rules.{rules}
 use mathlib.Core.Path.{sym, ap}
 use Rattle.names.specs.Names.{method_names, request_names, response_names, attribute_names, letter}
 use Rattle.names.specs.Private.{lengths_in, firsts_in}
-use Rattle.std.proofs.Common.{not}
 use Rattle.names.proofs.table.code_of.Goals as goal
 
 pub find-requires : goal.find-requires

@@ -1,10 +1,7 @@
 -- `table::compared` meets its contract, by the tests on the way.
 -- Assumes nothing.
-use borrow.Author.Tests.{le-leb, lt-leb, not-true, not-false}
-use borrow.Author.Rules.{rules}
+use borrow.Author.Tests.{le-leb, lt-leb}
 use Rattle.names.specs.Names.{letter}
-use Rattle.std.proofs.Common.{not}
-use Rattle.std.proofs.Common.{ap}
 use Rattle.names.proofs.table.compared.Goals as goal
 
 pub returns-then-not-ignoring : goal.returns-then-not-ignoring

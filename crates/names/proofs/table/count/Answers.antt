@@ -2,8 +2,6 @@
 -- Assumes nothing.
 use borrow.Author.Rules.{rules}
 use Rattle.names.specs.Names.{method_names, request_names, response_names, attribute_names}
-use Rattle.std.proofs.Common.{not}
-use Rattle.std.proofs.Common.{ap}
 use Rattle.names.proofs.table.count.Goals as goal
 
 pub returns-in-Methods : goal.returns-in-Methods

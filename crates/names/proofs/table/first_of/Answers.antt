@@ -1,11 +1,9 @@
 -- `table::first_of` meets its contract: a text with no bytes has 0 for its first one.
 -- Assumes nothing.
-use borrow.Author.Rules.{rules}
 use mathlib.Core.Path.{sym, ap, ◌∙◌}
 use native.Mathlib.Omega.{arith}
 use lib.ListN.{get_or-eq_default}
 use Rattle.names.specs.Names.{letter}
-use Rattle.std.proofs.Common.{not}
 use Rattle.names.proofs.table.first_of.Goals as goal
 
 pub returns-then-text-eq0 : goal.returns-then-text-eq0

@@ -1,11 +1,8 @@
 -- `table::is_listed` meets its contract: a code below the first is not listed, and of any other the distance from the first decides.
 -- Assumes nothing.
-use borrow.Author.Rules.{rules}
 use mathlib.Core.Path.{sym}
 use native.Mathlib.Omega.{arith}
 use Rattle.names.proofs.Laws.{listed_below, listed_from}
-use Rattle.std.proofs.Common.{not}
-use Rattle.std.proofs.Common.{ap}
 use Rattle.names.proofs.table.is_listed.Goals as goal
 
 pub returns-then-code-first : goal.returns-then-code-first

@@ -1,13 +1,11 @@
 -- `table::length_at` meets its contract: the table has the length of the name at each place, and no list is longer than it.
 -- Assumes nothing.
-use borrow.Author.Rules.{rules}
 use native.Mathlib.Omega.{arith}
 use mathlib.Core.Path.{sym, ap, ◌∙◌}
 use mathlib.Core.List.{List}
 use Prim.Native.Nat.{ℕ}
 use lib.ListN.{get_or}
 use Rattle.names.proofs.Rows.{length_in, length_past, length_fits}
-use Rattle.std.proofs.Common.{not}
 use Rattle.names.proofs.table.length_at.Goals as goal
 
 pub overflow_cast-result : goal.overflow_cast-result

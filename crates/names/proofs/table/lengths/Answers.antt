@@ -1,10 +1,8 @@
 -- `table::lengths` meets its contract: antt counts the bytes of each name.
 -- Assumes nothing.
-use borrow.Author.Rules.{rules}
 use mathlib.Core.Path.{sym, ap}
 use Rattle.names.specs.Names.{method_names, request_names, response_names, attribute_names}
 use Rattle.names.specs.Private.{lengths_in}
-use Rattle.std.proofs.Common.{not}
 use Rattle.names.proofs.table.lengths.Goals as goal
 
 pub returns-in-Methods : goal.returns-in-Methods

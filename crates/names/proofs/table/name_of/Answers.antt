@@ -1,6 +1,5 @@
 -- `table::name_of` meets its contract: a code below the first has no name, and any other the one at its distance from the first.
 -- Assumes nothing.
-use borrow.Author.Rules.{rules}
 use mathlib.Core.Path.{sym, ap, ◌∙◌}
 use native.Mathlib.Omega.{arith}
 use mathlib.Core.List.{[]}
@@ -9,7 +8,6 @@ use lib.ListN.{get_or}
 use Rattle.names.specs.Names.{names_in}
 use Rattle.names.specs.Row.{padded}
 use Rattle.names.proofs.Laws.{name_below, name_from, as_padded}
-use Rattle.std.proofs.Common.{not}
 use Rattle.names.proofs.table.name_of.Goals as goal
 
 pub returns-then-code-first : goal.returns-then-code-first

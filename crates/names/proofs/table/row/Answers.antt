@@ -1,13 +1,11 @@
 -- `table::row` meets its contract: each list has its own table.
 -- Assumes nothing.
-use borrow.Author.Rules.{rules}
 use mathlib.Core.Path.{sym, ap, ◌∙◌}
 use mathlib.Core.List.{[]}
 use lib.ListN.{get_or}
 use Rattle.names.specs.declared.NameList.{NameList}
 use Rattle.names.specs.Names.{names_in}
 use Rattle.names.specs.Row.{row_of}
-use Rattle.std.proofs.Common.{not}
 use Rattle.names.proofs.table.row.Goals as goal
 
 pub returns-in-Methods : goal.returns-in-Methods

@@ -2,18 +2,15 @@
 -- Assumes nothing.
 use borrow.Author.Rules.{rules}
 use mathlib.Core.Path.{◌≡◌, refl, sym, ap, ◌∙◌}
-use mathlib.Core.Logic.{⊎_elim}
 use mathlib.Core.List.{List}
-use Prim.Native.Nat.{ℕ, ◌-◌, ◌≤◌, ◌<◌}
+use Prim.Native.Nat.{ℕ, ◌≤◌, ◌<◌}
 use native.Mathlib.Omega.{arith}
 use lib.Dec.{eqb}
-use lib.ListN.{length, get_or, take, drop, length-map}
+use lib.ListN.{length, get_or, take}
 use lib.Seq.{length-take-le, get_or-take}
-use Rattle.wire.specs.Pick.{both}
 use Rattle.names.specs.Names.{same_name, letter}
 use Rattle.names.specs.Row.{name_room, name_bytes}
 use Rattle.names.proofs.Laws.{same_step, same_end, same_length, take_past}
-use Rattle.std.proofs.Common.{not}
 use Rattle.names.proofs.table.spells.Goals.{else-n-gt-NAME_ROOM, then-n-gt-NAME_ROOM}
 use Rattle.names.proofs.table.spells.Goals as goal
 

@@ -1,19 +1,10 @@
 -- `table::spells` meets its contract. The invariant: the flag, joined with the comparison of what is left, is the comparison of the whole.
 -- Assumes nothing.
-use borrow.Author.Rules.{rules}
-use mathlib.Core.Path.{◌≡◌, refl, sym, ap, ◌∙◌}
-use mathlib.Core.Logic.{⊎_elim}
-use mathlib.Core.List.{List}
-use Prim.Native.Nat.{ℕ, ◌-◌, ◌≤◌, ◌<◌}
-use native.Mathlib.Omega.{arith}
-use lib.Dec.{eqb}
-use lib.ListN.{length, get_or, take, drop, length-map}
-use lib.Seq.{length-take-le, get_or-take}
+use mathlib.Core.Path.{◌≡◌}
+use Prim.Native.Nat.{◌-◌, ◌≤◌}
+use lib.ListN.{take, drop}
 use Rattle.wire.specs.Pick.{both}
-use Rattle.names.specs.Names.{same_name, letter}
-use Rattle.names.specs.Row.{name_room, name_bytes}
-use Rattle.names.proofs.Laws.{same_step, same_end, same_length, take_past}
-use Rattle.std.proofs.Common.{not}
+use Rattle.names.specs.Names.{same_name}
 use Rattle.names.proofs.table.spells.Given as goal
 
 abbrev pub invariant-loop-j : goal.invariant-loop-j

@@ -1,6 +1,5 @@
 -- `table::spells_at` meets its contract: a text of another length or with another first letter spells another name, and any other is compared.
 -- Assumes nothing.
-use borrow.Author.Rules.{rules}
 use native.Mathlib.Omega.{arith}
 use mathlib.Core.Path.{◌≡◌, sym, ap, ◌∙◌}
 use mathlib.Core.Bool.{Bool}
@@ -11,7 +10,6 @@ use Rattle.names.specs.Names.{names_in, ignores_case}
 use Rattle.names.specs.Private.{first_of}
 use Rattle.names.proofs.Rows.{length_in, length_fits, first_in_lem}
 use Rattle.names.proofs.Laws.{same_length, same_first, spelled_row, as_padded}
-use Rattle.std.proofs.Common.{not}
 use Rattle.names.proofs.table.spells_at.Goals as goal
 
 pub overflow_cast-len : goal.overflow_cast-len

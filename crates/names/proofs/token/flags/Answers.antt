@@ -5,8 +5,6 @@ use mathlib.Core.Bool.{false}
 use Rattle.names.specs.Token.{token_byte}
 use Rattle.names.specs.Private.{TokenFlags}
 use Rattle.names.proofs.Rule.{at}
-use Rattle.std.proofs.Common.{not}
-use Rattle.std.proofs.Common.{ap}
 use Rattle.names.proofs.token.flags.Goals as goal
 
 pub returns : goal.returns

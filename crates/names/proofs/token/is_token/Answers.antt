@@ -2,15 +2,11 @@
 -- Assumes nothing.
 use borrow.Author.Rules.{rules}
 use native.Mathlib.Omega.{arith}
-use mathlib.Core.Path.{◌≡◌, refl}
-use Prim.Native.Nat.{◌-◌, ◌≤◌}
-use lib.ListN.{length, drop, get_or}
-use Rattle.wire.specs.Pick.{both}
+use mathlib.Core.Path.{refl}
+use lib.ListN.{get_or}
 use Rattle.wire.proofs.Scan.{all_step, all_end}
-use Rattle.names.specs.Token.{is_token, token_byte}
+use Rattle.names.specs.Token.{token_byte}
 use Rattle.names.specs.Private.{TokenFlags}
-use Rattle.std.proofs.Common.{not}
-use Rattle.std.proofs.Common.{ap}
 use Rattle.names.proofs.token.is_token.Goals as goal
 
 pub loop-i-init : goal.loop-i-init

@@ -1,16 +1,10 @@
 -- `token::is_token` meets its contract. The invariant: the flag and the test of the bytes still to come are the test of the whole text.
 -- Assumes nothing.
-use borrow.Author.Rules.{rules}
-use native.Mathlib.Omega.{arith}
-use mathlib.Core.Path.{◌≡◌, refl}
+use mathlib.Core.Path.{◌≡◌}
 use Prim.Native.Nat.{◌-◌, ◌≤◌}
-use lib.ListN.{length, drop, get_or}
+use lib.ListN.{length, drop}
 use Rattle.wire.specs.Pick.{both}
-use Rattle.wire.proofs.Scan.{all_step, all_end}
-use Rattle.names.specs.Token.{is_token, token_byte}
-use Rattle.names.specs.Private.{TokenFlags}
-use Rattle.std.proofs.Common.{not}
-use Rattle.std.proofs.Common.{ap}
+use Rattle.names.specs.Token.{is_token}
 use Rattle.names.proofs.token.is_token.Given as goal
 
 abbrev pub invariant-loop-i : goal.invariant-loop-i

@@ -1,12 +1,9 @@
 -- `body::read` meets its contract: by whether a size is there, and by what it reads as.
 -- Assumes nothing.
 use borrow.Author.Tests.{eq-eqb, ne_eqb}
-use borrow.Author.Rules.{rules}
 use mathlib.Core.Path.{refl, sym, ◌∙◌}
 use mathlib.Core.Bool.{true}
 use Rattle.payload.proofs.Laws.{body_is, body_sized, body_short}
-use Rattle.std.proofs.Common.{not}
-use Rattle.std.proofs.Common.{ap}
 use Rattle.payload.proofs.body.read.Goals as goal
 
 pub returns-then-packet-eq-PAYLOAD_PLACE : goal.returns-then-packet-eq-PAYLOAD_PLACE

@@ -1,6 +1,5 @@
 -- `body_chunk::chunk` meets its contract: the tests on the way say which outcome of `chunk_of` holds.
 -- Assumes nothing.
-use borrow.Author.Rules.{rules}
 use mathlib.Core.Path.{◌∙◌}
 use Prim.Native.Nat.{◌+◌, ◌≤◌}
 use native.Mathlib.Omega.{arith}

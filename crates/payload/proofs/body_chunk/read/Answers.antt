@@ -1,10 +1,7 @@
 -- `body_chunk::read` meets its contract: by what its length reads as.
 -- Assumes nothing.
-use borrow.Author.Rules.{rules}
 use mathlib.Core.Path.{sym, ◌∙◌}
 use Rattle.payload.proofs.Laws.{chunk_is}
-use Rattle.std.proofs.Common.{not}
-use Rattle.std.proofs.Common.{ap}
 use Rattle.payload.proofs.body_chunk.read.Goals as goal
 
 pub returns-in-Refused : goal.returns-in-Refused

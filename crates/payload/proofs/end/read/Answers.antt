@@ -1,10 +1,7 @@
 -- `end::read` meets its contract: by what its field reads as.
 -- Assumes nothing.
-use borrow.Author.Rules.{rules}
 use mathlib.Core.Path.{sym, ◌∙◌}
 use Rattle.payload.proofs.Laws.{end_is}
-use Rattle.std.proofs.Common.{not}
-use Rattle.std.proofs.Common.{ap}
 use Rattle.payload.proofs.end.read.Goals as goal
 
 pub returns-in-Refused : goal.returns-in-Refused

@@ -1,10 +1,8 @@
 -- `field::any_integer_after` meets its contract: by whether the field before was refused.
 -- Assumes nothing.
-use borrow.Author.Rules.{rules}
 use mathlib.Core.Path.{sym, ap, ◌∙◌}
 use Rattle.payload.specs.Sequence.{any_integer_after}
 use Rattle.payload.proofs.Laws.{any_integer_after_is}
-use Rattle.std.proofs.Common.{not}
 use Rattle.payload.proofs.field.any_integer_after.Goals as goal
 
 pub returns-in-Refused : goal.returns-in-Refused

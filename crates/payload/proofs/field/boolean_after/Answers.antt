@@ -1,9 +1,7 @@
 -- `field::boolean_after` meets its contract: by whether the field before was refused.
 -- Assumes nothing.
-use borrow.Author.Rules.{rules}
 use mathlib.Core.Path.{sym, ap, ◌∙◌}
 use Rattle.payload.specs.Sequence.{boolean_after}
-use Rattle.std.proofs.Common.{not}
 use Rattle.payload.proofs.field.boolean_after.Goals as goal
 
 pub returns-in-Refused : goal.returns-in-Refused

@@ -1,10 +1,7 @@
 -- `field::boolean_at` meets its contract: by what the boolean reads as.
 -- Assumes nothing.
-use borrow.Author.Rules.{rules}
 use mathlib.Core.Path.{sym, ◌∙◌}
 use Rattle.payload.proofs.Laws.{boolean_field_is}
-use Rattle.std.proofs.Common.{not}
-use Rattle.std.proofs.Common.{ap}
 use Rattle.payload.proofs.field.boolean_at.Goals as goal
 
 pub returns-in-Refused : goal.returns-in-Refused

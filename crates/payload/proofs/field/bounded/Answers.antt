@@ -1,13 +1,11 @@
 -- `field::bounded` meets its contract: by what the number reads as, and by its two tests.
 -- Assumes nothing.
 use borrow.Author.Tests.{le-leb, lt-leb}
-use borrow.Author.Rules.{rules}
 use mathlib.Core.Path.{refl, sym, ap}
 use mathlib.Core.Bool.{true, false}
 use lib.Dec.{leb}
 use Rattle.payload.specs.Sequence.{bounded}
 use Rattle.payload.proofs.Laws.{bounded_by}
-use Rattle.std.proofs.Common.{not}
 use Rattle.payload.proofs.field.bounded.Goals as goal
 
 pub returns-then-value-low : goal.returns-then-value-low

@@ -1,10 +1,8 @@
 -- `field::byte_after` meets its contract: by whether the field before was refused.
 -- Assumes nothing.
-use borrow.Author.Rules.{rules}
 use mathlib.Core.Path.{sym, ap, ◌∙◌}
 use Rattle.payload.specs.Sequence.{byte_after}
 use Rattle.payload.proofs.Laws.{byte_after_is}
-use Rattle.std.proofs.Common.{not}
 use Rattle.payload.proofs.field.byte_after.Goals as goal
 
 pub returns-in-Refused : goal.returns-in-Refused

@@ -1,10 +1,8 @@
 -- `field::integer_after` meets its contract: by whether the field before was refused.
 -- Assumes nothing.
-use borrow.Author.Rules.{rules}
 use mathlib.Core.Path.{sym, ap, ◌∙◌}
 use Rattle.payload.specs.Sequence.{integer_after}
 use Rattle.payload.proofs.Laws.{integer_after_is}
-use Rattle.std.proofs.Common.{not}
 use Rattle.payload.proofs.field.integer_after.Goals as goal
 
 pub returns-in-Refused : goal.returns-in-Refused

@@ -1,9 +1,7 @@
 -- `field::number_field` meets its contract: by what the number reads as.
 -- Assumes nothing.
-use borrow.Author.Rules.{rules}
 use mathlib.Core.Path.{sym, ap}
 use Rattle.payload.specs.Sequence.{number_as_field}
-use Rattle.std.proofs.Common.{not}
 use Rattle.payload.proofs.field.number_field.Goals as goal
 
 pub returns-in-Refused : goal.returns-in-Refused

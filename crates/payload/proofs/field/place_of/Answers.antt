@@ -1,13 +1,11 @@
 -- `field::place_of` meets its contract: the place is at most 8192, so it is kept whole.
 -- Assumes nothing.
-use borrow.Author.Rules.{rules}
 use mathlib.Core.Path.{sym, ap, subst}
 use Prim.Native.Nat.{◌≤◌}
 use native.Mathlib.Omega.{arith}
 use Rattle.connection.specs.Connection.{max_packet}
 use Rattle.payload.specs.Sequence.{field_place}
 use Rattle.payload.specs.Private.{Within}
-use Rattle.std.proofs.Common.{not}
 use Rattle.payload.proofs.field.place_of.Goals as goal
 
 pub overflow_cast-result : goal.overflow_cast-result

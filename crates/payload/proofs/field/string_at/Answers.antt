@@ -1,10 +1,7 @@
 -- `field::string_at` meets its contract: by what the string reads as.
 -- Assumes nothing.
-use borrow.Author.Rules.{rules}
 use mathlib.Core.Path.{refl, sym, ◌∙◌}
 use Rattle.payload.proofs.Laws.{string_field_is}
-use Rattle.std.proofs.Common.{not}
-use Rattle.std.proofs.Common.{ap}
 use Rattle.payload.proofs.field.string_at.Goals as goal
 
 pub returns-in-Refused : goal.returns-in-Refused

@@ -1,14 +1,11 @@
 -- `forward::read` meets its contract: each field is read where the one before it ends, and the lists are those behind the last one.
 -- Assumes nothing.
 use mathlib.Core.Path.{◌≡◌}
-use borrow.Author.Rules.{rules}
 use Rattle.wire.specs.Bytes.{over}
 use Rattle.payload.specs.declared.lists.ListsRead.{ListsRead}
 use Rattle.payload.specs.Forward.{ForwardReads, forward_of, forward_at}
 use Rattle.payload.proofs.Fields.{string_within, integer_counts}
 use Rattle.payload.proofs.Listing.{forward_is}
-use Rattle.std.proofs.Common.{not}
-use Rattle.std.proofs.Common.{ap}
 use Rattle.payload.proofs.forward.read.Goals as goal
 
 pub lists-requires : goal.lists-requires

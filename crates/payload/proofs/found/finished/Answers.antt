@@ -1,8 +1,6 @@
 -- `found::finished` meets its contract, by its test.
 -- Assumes nothing.
 use borrow.Author.Tests.{eq-eqb, ne_eqb}
-use Rattle.std.proofs.Common.{not}
-use Rattle.std.proofs.Common.{ap}
 use Rattle.payload.proofs.found.finished.Goals as goal
 
 pub returns-then-next-size : goal.returns-then-next-size

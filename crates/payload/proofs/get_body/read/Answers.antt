@@ -1,10 +1,7 @@
 -- `get_body::read` meets its contract: by what its field reads as.
 -- Assumes nothing.
-use borrow.Author.Rules.{rules}
 use mathlib.Core.Path.{sym, ◌∙◌}
 use Rattle.payload.proofs.Laws.{get_is}
-use Rattle.std.proofs.Common.{not}
-use Rattle.std.proofs.Common.{ap}
 use Rattle.payload.proofs.get_body.read.Goals as goal
 
 pub returns-in-Refused : goal.returns-in-Refused

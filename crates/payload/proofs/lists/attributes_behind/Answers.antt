@@ -3,12 +3,9 @@
 use native.Mathlib.Omega.{arith}
 use mathlib.Core.Path.{refl, sym, ◌∙◌}
 use mathlib.Core.Bool.{true, false}
-use borrow.Author.Rules.{rules}
 use borrow.Author.Tests.{eq-eqb, ne_eqb}
 use Rattle.payload.proofs.Below.{attributes_few}
 use Rattle.payload.proofs.Listing.{attributes_refused, attributes_read}
-use Rattle.std.proofs.Common.{not}
-use Rattle.std.proofs.Common.{ap}
 use Rattle.payload.proofs.lists.attributes_behind.Goals as goal
 
 pub returns-then-next-packet : goal.returns-then-next-packet

@@ -2,12 +2,9 @@
 -- Assumes nothing.
 use native.Mathlib.Omega.{arith}
 use mathlib.Core.Path.{subst}
-use borrow.Author.Rules.{rules}
 use Rattle.places.specs.Entries.{max_headers}
 use Rattle.payload.specs.Private.{Counts}
 use Rattle.payload.proofs.Listing.{headers_refused, headers_read}
-use Rattle.std.proofs.Common.{not}
-use Rattle.std.proofs.Common.{ap}
 use Rattle.payload.proofs.lists.headers_after.Goals as goal
 
 pub headers-requires : goal.headers-requires

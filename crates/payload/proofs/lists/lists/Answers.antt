@@ -6,8 +6,6 @@ use borrow.Author.Rules.{rules}
 use Rattle.places.specs.Entries.{max_headers}
 use Rattle.payload.proofs.Fields.{counts_value}
 use Rattle.payload.proofs.Listing.{lists_refused, lists_read}
-use Rattle.std.proofs.Common.{not}
-use Rattle.std.proofs.Common.{ap}
 use Rattle.payload.proofs.lists.lists.Goals as goal
 
 pub attributes_behind-requires : goal.attributes_behind-requires

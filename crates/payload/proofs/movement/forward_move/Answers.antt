@@ -1,8 +1,5 @@
 -- What the Forward declares, and what `is_head` answers of its method.
 -- Assumes nothing.
-use borrow.Author.Rules.{rules}
-use Rattle.std.proofs.Common.{not}
-use Rattle.std.proofs.Common.{ap}
 use Rattle.payload.proofs.movement.forward_move.Goals as goal
 
 pub returns : goal.returns

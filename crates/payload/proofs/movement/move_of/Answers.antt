@@ -3,8 +3,6 @@
 use mathlib.Core.Path.{sym, ap, ◌∙◌}
 use Rattle.payload.specs.Kinds.{packet_move}
 use Rattle.connection.specs.declared.Move.{Move}
-use borrow.Author.Rules.{rules}
-use Rattle.std.proofs.Common.{not}
 use Rattle.payload.proofs.movement.move_of.Goals as goal
 
 pub returns-in-Forward : goal.returns-in-Forward

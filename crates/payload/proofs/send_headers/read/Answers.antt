@@ -2,15 +2,12 @@
 -- Assumes nothing.
 use native.Mathlib.Omega.{arith}
 use mathlib.Core.Path.{◌≡◌}
-use borrow.Author.Rules.{rules}
 use lib.ListN.{length}
 use Rattle.wire.specs.Bytes.{over}
 use Rattle.headers.specs.declared.HeadersRead.{HeadersRead}
 use Rattle.payload.specs.SendHeaders.{SendHeadersReads, send_headers_of, send_headers_at}
 use Rattle.payload.proofs.Fields.{string_within, integer_counts}
 use Rattle.payload.proofs.Listing.{send_headers_is}
-use Rattle.std.proofs.Common.{not}
-use Rattle.std.proofs.Common.{ap}
 use Rattle.payload.proofs.send_headers.read.Goals as goal
 
 pub headers_after-requires : goal.headers_after-requires

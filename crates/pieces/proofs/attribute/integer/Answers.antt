@@ -2,7 +2,6 @@
 -- Assumes nothing.
 use mathlib.Core.Path.{◌≡◌, refl}
 use mathlib.Core.List.{[], ◌∷◌}
-use borrow.Author.Rules.{rules}
 use Rattle.wire.specs.Bytes.{integer_bytes}
 use Rattle.building.specs.Field.{Field, plain}
 use Rattle.building.specs.Call.{Call}
@@ -10,8 +9,6 @@ use Rattle.building_record.specs.declared.Building.{Building}
 use Rattle.pieces.specs.Attribute.{is_integer, integer_call}
 use Rattle.building_record.specs.Record.{with_attribute}
 use Rattle.pieces.proofs.Pieces.{Checked, checked, refused_both, row_fits, code_byte, end_fits, done_both}
-use Rattle.std.proofs.Common.{not}
-use Rattle.std.proofs.Common.{ap}
 use Rattle.pieces.proofs.attribute.integer.Goals as goal
 
 pub returns-then-found-ne-NONE : goal.returns-then-found-ne-NONE

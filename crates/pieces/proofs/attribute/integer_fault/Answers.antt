@@ -1,10 +1,7 @@
 -- `pieces::attribute::integer_fault` meets its contract: the faults up to the value, which has none.
 -- Assumes nothing.
-use borrow.Author.Rules.{rules}
 use Rattle.pieces.specs.Attribute.{integer_call}
 use Rattle.building.proofs.Sizes.{or_none}
-use Rattle.std.proofs.Common.{not}
-use Rattle.std.proofs.Common.{ap}
 use Rattle.pieces.proofs.attribute.integer_fault.Goals as goal
 
 pub returns : goal.returns

@@ -1,11 +1,8 @@
 -- `pieces::attribute::integer_needs` meets its contract: the size that is told of the code, and the value behind it.
 -- Assumes nothing.
-use borrow.Author.Rules.{rules}
 use mathlib.Core.List.{[], ◌∷◌}
 use Rattle.wire.specs.Bytes.{integer_bytes}
 use Rattle.pieces.proofs.Pieces.{told_last}
-use Rattle.std.proofs.Common.{not}
-use Rattle.std.proofs.Common.{ap}
 use Rattle.pieces.proofs.attribute.integer_needs.Goals as goal
 
 pub returns : goal.returns

@@ -2,10 +2,7 @@
 -- Assumes nothing.
 use native.Mathlib.Omega.{arith}
 use mathlib.Core.Path.{sym}
-use borrow.Author.Rules.{rules}
 use Rattle.attributes.proofs.Laws.{high_unserved}
-use Rattle.std.proofs.Common.{not}
-use Rattle.std.proofs.Common.{ap}
 use Rattle.pieces.proofs.attribute.kind_of_code.Goals as goal
 
 pub returns-then-code-gt-MAX_CODE : goal.returns-then-code-gt-MAX_CODE

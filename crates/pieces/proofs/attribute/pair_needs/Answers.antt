@@ -1,12 +1,9 @@
 -- `pieces::attribute::pair_needs` meets its contract: the size that is told of the code, then with the name, and the value behind it.
 -- Assumes nothing.
-use borrow.Author.Rules.{rules}
 use mathlib.Core.List.{List, [], ◌∷◌}
 use Prim.Native.Nat.{ℕ}
 use Rattle.wire.specs.Field.{string_bytes}
 use Rattle.pieces.proofs.Pieces.{told_more, told_last}
-use Rattle.std.proofs.Common.{not}
-use Rattle.std.proofs.Common.{ap}
 use Rattle.pieces.proofs.attribute.pair_needs.Goals as goal
 
 pub returns : goal.returns

@@ -2,7 +2,6 @@
 -- Assumes nothing.
 use mathlib.Core.Path.{◌≡◌, refl}
 use mathlib.Core.List.{[], ◌∷◌, append-nil}
-use borrow.Author.Rules.{rules}
 use Rattle.wire.specs.Field.{string_bytes}
 use Rattle.wire.specs.declared.StringField.{StringField}
 use Rattle.building.specs.Field.{Field, string_field}
@@ -11,8 +10,6 @@ use Rattle.building_record.specs.declared.Building.{Building}
 use Rattle.pieces.specs.Attribute.{is_text, text_call}
 use Rattle.building_record.specs.Record.{with_attribute}
 use Rattle.pieces.proofs.Pieces.{Checked, checked, refused_both, row_fits, code_byte, end_fits, done_both}
-use Rattle.std.proofs.Common.{not}
-use Rattle.std.proofs.Common.{ap}
 use Rattle.pieces.proofs.attribute.text.Goals as goal
 
 pub returns-then-found-ne-NONE : goal.returns-then-found-ne-NONE

@@ -1,11 +1,8 @@
 -- `pieces::attribute::write_integer` meets its contract: the value stands right behind the code.
 -- Assumes nothing.
-use borrow.Author.Rules.{rules}
 use mathlib.Core.List.{[], ◌∷◌}
 use Rattle.wire.specs.Bytes.{integer_bytes}
 use Rattle.wire.proofs.Rows.{joined}
-use Rattle.std.proofs.Common.{not}
-use Rattle.std.proofs.Common.{ap}
 use Rattle.pieces.proofs.attribute.write_integer.Goals as goal
 
 pub returns : goal.returns

@@ -1,12 +1,9 @@
 -- `pieces::attribute::write_pair` meets its contract: name and value stand right behind the code.
 -- Assumes nothing.
-use borrow.Author.Rules.{rules}
 use mathlib.Core.List.{List, [], ◌∷◌, ◌++◌}
 use Prim.Native.Nat.{ℕ}
 use Rattle.wire.specs.Field.{string_bytes}
 use Rattle.wire.proofs.Rows.{joined}
-use Rattle.std.proofs.Common.{not}
-use Rattle.std.proofs.Common.{ap}
 use Rattle.pieces.proofs.attribute.write_pair.Goals as goal
 
 pub returns : goal.returns

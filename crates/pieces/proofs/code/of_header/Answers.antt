@@ -5,8 +5,6 @@ use Rattle.names.specs.Header.{header_names}
 use Rattle.names.specs.Names.{code_in}
 use Rattle.connection.specs.Cycle.{direction_of}
 use Rattle.packet.specs.declared.Direction.{Direction}
-use borrow.Author.Rules.{rules}
-use Rattle.std.proofs.Common.{not}
 use Rattle.pieces.proofs.code.of_header.Goals as goal
 
 pub returns : goal.returns

@@ -3,9 +3,6 @@
 use mathlib.Core.Path.{refl, sym, ◌∙◌}
 use Rattle.pieces.specs.Fixed.{forward_call}
 use Rattle.building.proofs.WithFault.{none_comes, none_writes}
-use borrow.Author.Rules.{rules}
-use Rattle.std.proofs.Common.{not}
-use Rattle.std.proofs.Common.{ap}
 use Rattle.pieces.proofs.forward.begin.Goals as goal
 
 pub returns : goal.returns

@@ -3,7 +3,6 @@
 use native.Mathlib.Omega.{arith}
 use native.Mathlib.Nat.{zero-add}
 use mathlib.Core.Path.{refl, sym, ap}
-use borrow.Author.Rules.{rules}
 use lib.ListN.{length}
 use Rattle.building.specs.Call.{Call, with_fault}
 use Rattle.building.proofs.Calls.{done_own}
@@ -14,7 +13,6 @@ use Rattle.building_record.specs.Record.{opened}
 use Rattle.pieces.specs.Fixed.{forward_call}
 use Rattle.pieces.proofs.Laws.{method_within, forward_size}
 use Rattle.pieces.proofs.Pieces.{Checked, checked, refused_both, row_fits, end_exact, end_fits, done_both}
-use Rattle.std.proofs.Common.{not}
 use Rattle.pieces.proofs.forward.begin_with.Goals as goal
 
 pub returns-then-found-ne-NONE : goal.returns-then-found-ne-NONE

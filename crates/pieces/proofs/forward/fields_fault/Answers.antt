@@ -1,9 +1,6 @@
 -- `pieces::forward::fields_fault` meets its contract: the method, then each string.
 -- Assumes nothing.
 use Rattle.pieces.proofs.Laws.{six_faults}
-use borrow.Author.Rules.{rules}
-use Rattle.std.proofs.Common.{not}
-use Rattle.std.proofs.Common.{ap}
 use Rattle.pieces.proofs.forward.fields_fault.Goals as goal
 
 pub returns : goal.returns

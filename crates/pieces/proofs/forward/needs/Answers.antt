@@ -7,8 +7,6 @@ use Rattle.wire.specs.Field.{string_bytes}
 use Rattle.building.specs.Field.{size_told}
 use Rattle.building.proofs.Sizes.{told_behind}
 use Rattle.pieces.proofs.Laws.{forward_size}
-use borrow.Author.Rules.{rules}
-use Rattle.std.proofs.Common.{not}
 use Rattle.pieces.proofs.forward.needs.Goals as goal
 
 pub returns : goal.returns

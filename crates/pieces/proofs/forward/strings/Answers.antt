@@ -5,9 +5,6 @@ use Rattle.wire.specs.Field.{string_bytes}
 use Rattle.building.specs.Field.{fields_bytes}
 use Rattle.wire.proofs.Rows.{Row, row_start, row_fits, row_next, row_done, row_end}
 use Rattle.pieces.specs.Private.{forward_strings}
-use borrow.Author.Rules.{rules}
-use Rattle.std.proofs.Common.{not}
-use Rattle.std.proofs.Common.{ap}
 use Rattle.pieces.proofs.forward.strings.Goals as goal
 
 pub string-at-requires : goal.string-at-requires

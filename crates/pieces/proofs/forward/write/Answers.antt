@@ -9,8 +9,6 @@ use Rattle.building.specs.Field.{opening, fields_bytes}
 use Rattle.wire.proofs.Rows.{Row, row_start, row_fits, row_next, row_done}
 use Rattle.pieces.specs.Private.{forward_strings, forward_tail}
 use Rattle.pieces.proofs.Laws.{forward_parts, forward_parts_lem}
-use borrow.Author.Rules.{rules}
-use Rattle.std.proofs.Common.{not}
 use Rattle.pieces.proofs.forward.write.Goals as goal
 
 pub strings-at-requires : goal.strings-at-requires

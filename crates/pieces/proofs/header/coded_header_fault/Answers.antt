@@ -1,6 +1,5 @@
 -- `pieces::header::coded_header_fault` meets its contract: the call's faults, each looked for behind those before it.
 -- Assumes nothing.
-use borrow.Author.Rules.{rules}
 use mathlib.Core.Path.{ap, ◌∙◌}
 use mathlib.Core.Bool.{Bool}
 use Rattle.packet.specs.declared.Direction.{Direction}
@@ -8,7 +7,6 @@ use Rattle.names.specs.Header.{code_fault}
 use Rattle.headers.specs.Headers.{declares}
 use Rattle.pieces.specs.Header.{value_fault, coded_call}
 use Rattle.pieces.proofs.Laws.{four_faults}
-use Rattle.std.proofs.Common.{not}
 use Rattle.pieces.proofs.header.coded_header_fault.Goals as goal
 
 pub returns : goal.returns

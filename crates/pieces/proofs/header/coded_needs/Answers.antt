@@ -1,11 +1,8 @@
 -- `pieces::header::coded_needs` meets its contract: the size that is told before the value, and the value behind it.
 -- Assumes nothing.
-use borrow.Author.Rules.{rules}
 use Rattle.wire.specs.Bytes.{integer_bytes}
 use Rattle.wire.specs.Field.{string_bytes}
 use Rattle.pieces.proofs.Pieces.{told_last}
-use Rattle.std.proofs.Common.{not}
-use Rattle.std.proofs.Common.{ap}
 use Rattle.pieces.proofs.header.coded_needs.Goals as goal
 
 pub returns : goal.returns

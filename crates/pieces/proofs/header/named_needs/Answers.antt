@@ -2,8 +2,6 @@
 -- Assumes nothing.
 use mathlib.Core.Path.{sym, ap, ◌∙◌}
 use Rattle.pieces.specs.Header.{named_needs}
-use borrow.Author.Rules.{rules}
-use Rattle.std.proofs.Common.{not}
 use Rattle.pieces.proofs.header.named_needs.Goals as goal
 
 pub returns-in-Code : goal.returns-in-Code

@@ -2,15 +2,12 @@
 -- Assumes nothing.
 use mathlib.Core.Path.{◌≡◌, refl}
 use mathlib.Core.List.{◌++◌, append-nil}
-use borrow.Author.Rules.{rules}
 use Rattle.wire.specs.Field.{string_bytes}
 use Rattle.building.specs.Call.{Call}
 use Rattle.building_record.specs.declared.Building.{Building}
 use Rattle.pieces.specs.Header.{spelled_fields, spelled_call}
 use Rattle.building_record.specs.Record.{direction_in, with_header}
 use Rattle.pieces.proofs.Pieces.{Checked, checked, refused_both, row_fits, done_both, header_room}
-use Rattle.std.proofs.Common.{not}
-use Rattle.std.proofs.Common.{ap}
 use Rattle.pieces.proofs.header.spelled.Goals as goal
 
 pub returns-then-found-ne-NONE : goal.returns-then-found-ne-NONE

@@ -1,11 +1,9 @@
 -- `pieces::header::spelled_header_fault` meets its contract: the call's faults, each looked for behind those before it.
 -- Assumes nothing.
-use borrow.Author.Rules.{rules}
 use mathlib.Core.Path.{ap, ◌∙◌}
 use Rattle.packet.specs.declared.Direction.{Direction}
 use Rattle.pieces.specs.Header.{spelled_name, spelled_call}
 use Rattle.pieces.proofs.Laws.{four_faults}
-use Rattle.std.proofs.Common.{not}
 use Rattle.pieces.proofs.header.spelled_header_fault.Goals as goal
 
 pub returns : goal.returns

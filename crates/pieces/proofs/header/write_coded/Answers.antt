@@ -1,11 +1,8 @@
 -- `pieces::header::write_coded` meets its contract: the value stands right behind the code.
 -- Assumes nothing.
-use borrow.Author.Rules.{rules}
 use Rattle.wire.specs.Bytes.{integer_bytes}
 use Rattle.wire.specs.Field.{string_bytes}
 use Rattle.wire.proofs.Rows.{joined}
-use Rattle.std.proofs.Common.{not}
-use Rattle.std.proofs.Common.{ap}
 use Rattle.pieces.proofs.header.write_coded.Goals as goal
 
 pub returns : goal.returns

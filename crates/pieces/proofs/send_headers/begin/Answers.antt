@@ -3,7 +3,6 @@
 use native.Mathlib.Omega.{arith}
 use native.Mathlib.Nat.{zero-add}
 use mathlib.Core.Path.{refl, sym, ap}
-use borrow.Author.Rules.{rules}
 use lib.ListN.{length}
 use Rattle.building.specs.Call.{Call}
 use Rattle.building_record.specs.declared.BuildingKind.{BuildingKind}
@@ -12,7 +11,6 @@ use Rattle.building_record.specs.Record.{opened}
 use Rattle.pieces.specs.Fixed.{send_headers_call}
 use Rattle.pieces.proofs.Laws.{send_headers_size}
 use Rattle.pieces.proofs.Pieces.{Checked, checked, refused_both, row_fits, end_exact, end_fits, done_both}
-use Rattle.std.proofs.Common.{not}
 use Rattle.pieces.proofs.send_headers.begin.Goals as goal
 
 pub returns-then-found-ne-NONE : goal.returns-then-found-ne-NONE

@@ -4,8 +4,6 @@ use mathlib.Core.Path.{sym, ap, ◌∙◌}
 use Rattle.payload.specs.SendHeaders.{greatest_status, least_status}
 use Rattle.building.specs.Fault.{or_else, range_fault}
 use Rattle.building.proofs.Sizes.{or_none}
-use borrow.Author.Rules.{rules}
-use Rattle.std.proofs.Common.{not}
 use Rattle.pieces.proofs.send_headers.fields_fault.Goals as goal
 
 pub returns : goal.returns

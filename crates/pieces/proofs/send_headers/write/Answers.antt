@@ -8,9 +8,6 @@ use Rattle.building.specs.Field.{opening, fields_bytes}
 use Rattle.wire.proofs.Rows.{Row, row_start, row_fits, row_next, row_done}
 use Rattle.building_record.specs.declared.BuildingKind.{BuildingKind}
 use Rattle.pieces.specs.Fixed.{fixed, send_headers_fields}
-use borrow.Author.Rules.{rules}
-use Rattle.std.proofs.Common.{not}
-use Rattle.std.proofs.Common.{ap}
 use Rattle.pieces.proofs.send_headers.write.Goals as goal
 
 pub string-at-requires : goal.string-at-requires

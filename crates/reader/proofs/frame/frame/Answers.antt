@@ -2,10 +2,7 @@
 -- Assumes nothing.
 use mathlib.Core.Path.{refl, sym, ◌∙◌}
 use mathlib.Core.Bool.{true, false}
-use borrow.Author.Rules.{rules}
 use Rattle.reader.proofs.Framing.{frame_is}
-use Rattle.std.proofs.Common.{not}
-use Rattle.std.proofs.Common.{ap}
 use Rattle.reader.proofs.frame.frame.Goals as goal
 
 pub returns-then-leading_differs : goal.returns-then-leading_differs

@@ -5,8 +5,6 @@ use mathlib.Core.Path.{refl, sym, ◌∙◌}
 use mathlib.Core.Bool.{true, false}
 use Prim.Native.Nat.{◌+◌, ◌≤◌}
 use lib.ListN.{length}
-use borrow.Author.Rules.{rules}
-use borrow.Author.Tests.{not-true, not-false}
 use Rattle.wire.proofs.Bytes.{room_in}
 use Rattle.reader.proofs.Framing.{differs_is}
 use Rattle.std.proofs.Common.{not}

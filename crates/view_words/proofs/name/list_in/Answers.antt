@@ -1,9 +1,7 @@
 -- `name::list_in` meets its contract, number by number.
 -- Assumes nothing.
-use borrow.Author.Tests.{ne_eqb}
 use mathlib.Core.Path.{sym, ap}
 use Rattle.view_words.specs.Name.{list_in}
-use Rattle.std.proofs.Common.{not}
 use Rattle.std.proofs.lemmas.Grind.{common_steps}
 use Rattle.std.proofs.Common.{arith}
 use Rattle.view_words.proofs.name.list_in.Goals as goal

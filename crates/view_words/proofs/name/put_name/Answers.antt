@@ -9,8 +9,6 @@ use Rattle.packet.specs.declared.Name.{Name}
 use Rattle.names.proofs.Codes.{name_length}
 use Rattle.view_words.proofs.Names.{row_length}
 use lib.ListN.{length}
-use borrow.Author.Rules.{rules}
-use Rattle.std.proofs.Common.{not}
 use Rattle.view_words.proofs.name.put_name.Goals as goal
 
 pub overflow_cast-size : goal.overflow_cast-size

@@ -3,11 +3,8 @@
 use mathlib.Core.Path.{refl, sym, ◌∙◌}
 use mathlib.Core.Bool.{true, false}
 use lib.Dec.{eqb}
-use borrow.Author.Rules.{rules}
 use Rattle.wire.specs.Field.{null_length}
 use Rattle.wire.proofs.Field.{after_is}
-use Rattle.std.proofs.Common.{not}
-use Rattle.std.proofs.Common.{ap}
 use Rattle.std.proofs.Common.{eq-eqb, ne_eqb}
 use Rattle.wire.proofs.read.after_length.Goals as goal
 

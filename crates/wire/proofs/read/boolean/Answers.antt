@@ -1,11 +1,8 @@
 -- `wire::read::boolean` meets its contract: by what the byte reads as, and then by its value.
 -- Assumes nothing.
 use mathlib.Core.Path.{sym, ◌∙◌}
-use borrow.Author.Rules.{rules}
 use borrow.Author.Tests.{ne_eqb}
 use Rattle.wire.proofs.Field.{boolean_is}
-use Rattle.std.proofs.Common.{not}
-use Rattle.std.proofs.Common.{ap}
 use Rattle.wire.proofs.read.boolean.Goals as goal
 
 pub returns-then-value-eq0 : goal.returns-then-value-eq0

@@ -1,10 +1,8 @@
 -- `wire::read::string` meets its contract: by what its length reads as.
 -- Assumes nothing.
 use mathlib.Core.Path.{sym, ap, ◌∙◌}
-use borrow.Author.Rules.{rules}
 use Rattle.wire.specs.Field.{string_at}
 use Rattle.wire.proofs.Field.{string_is}
-use Rattle.std.proofs.Common.{not}
 use Rattle.wire.proofs.read.string.Goals as goal
 
 pub returns-in-Refused : goal.returns-in-Refused

@@ -1,10 +1,8 @@
 -- `wire::write::boolean` meets its contract: a byte 1 or 0.
 -- Assumes nothing.
 use mathlib.Core.Path.{sym, ap, ◌∙◌}
-use borrow.Author.Rules.{rules}
 use Rattle.wire.specs.Bytes.{over}
 use Rattle.wire.specs.Field.{boolean_bytes}
-use Rattle.std.proofs.Common.{not}
 use Rattle.wire.proofs.write.boolean.Goals as goal
 
 pub returns-then-value : goal.returns-then-value

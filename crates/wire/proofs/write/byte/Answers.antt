@@ -3,8 +3,6 @@
 use mathlib.Core.Path.{refl}
 use borrow.Author.Rules.{rules}
 use Rattle.wire.proofs.Bytes.{over_set}
-use Rattle.std.proofs.Common.{not}
-use Rattle.std.proofs.Common.{ap}
 use Rattle.wire.proofs.write.byte.Goals as goal
 
 pub returns : goal.returns

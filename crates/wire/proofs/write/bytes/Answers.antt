@@ -3,15 +3,11 @@
 -- Assumes nothing.
 use native.Mathlib.Omega.{arith}
 use mathlib.Core.Path.{◌≡◌, refl, ◌∙◌}
-use Prim.Native.Nat.{◌-◌, ◌≤◌}
 use borrow.Author.Rules.{rules}
 use lib.ListN.{length, take, length-set}
 use lib.Seq.{take-length}
-use Rattle.wire.specs.Packet.{max_packet}
 use Rattle.wire.proofs.Bytes.{front_more, front_element}
-use Rattle.wire.proofs.Copying.{Copying, copying_start, copying_turn, copying_end}
-use Rattle.std.proofs.Common.{not}
-use Rattle.std.proofs.Common.{ap}
+use Rattle.wire.proofs.Copying.{copying_start, copying_turn, copying_end}
 use Rattle.wire.proofs.write.bytes.Goals as goal
 
 pub loop-i-preserved : goal.loop-i-preserved

@@ -1,17 +1,11 @@
 -- `wire::write::bytes` meets its contract. The first loop's invariant: the array's first i bytes are those to copy. The second's: the first j bytes are
 -- written, and the others are the buffer's own.
 -- Assumes nothing.
-use native.Mathlib.Omega.{arith}
-use mathlib.Core.Path.{◌≡◌, refl, ◌∙◌}
+use mathlib.Core.Path.{◌≡◌}
 use Prim.Native.Nat.{◌-◌, ◌≤◌}
-use borrow.Author.Rules.{rules}
-use lib.ListN.{length, take, length-set}
-use lib.Seq.{take-length}
+use lib.ListN.{length, take}
 use Rattle.wire.specs.Packet.{max_packet}
-use Rattle.wire.proofs.Bytes.{front_more, front_element}
-use Rattle.wire.proofs.Copying.{Copying, copying_start, copying_turn, copying_end}
-use Rattle.std.proofs.Common.{not}
-use Rattle.std.proofs.Common.{ap}
+use Rattle.wire.proofs.Copying.{Copying}
 use Rattle.wire.proofs.write.bytes.Given as goal
 
 abbrev pub invariant-loop-i : goal.invariant-loop-i

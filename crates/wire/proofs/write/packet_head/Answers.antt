@@ -4,12 +4,10 @@ use native.Mathlib.Omega.{arith}
 use mathlib.Core.Path.{◌≡◌, subst, sym, ap, ◌∙◌}
 use mathlib.Core.List.{List}
 use Prim.Native.Nat.{ℕ, ◌+◌}
-use borrow.Author.Rules.{rules}
 use lib.ListN.{length, length-append}
 use Rattle.wire.specs.Bytes.{over, integer_bytes}
 use Rattle.wire.specs.Packet.{leading, Fits}
 use Rattle.wire.proofs.Rows.{fits_first, fits_later, joined}
-use Rattle.std.proofs.Common.{not}
 use Rattle.wire.proofs.write.packet_head.Goals as goal
 
 pub bytes-at-requires : goal.bytes-at-requires

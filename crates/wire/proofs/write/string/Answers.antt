@@ -4,13 +4,11 @@ use native.Mathlib.Omega.{arith}
 use mathlib.Core.Path.{subst, sym, ap, ◌∙◌}
 use mathlib.Core.List.{List, [], ◌∷◌, ◌++◌}
 use Prim.Native.Nat.{ℕ, ◌+◌}
-use borrow.Author.Rules.{rules}
 use lib.ListN.{length}
 use Rattle.wire.specs.Bytes.{over, integer_bytes}
 use Rattle.wire.specs.Packet.{Fits}
 use Rattle.wire.proofs.Field.{null_bytes, text_bytes_lem, size_text}
 use Rattle.wire.proofs.Rows.{Row, row_start, row_fits, row_next, row_done, row_end}
-use Rattle.std.proofs.Common.{not}
 use Rattle.wire.proofs.write.string.Goals as goal
 
 pub integer-requires : goal.integer-requires

@@ -1,10 +1,7 @@
 -- `wire::write::string_size` meets its contract: null takes two bytes, a text two and its own and a zero.
 -- Assumes nothing.
 use mathlib.Core.Path.{sym}
-use borrow.Author.Rules.{rules}
 use Rattle.wire.proofs.Field.{size_null, size_text}
-use Rattle.std.proofs.Common.{not}
-use Rattle.std.proofs.Common.{ap}
 use Rattle.wire.proofs.write.string_size.Goals as goal
 
 pub returns-then-null : goal.returns-then-null

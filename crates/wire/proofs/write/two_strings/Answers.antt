@@ -3,12 +3,9 @@
 use native.Mathlib.Omega.{arith}
 use mathlib.Core.List.{List}
 use Prim.Native.Nat.{ℕ}
-use borrow.Author.Rules.{rules}
 use lib.ListN.{length-append}
 use Rattle.wire.specs.Field.{string_bytes}
 use Rattle.wire.proofs.Rows.{fits_first, fits_later, joined}
-use Rattle.std.proofs.Common.{not}
-use Rattle.std.proofs.Common.{ap}
 use Rattle.wire.proofs.write.two_strings.Goals as goal
 
 pub string-next-requires : goal.string-next-requires

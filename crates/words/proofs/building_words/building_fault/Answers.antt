@@ -2,9 +2,6 @@
 -- Assumes nothing.
 use mathlib.Core.Path.{◌∙◌}
 use Rattle.words.proofs.Records.{building_short, building_judged}
-use borrow.Author.Rules.{rules}
-use Rattle.std.proofs.Common.{not}
-use Rattle.std.proofs.Common.{ap}
 use Rattle.words.proofs.building_words.building_fault.Goals as goal
 
 pub returns-then-words-ne-BUILDING_SIZE : goal.returns-then-words-ne-BUILDING_SIZE

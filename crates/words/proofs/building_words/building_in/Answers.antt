@@ -1,9 +1,6 @@
 -- `building_words::building_in` meets its contract: each field is the one that its word says.
 -- Assumes nothing.
 use Rattle.words.specs.BuildingWords.{building_in}
-use borrow.Author.Rules.{rules}
-use Rattle.std.proofs.Common.{not}
-use Rattle.std.proofs.Common.{ap}
 use Rattle.words.proofs.building_words.building_in.Goals as goal
 
 pub returns : goal.returns

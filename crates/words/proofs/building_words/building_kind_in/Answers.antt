@@ -4,8 +4,6 @@ use borrow.Author.Tests.{eq-eqb, ne_eqb}
 use Rattle.connection.specs.declared.Kind.{Kind}
 use Rattle.words.specs.Kinds.{kind_word}
 use Rattle.words.specs.BuildingWords.{building_kind_in}
-use Rattle.std.proofs.Common.{not}
-use Rattle.std.proofs.Common.{ap}
 use Rattle.words.proofs.building_words.building_kind_in.Goals as goal
 
 pub returns-then-word-eq-FORWARD : goal.returns-then-word-eq-FORWARD

@@ -1,9 +1,6 @@
 -- `building_words::building_room` meets its contract, which is the definition.
 -- Assumes nothing.
 use Rattle.words.specs.BuildingWords.{building_room}
-use borrow.Author.Rules.{rules}
-use Rattle.std.proofs.Common.{not}
-use Rattle.std.proofs.Common.{ap}
 use Rattle.words.proofs.building_words.building_room.Goals as goal
 
 pub returns : goal.returns

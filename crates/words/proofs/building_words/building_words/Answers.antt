@@ -1,9 +1,6 @@
 -- `building_words::building_words` meets its contract: each word is its field's.
 -- Assumes nothing.
 use Rattle.words.specs.BuildingWords.{building_words}
-use borrow.Author.Rules.{rules}
-use Rattle.std.proofs.Common.{not}
-use Rattle.std.proofs.Common.{ap}
 use Rattle.words.proofs.building_words.building_words.Goals as goal
 
 pub returns : goal.returns

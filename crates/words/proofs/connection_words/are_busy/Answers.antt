@@ -3,9 +3,6 @@
 use borrow.Author.Tests.{le-leb, lt-leb, eq-eqb, ne_eqb}
 use Rattle.words.specs.Number.{word, last_flag}
 use Rattle.words.specs.ConnectionWords.{due_place, headers_place, head_place}
-use borrow.Author.Rules.{rules}
-use Rattle.std.proofs.Common.{not}
-use Rattle.std.proofs.Common.{ap}
 use Rattle.words.proofs.connection_words.are_busy.Goals as goal
 
 pub returns-then-words-gt-SET : goal.returns-then-words-gt-SET

@@ -1,15 +1,12 @@
 -- `connection_words::connection_fault` meets its contract, by how many words there are and by each test of them.
 -- Assumes nothing.
-use borrow.Author.Tests.{eq-eqb, ne_eqb, not-true, not-false}
+use borrow.Author.Tests.{eq-eqb, ne_eqb}
 use mathlib.Core.Path.{refl, sym, ◌∙◌}
 use mathlib.Core.Bool.{true, false}
 use Rattle.connection.specs.declared.State.{State}
 use Rattle.words.specs.Number.{word}
 use Rattle.words.specs.ConnectionWords.{state_word, state_place}
 use Rattle.words.proofs.Records.{connection_short, connection_judged, connection_by}
-use borrow.Author.Rules.{rules}
-use Rattle.std.proofs.Common.{not}
-use Rattle.std.proofs.Common.{ap}
 use Rattle.words.proofs.connection_words.connection_fault.Goals as goal
 
 pub returns-then-words-ne-CONNECTION_SIZE : goal.returns-then-words-ne-CONNECTION_SIZE

@@ -1,9 +1,6 @@
 -- `connection_words::connection_in` meets its contract: each field is the one that its word says.
 -- Assumes nothing.
 use Rattle.words.specs.ConnectionWords.{connection_in}
-use borrow.Author.Rules.{rules}
-use Rattle.std.proofs.Common.{not}
-use Rattle.std.proofs.Common.{ap}
 use Rattle.words.proofs.connection_words.connection_in.Goals as goal
 
 pub returns : goal.returns

@@ -1,9 +1,6 @@
 -- `connection_words::connection_room` meets its contract, which is the definition.
 -- Assumes nothing.
 use Rattle.words.specs.ConnectionWords.{connection_room}
-use borrow.Author.Rules.{rules}
-use Rattle.std.proofs.Common.{not}
-use Rattle.std.proofs.Common.{ap}
 use Rattle.words.proofs.connection_words.connection_room.Goals as goal
 
 pub returns : goal.returns

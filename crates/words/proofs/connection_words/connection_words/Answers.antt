@@ -1,9 +1,6 @@
 -- `connection_words::connection_words` meets its contract: each word is its field's.
 -- Assumes nothing.
 use Rattle.words.specs.ConnectionWords.{connection_words}
-use borrow.Author.Rules.{rules}
-use Rattle.std.proofs.Common.{not}
-use Rattle.std.proofs.Common.{ap}
 use Rattle.words.proofs.connection_words.connection_words.Goals as goal
 
 pub returns : goal.returns

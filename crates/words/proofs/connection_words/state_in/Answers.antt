@@ -2,8 +2,6 @@
 -- Assumes nothing.
 use borrow.Author.Tests.{eq-eqb, ne_eqb}
 use Rattle.words.specs.ConnectionWords.{state_in}
-use Rattle.std.proofs.Common.{not}
-use Rattle.std.proofs.Common.{ap}
 use Rattle.words.proofs.connection_words.state_in.Goals as goal
 
 pub returns-then-word-eq-IDLE : goal.returns-then-word-eq-IDLE

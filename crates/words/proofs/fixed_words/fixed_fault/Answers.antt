@@ -2,9 +2,6 @@
 -- Assumes nothing.
 use mathlib.Core.Path.{◌∙◌}
 use Rattle.words.proofs.FixedWords.{fixed_short, fixed_judged}
-use borrow.Author.Rules.{rules}
-use Rattle.std.proofs.Common.{not}
-use Rattle.std.proofs.Common.{ap}
 use Rattle.words.proofs.fixed_words.fixed_fault.Goals as goal
 
 pub returns-then-words-ne-FIXED_SIZE : goal.returns-then-words-ne-FIXED_SIZE

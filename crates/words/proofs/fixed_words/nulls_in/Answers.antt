@@ -1,9 +1,6 @@
 -- `fixed_words::nulls_in` meets its contract, flag by flag.
 -- Assumes nothing.
 use Rattle.words.specs.FixedWords.{nulls_in}
-use borrow.Author.Rules.{rules}
-use Rattle.std.proofs.Common.{not}
-use Rattle.std.proofs.Common.{ap}
 use Rattle.words.proofs.fixed_words.nulls_in.Goals as goal
 
 pub returns : goal.returns

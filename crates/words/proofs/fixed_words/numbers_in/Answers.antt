@@ -1,9 +1,6 @@
 -- `fixed_words::numbers_in` meets its contract, word by word.
 -- Assumes nothing.
 use Rattle.words.specs.FixedWords.{numbers_in}
-use borrow.Author.Rules.{rules}
-use Rattle.std.proofs.Common.{not}
-use Rattle.std.proofs.Common.{ap}
 use Rattle.words.proofs.fixed_words.numbers_in.Goals as goal
 
 pub returns : goal.returns

@@ -1,8 +1,5 @@
 -- `fixed_words::ssl_fault` meets its contract: a flag is at most 1, and every word is at least 0.
 -- Assumes nothing.
-use borrow.Author.Rules.{rules}
-use Rattle.std.proofs.Common.{not}
-use Rattle.std.proofs.Common.{ap}
 use Rattle.words.proofs.fixed_words.ssl_fault.Goals as goal
 
 pub returns : goal.returns

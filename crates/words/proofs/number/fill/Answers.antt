@@ -2,13 +2,9 @@
 -- Assumes nothing.
 use native.Mathlib.Nat.{zero-add}
 use mathlib.Core.Path.{sym, ◌∙◌}
-use Prim.Native.Nat.{◌-◌}
 use borrow.Author.Rules.{rules}
-use lib.ListN.{length}
-use Rattle.wire.proofs.Copying.{Copying, copying_start, copying_turn, copying_end}
+use Rattle.wire.proofs.Copying.{copying_start, copying_turn, copying_end}
 use Rattle.words.proofs.Lists.{over_all}
-use Rattle.std.proofs.Common.{not}
-use Rattle.std.proofs.Common.{ap}
 use Rattle.words.proofs.number.fill.Goals as goal
 
 pub loop-i-init : goal.loop-i-init

@@ -1,14 +1,8 @@
 -- `number::fill` meets its contract: the loop copies the words over all of the array.
 -- Assumes nothing.
-use native.Mathlib.Nat.{zero-add}
-use mathlib.Core.Path.{sym, ◌∙◌}
 use Prim.Native.Nat.{◌-◌}
-use borrow.Author.Rules.{rules}
 use lib.ListN.{length}
-use Rattle.wire.proofs.Copying.{Copying, copying_start, copying_turn, copying_end}
-use Rattle.words.proofs.Lists.{over_all}
-use Rattle.std.proofs.Common.{not}
-use Rattle.std.proofs.Common.{ap}
+use Rattle.wire.proofs.Copying.{Copying}
 use Rattle.words.proofs.number.fill.Given as goal
 
 abbrev pub invariant-loop-i : goal.invariant-loop-i

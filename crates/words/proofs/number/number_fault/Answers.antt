@@ -1,9 +1,6 @@
 -- `number::number_fault` meets its contract, which is the definition.
 -- Assumes nothing.
 use Rattle.words.specs.Number.{number_fault}
-use borrow.Author.Rules.{rules}
-use Rattle.std.proofs.Common.{not}
-use Rattle.std.proofs.Common.{ap}
 use Rattle.words.proofs.number.number_fault.Goals as goal
 
 pub returns : goal.returns

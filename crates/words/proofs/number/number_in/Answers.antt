@@ -2,9 +2,6 @@
 -- Assumes nothing.
 use mathlib.Core.Path.{sym}
 use Rattle.words.proofs.Records.{capped_same, capped_great}
-use borrow.Author.Rules.{rules}
-use Rattle.std.proofs.Common.{not}
-use Rattle.std.proofs.Common.{ap}
 use Rattle.words.proofs.number.number_in.Goals as goal
 
 pub returns-then-word-le-LAST_NUMBER : goal.returns-then-word-le-LAST_NUMBER

@@ -1,8 +1,6 @@
 -- `status::or_else` meets its contract, by whether there is a first fault.
 -- Assumes nothing.
 use borrow.Author.Tests.{eq-eqb, ne_eqb}
-use Rattle.std.proofs.Common.{not}
-use Rattle.std.proofs.Common.{ap}
 use Rattle.words.proofs.status.or_else.Goals as goal
 
 pub returns-then-fault-eq-DONE : goal.returns-then-fault-eq-DONE
