@@ -4,8 +4,6 @@ use mathlib.Core.Path.{sym, ap, ◌∙◌}
 use Rattle.words.proofs.Found.{fault_keeps, later_written}
 use Rattle.checking_words.specs.CheckingWords.{checked_words, check_after}
 use Rattle.checking_words.proofs.Laws.{checked_room}
-use borrow.Author.Rules.{rules}
-use Rattle.std.proofs.Common.{not}
 use Rattle.ajp13.proofs.check.ajp13_words_check.Goals as goal
 
 pub returns-then-found-ne-DONE : goal.returns-then-found-ne-DONE

@@ -9,8 +9,6 @@ use lib.ListN.{length}
 use Rattle.words.specs.BuildingWords.{building_size}
 use Rattle.ajp13.proofs.Effects.{close_right, close_leaves}
 use Rattle.answers.proofs.Effects.{fault_told}
-use borrow.Author.Rules.{rules}
-use Rattle.std.proofs.Common.{not}
 use Rattle.ajp13.proofs.close.ajp13_words_close.Goals as goal
 
 pub returns-then-found-ne-DONE : goal.returns-then-found-ne-DONE

@@ -1,9 +1,6 @@
 -- `close::close_fault` meets its contract: each fault is the definition's, and they are looked for in its order.
 -- Assumes nothing.
 use Rattle.ajp13.specs.Sending.{close_fault}
-use borrow.Author.Rules.{rules}
-use Rattle.std.proofs.Common.{not}
-use Rattle.std.proofs.Common.{ap}
 use Rattle.ajp13.proofs.close.close_fault.Goals as goal
 
 pub returns : goal.returns

@@ -4,8 +4,6 @@ use borrow.Author.Tests.{eq-eqb, ne_eqb}
 use mathlib.Core.Path.{sym, ap, ◌∙◌}
 use Rattle.words.specs.ConnectionWords.{connection_words, fresh_after}
 use Rattle.words.proofs.Records.{connection_room_lem}
-use borrow.Author.Rules.{rules}
-use Rattle.std.proofs.Common.{not}
 use Rattle.ajp13.proofs.held.ajp13_words_fresh.Goals as goal
 
 pub returns-then-found-ne-DONE : goal.returns-then-found-ne-DONE

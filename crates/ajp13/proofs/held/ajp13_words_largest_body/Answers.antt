@@ -4,8 +4,6 @@ use mathlib.Core.Path.{sym, ap, ◌∙◌}
 use Rattle.connection.specs.Cycle.{largest_body}
 use Rattle.words.proofs.Found.{fault_told, later_told}
 use Rattle.words.proofs.Records.{connection_all}
-use borrow.Author.Rules.{rules}
-use Rattle.std.proofs.Common.{not}
 use Rattle.ajp13.proofs.held.ajp13_words_largest_body.Goals as goal
 
 pub returns-then-found-ne-DONE : goal.returns-then-found-ne-DONE

@@ -5,8 +5,6 @@ use Rattle.names.specs.Names.{code_in}
 use Rattle.names.specs.declared.NameList.{NameList}
 use Rattle.view_words.specs.Name.{code_number}
 use Rattle.words.proofs.Found.{fault_told, later_told}
-use borrow.Author.Rules.{rules}
-use Rattle.std.proofs.Common.{not}
 use Rattle.ajp13.proofs.name.ajp13_code.Goals as goal
 
 pub returns-then-found-ne-DONE : goal.returns-then-found-ne-DONE

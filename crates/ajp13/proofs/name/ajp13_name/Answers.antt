@@ -2,9 +2,6 @@
 -- Assumes nothing.
 use Rattle.words.proofs.Found.{fault_told}
 use Rattle.view_words.proofs.Names.{fault_leaves, name_fine, name_told}
-use borrow.Author.Rules.{rules}
-use Rattle.std.proofs.Common.{not}
-use Rattle.std.proofs.Common.{ap}
 use Rattle.ajp13.proofs.name.ajp13_name.Goals as goal
 
 pub returns-then-found-ne-DONE : goal.returns-then-found-ne-DONE

@@ -8,9 +8,6 @@ use Rattle.words.proofs.FixedWords.{fixed_all}
 use Rattle.words.proofs.Records.{building_room_lem}
 use Rattle.ajp13.specs.Piece.{Piece, forward_piece}
 use Rattle.ajp13.proofs.Pieces.{piece_fault, piece_called}
-use borrow.Author.Rules.{rules}
-use Rattle.std.proofs.Common.{not}
-use Rattle.std.proofs.Common.{ap}
 use Rattle.ajp13.proofs.piece.ajp13_words_begin_forward.Goals as goal
 
 pub returns-then-found-ne-DONE : goal.returns-then-found-ne-DONE

@@ -6,9 +6,6 @@ use Rattle.building.proofs.Faults.{Faultless, faultless}
 use Rattle.ajp13.specs.Piece.{Piece, named_piece}
 use Rattle.words.proofs.Records.{building_all}
 use Rattle.ajp13.proofs.Pieces.{piece_fault, piece_called}
-use borrow.Author.Rules.{rules}
-use Rattle.std.proofs.Common.{not}
-use Rattle.std.proofs.Common.{ap}
 use Rattle.ajp13.proofs.piece.ajp13_words_header_named.Goals as goal
 
 pub returns-then-found-ne-DONE : goal.returns-then-found-ne-DONE

@@ -9,8 +9,6 @@ use Rattle.answers.specs.Private.{Takes}
 use Rattle.answers.proofs.Effects.{call_takes, fault_told}
 use Rattle.ajp13.specs.Reading.{read_effect}
 use Rattle.ajp13.proofs.Effects.{read_leaves, short_within, short_leaves}
-use borrow.Author.Rules.{rules}
-use Rattle.std.proofs.Common.{not}
 use Rattle.ajp13.proofs.read.ajp13_words_read_at_container.Goals as goal
 
 pub returns-then-found-ne-DONE : goal.returns-then-found-ne-DONE

@@ -5,9 +5,6 @@ use lib.ListN.{length}
 use Rattle.answers.specs.Private.{ReadWithin}
 use Rattle.ajp13.proofs.Within.{read_within}
 use Rattle.ajp13.proofs.Effects.{sound_reading_lem}
-use borrow.Author.Rules.{rules}
-use Rattle.std.proofs.Common.{not}
-use Rattle.std.proofs.Common.{ap}
 use Rattle.ajp13.proofs.read.read_any.Goals as goal
 
 pub connection_in-requires : goal.connection_in-requires

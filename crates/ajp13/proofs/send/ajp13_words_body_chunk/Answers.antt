@@ -11,9 +11,6 @@ use Rattle.answers.specs.Private.{SentWithin, Takes}
 use Rattle.ajp13.proofs.Within.{sent_within}
 use Rattle.answers.proofs.Effects.{call_takes, fault_told}
 use Rattle.ajp13.proofs.Effects.{send_leaves}
-use borrow.Author.Rules.{rules}
-use Rattle.std.proofs.Common.{not}
-use Rattle.std.proofs.Common.{ap}
 use Rattle.ajp13.proofs.send.ajp13_words_body_chunk.Goals as goal
 
 pub returns-then-found-ne-DONE : goal.returns-then-found-ne-DONE

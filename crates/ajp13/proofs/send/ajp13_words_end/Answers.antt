@@ -22,8 +22,6 @@ use Rattle.ajp13.specs.Sending.{reuse_fault, end_of, end_effect}
 use Rattle.building.proofs.WithFault.{none_comes, none_writes, fault_comes, fault_writes}
 use Rattle.ajp13.proofs.Within.{sent_within}
 use Rattle.ajp13.proofs.Effects.{send_leaves}
-use borrow.Author.Rules.{rules}
-use Rattle.std.proofs.Common.{not}
 use Rattle.ajp13.proofs.send.ajp13_words_end.Goals as goal
 
 -- a boolean has no fault; of what is none the first fault is 13, or 7 behind it

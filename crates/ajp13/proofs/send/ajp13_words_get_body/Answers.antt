@@ -18,8 +18,6 @@ use Rattle.ajp13.proofs.Within.{sent_within}
 use Rattle.answers.proofs.Effects.{call_takes, fault_told}
 use Rattle.ajp13.proofs.Effects.{send_leaves}
 use Rattle.words.proofs.Records.{number_within, capped_same}
-use borrow.Author.Rules.{rules}
-use Rattle.std.proofs.Common.{not}
 use Rattle.ajp13.proofs.send.ajp13_words_get_body.Goals as goal
 
 pub returns-then-found-ne-DONE : goal.returns-then-found-ne-DONE

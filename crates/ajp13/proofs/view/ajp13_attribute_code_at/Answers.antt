@@ -5,8 +5,6 @@ use Rattle.words.proofs.Found.{fault_told, later_told}
 use Rattle.words.proofs.Records.{number_within}
 use Prim.Native.Nat.{ℕ}
 use lib.ListN.{get_or}
-use borrow.Author.Rules.{rules}
-use Rattle.std.proofs.Common.{not}
 use Rattle.ajp13.proofs.view.ajp13_attribute_code_at.Goals as goal
 
 pub returns-then-found-ne-DONE : goal.returns-then-found-ne-DONE

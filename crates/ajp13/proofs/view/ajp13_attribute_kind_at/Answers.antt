@@ -7,8 +7,6 @@ use Prim.Native.Nat.{ℕ}
 use lib.ListN.{get_or}
 use Rattle.names.specs.Attribute.{attribute_kind}
 use Rattle.view_words.specs.View.{kind_number}
-use borrow.Author.Rules.{rules}
-use Rattle.std.proofs.Common.{not}
 use Rattle.ajp13.proofs.view.ajp13_attribute_kind_at.Goals as goal
 
 pub returns-then-found-ne-DONE : goal.returns-then-found-ne-DONE

@@ -5,8 +5,6 @@ use Rattle.views.specs.View.{name_view}
 use Rattle.view_words.specs.View.{name_number}
 use Rattle.words.proofs.Found.{fault_told, later_told}
 use Rattle.words.proofs.Records.{number_within}
-use borrow.Author.Rules.{rules}
-use Rattle.std.proofs.Common.{not}
 use Rattle.ajp13.proofs.view.ajp13_header_code_at.Goals as goal
 
 pub returns-then-found-ne-DONE : goal.returns-then-found-ne-DONE

@@ -4,8 +4,6 @@ use mathlib.Core.Path.{sym, ap, ◌∙◌}
 use Rattle.words.proofs.Found.{fault_told, later_told}
 use Rattle.words.proofs.Records.{number_within}
 use Rattle.views.specs.View.{integer_view}
-use borrow.Author.Rules.{rules}
-use Rattle.std.proofs.Common.{not}
 use Rattle.ajp13.proofs.view.ajp13_integer_at.Goals as goal
 
 pub returns-then-found-ne-DONE : goal.returns-then-found-ne-DONE

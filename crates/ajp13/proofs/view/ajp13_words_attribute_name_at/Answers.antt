@@ -8,8 +8,6 @@ use Rattle.views.specs.View.{text_view}
 use Rattle.view_words.specs.View.{text_words, text_after}
 use Rattle.words.proofs.Found.{fault_keeps, later_written}
 use Rattle.view_words.proofs.Views.{text_fine}
-use borrow.Author.Rules.{rules}
-use Rattle.std.proofs.Common.{not}
 use Rattle.ajp13.proofs.view.ajp13_words_attribute_name_at.Goals as goal
 
 pub returns-then-found-ne-DONE : goal.returns-then-found-ne-DONE
