@@ -6,55 +6,74 @@ mod run;
 mod show;
 mod word;
 
-use libc::{STDERR_FILENO, STDIN_FILENO, STDOUT_FILENO};
+use std::env::FillError;
+use std::fs::File;
+use std::rt::Env;
+use std::{io, str};
 
-fn main() {
-    let words = os::arg_count();
-    if words < 2 {
-        run::judge(STDIN_FILENO, b"standard input");
+// Room for the longest name that the system opens.
+const NAME: usize = 4096;
+
+fn main(rt: HostRuntime) {
+    if !has_word(&rt, 1) {
+        run::judge(&rt, &mut rt.stdin(), "standard input");
         return;
     }
-    if words > 2 {
-        complain(b"only one capture is checked at a time", b"");
+    if has_word(&rt, 2) {
+        complain(&rt, "only one capture is checked at a time", "");
         return;
     }
-    let mut room = io::buffer();
-    let size = os::arg(1, &mut room);
-    if os::errno() != 0 {
-        os::fail(b"check_capture: the name of the capture");
-        return;
+    let mut room = [0u8; NAME];
+    match named(&rt, &mut room) {
+        Ok(word) => by_word(&rt, word),
+        Err(why) => run::fail(&rt, "the name of the capture", why),
     }
-    by_word(&room[..size]);
+}
+
+// Whether the command line has a word of this number. The program's own name is number 0.
+fn has_word(rt: &impl Env, number: usize) -> bool {
+    match rt.arg(number, &mut [0; 0]) {
+        Ok(_) => true,
+        Err(FillError::TooLong) => true,
+        Err(FillError::NotPresent) => false,
+    }
+}
+
+// The first word on the command line, which is stored in the room. A name that is no text cannot be opened.
+fn named<'a>(rt: &impl Env, room: &'a mut [u8]) -> io::Result<&'a str> {
+    match rt.arg(1, room) {
+        Ok(size) => match str::from_utf8(&room[..size]) {
+            Ok(word) => Ok(word),
+            Err(_) => Err(io::Error::new(io::ErrorKind::InvalidInput, "it is not UTF-8")),
+        },
+        Err(_) => Err(io::Error::from(io::ErrorKind::InvalidFilename)),
+    }
 }
 
 // By the word on the command line: help, standard input, or a file.
-fn by_word(word: &[u8]) {
-    if word::is(word, b"--help") {
-        help();
+fn by_word(rt: &HostRuntime, word: &str) {
+    if word::is(word.as_bytes(), b"--help") {
+        help(rt);
         return;
     }
-    if word::is(word, b"-") {
-        run::judge(STDIN_FILENO, b"standard input");
+    if word::is(word.as_bytes(), b"-") {
+        run::judge(rt, &mut rt.stdin(), "standard input");
         return;
     }
-    if word::begins(word, b'-') {
-        complain(b"unknown word ", word);
+    if word::begins(word.as_bytes(), b'-') {
+        complain(rt, "unknown word ", word);
         return;
     }
-    let file = os::open_read(word);
-    if file < 0 {
-        run::fail(word);
-        return;
+    match File::open(rt, word) {
+        Ok(mut file) => run::judge(rt, &mut file, word),
+        Err(why) => run::fail(rt, word, why),
     }
-    run::judge(file, word);
-    libc::close(file);
 }
 
 // Says what the program does.
-fn help() {
-    let is_written = io::write_all(
-        STDOUT_FILENO,
-        b"usage: check_capture [FILE]
+fn help(rt: &(impl Print + Eprint)) {
+    let written = rt.print(
+        "usage: check_capture [FILE]
 
 Checks a capture of an AJP13 connection: whole packets of both directions, one behind the other, as
 they are seen at the web server's end. Reads FILE, or standard input without one, and writes six lines:
@@ -66,18 +85,12 @@ body=       bytes of request bodies in them    place=     where the refused pack
 It stops at the first fault. docs/CAPTURES.md says what each number means, and how to make a capture.
 ",
     );
-    if !is_written {
-        os::fail(b"check_capture: standard output");
+    if let Err(why) = written {
+        run::fail(rt, "standard output", why);
     }
 }
 
 // Says on standard error what is wrong with the command line.
-fn complain(what: &[u8], word: &[u8]) {
-    io::write_all(STDERR_FILENO, b"check_capture: ");
-    io::write_all(STDERR_FILENO, what);
-    io::write_all(STDERR_FILENO, word);
-    io::write_all(
-        STDERR_FILENO,
-        b" (check_capture --help says what it takes)\n",
-    );
+fn complain(rt: &impl Eprint, what: &str, word: &str) {
+    let _ = eprintln!(rt; "check_capture: {what}{word} (check_capture --help says what it takes)");
 }

@@ -1,11 +1,12 @@
 // A capture read in parts through a window on the stack, so that it may have any size.
-ghost use Rattle.std.specs.Prelude.{◌≤◌, ◌≡◌, length};
+ghost use Rattle.std.specs.Prelude.{◌+◌, ◌≤◌, ◌≡◌, IfOk, length};
 ghost use Rattle.check_capture.specs.Window.{window_size};
 
 use crate::show;
 use capture::window::keep;
 use checking::{Checking, MAX_CAPTURE};
-use libc::STDERR_FILENO;
+use std::io;
+use std::io::Read;
 use wire::{part_of, refusal};
 
 // The window has room for many packets, so that few reads are made.
@@ -22,7 +23,7 @@ fn window() -> [u8; WINDOW]
 enum Stage {
     Reading,
     Ended,
-    Failed,
+    Failed(io::Error),
 }
 
 // A run on the way: the check, how many bytes are kept at the window's front, and how far it has come.
@@ -34,31 +35,33 @@ struct Run {
 }
 
 // Checks what is read from a file, and writes the six lines; or says why it could not be read to its end.
-pub fn judge(file: i32, name: &[u8]) {
+pub fn judge(rt: &(impl Print + Eprint), file: &mut impl Read, name: &str) {
     let mut room = window();
     let run = whole(file, &mut room);
     let stage = run.stage;
     match stage {
         Stage::Ended => {
-            show::lines(run.checking.finish(size(run.checking, run.kept)));
+            let checked = run.checking.finish(size(run.checking, run.kept));
+            if let Err(why) = show::lines(rt, checked) {
+                fail(rt, "standard output", why);
+            }
         }
         Stage::Reading => {
-            fail(name);
+            fail(rt, name, io::Error::other("it has no end"));
         }
-        Stage::Failed => {
-            fail(name);
+        Stage::Failed(why) => {
+            fail(rt, name, why);
         }
     }
 }
 
-// Says on standard error what could not be opened or read, and why.
-pub fn fail(name: &[u8]) {
-    io::write_all(STDERR_FILENO, b"check_capture: ");
-    os::fail(name);
+// Says on standard error what could not be opened, read or written, and why.
+pub fn fail(rt: &impl Eprint, name: &str, why: io::Error) {
+    let _ = eprintln!(rt; "check_capture: {name}: {why}");
 }
 
 // Reads to the end, or until no more bytes would be looked at. The turns are counted down from a number that no run uses up.
-fn whole(file: i32, window: &mut [u8]) -> Run
+fn whole(file: &mut impl Read, window: &mut [u8]) -> Run
     requires { length window.old ≡ window_size }
     ensures { result.kept ≤ window_size }
 {
@@ -82,13 +85,13 @@ fn is_reading(stage: Stage) -> bool {
     match stage {
         Stage::Reading => true,
         Stage::Ended => false,
-        Stage::Failed => false,
+        Stage::Failed(_) => false,
     }
 }
 
 // Reads once behind the bytes that are kept, and checks what is there then. Where there is no room none is made: it would be taken for the
 // end.
-fn turn(file: i32, checking: Checking, kept: usize, window: &mut [u8]) -> Run
+fn turn(file: &mut impl Read, checking: Checking, kept: usize, window: &mut [u8]) -> Run
     requires { (length window.old ≡ window_size) × (kept ≤ window_size) }
     ensures kept_le_window_size { result.kept ≤ window_size }
     ensures window_len { length window.new ≡ window_size }
@@ -97,34 +100,31 @@ fn turn(file: i32, checking: Checking, kept: usize, window: &mut [u8]) -> Run
         return Run {
             checking,
             kept,
-            stage: Stage::Failed,
+            stage: Stage::Failed(io::Error::other("no room is left to read into")),
         };
     }
-    let more = more_at(file, kept, window);
-    if more < 0 {
-        return Run {
+    match more_at(file, kept, window) {
+        Err(why) => Run {
             checking,
             kept,
-            stage: Stage::Failed,
-        };
-    }
-    let count = io::count(more, &window[kept..]);
-    if count == 0 {
-        return Run {
+            stage: Stage::Failed(why),
+        },
+        Ok(0) => Run {
             checking,
             kept,
             stage: Stage::Ended,
-        };
+        },
+        Ok(count) => checked(checking, kept + count, window),
     }
-    checked(checking, kept + count, window)
 }
 
-// Reads into the window from a place on: how many bytes came, or a number below 0.
-fn more_at(file: i32, kept: usize, window: &mut [u8]) -> isize
+// Reads into the window from a place on: how many bytes came.
+fn more_at(file: &mut impl Read, kept: usize, window: &mut [u8]) -> io::Result<usize>
     requires { (length window.old ≡ window_size) × (kept ≤ window_size) }
-    ensures { length window.new ≡ window_size }
+    ensures window_len { length window.new ≡ window_size }
+    ensures in_window { IfOk result (λ count. kept + count ≤ window_size) }
 {
-    libc::read(file, &mut window[kept..])
+    file.read(&mut window[kept..])
 }
 
 // Goes on with the first `there` bytes of the window, and keeps those that were not taken.

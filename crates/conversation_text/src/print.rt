@@ -1,43 +1,44 @@
 // Writes to standard output.
-use libc::STDOUT_FILENO;
+use itoa::Buffer;
+use std::io;
 use wire::part_of;
 
-pub fn text(s: &[u8]) {
-    io::write_all(STDOUT_FILENO, s);
+pub fn text(rt: &impl Print, s: &[u8]) -> io::Result<()> {
+    rt.write_all(s)
 }
 
-pub fn letter(b: u8) {
+pub fn letter(rt: &impl Print, b: u8) -> io::Result<()> {
     let itself = [b];
-    text(&itself);
+    text(rt, &itself)
 }
 
 // What stands before a text, and the text.
-pub fn named(before: &[u8], s: &[u8]) {
-    text(before);
-    text(s);
+pub fn named(rt: &impl Print, before: &[u8], s: &[u8]) -> io::Result<()> {
+    text(rt, before)?;
+    text(rt, s)
 }
 
-pub fn decimal(n: u64) {
-    io::print_decimal(STDOUT_FILENO, n);
+pub fn decimal(rt: &impl Print, n: u64) -> io::Result<()> {
+    rt.print(n)
 }
 
 // A number in hexadecimal, with at least so many digits.
-pub fn hex(n: u64, digits: usize) {
-    io::print_hex(STDOUT_FILENO, n, digits);
+pub fn hex(rt: &impl Print, n: u64, digits: usize) -> io::Result<()> {
+    print!(rt; "{n:0digits$x}")
 }
 
 // A text and spaces behind it, so many characters in all, at most 16 of them spaces.
-pub fn padded(s: &[u8], width: usize) {
-    text(s);
+pub fn padded(rt: &impl Print, s: &[u8], width: usize) -> io::Result<()> {
+    text(rt, s)?;
     if s.len() < width {
-        text(part_of(b"                ", 0, width - s.len()));
+        text(rt, part_of(b"                ", 0, width - s.len()))?;
     }
+    Ok(())
 }
 
 // What stands before a number, and the number padded in the same way.
-pub fn counted(before: &[u8], n: u64, width: usize) {
-    let mut digits = [0u8; 20];
-    let count = io::decimal(n, &mut digits);
-    text(before);
-    padded(&digits[..count], width);
+pub fn counted(rt: &impl Print, before: &[u8], n: u64, width: usize) -> io::Result<()> {
+    let mut digits = Buffer::new();
+    text(rt, before)?;
+    padded(rt, digits.format(n).as_bytes(), width)
 }

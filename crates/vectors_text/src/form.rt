@@ -4,6 +4,7 @@
 //   B  bytes, T  a table of places, S  a string, null or bytes
 // and every other character for itself.
 use crate::{commands, text};
+use itoa::Buffer;
 
 // Stands for no place of a case.
 const NOWHERE: usize = usize::MAX;
@@ -82,9 +83,8 @@ fn is_letter(word: &[u8], letters: &[u8]) -> bool {
 // Whether a word is a number up to this one, as it is printed.
 fn is_number(word: &[u8], most: u64) -> bool {
     let n = crate::parse::decimal(word);
-    let mut digits = [0u8; 20];
-    let count = io::decimal(n, &mut digits);
-    n <= most && text::equal(word, &digits[..count])
+    let mut digits = Buffer::new();
+    n <= most && text::equal(word, digits.format(n).as_bytes())
 }
 
 // Whether a word is an even number of hexadecimal digits, up to so many, or - for none.

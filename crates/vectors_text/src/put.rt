@@ -4,6 +4,7 @@ use crate::answer;
 use crate::answer::Answer;
 use crate::text::{after, field};
 use connection::{Connection, State};
+use itoa::Buffer;
 
 pub fn text(out: &mut [u8], at: usize, s: &[u8]) -> usize {
     let n = s.len();
@@ -21,9 +22,8 @@ pub fn text(out: &mut [u8], at: usize, s: &[u8]) -> usize {
 
 // A number in decimal.
 fn decimal(out: &mut [u8], at: usize, n: u64) -> usize {
-    let mut digits = [0u8; 20];
-    let count = io::decimal(n, &mut digits);
-    text(out, at, &digits[..count])
+    let mut digits = Buffer::new();
+    text(out, at, digits.format(n).as_bytes())
 }
 
 // The digit of a number up to 15.
