@@ -2,6 +2,7 @@
 use connection::Connection;
 use conversation_text::record;
 use packet::Direction;
+use std::io;
 use vectors_text::text;
 
 #[derive(Clone, Copy)]
@@ -56,8 +57,8 @@ impl Ends {
     }
 
     // Prints both connections.
-    pub fn show(self) {
-        record::show(b"    server", self.server);
-        record::show(b"    container", self.container);
+    pub fn show(self, rt: &impl Print) -> io::Result<()> {
+        record::show(rt, b"    server", self.server)?;
+        record::show(rt, b"    container", self.container)
     }
 }

@@ -9,6 +9,7 @@ mod send;
 
 use crate::ends::Ends;
 use conversation_text::print;
+use std::io;
 use vectors_text::text;
 
 // The conversation, a send a line: what is sent, its letter and what it holds (`send` and `piece` say how). A line that begins with # is
@@ -50,22 +51,23 @@ CPing|P";
 
 const LINES: usize = 32;
 
-fn main() {
+fn main(rt: HostRuntime) -> io::Result<()> {
     let conversation = CONVERSATION;
-    print::text(b"Two ends of a connection, both fresh\n");
+    print::text(&rt, b"Two ends of a connection, both fresh\n")?;
     let mut ends = Ends::fresh();
-    ends.show();
+    ends.show(&rt)?;
     for i in 0..LINES {
-        ends = after_line(ends, text::field(&conversation, b'\n', i));
+        ends = after_line(&rt, ends, text::field(&conversation, b'\n', i))?;
     }
+    Ok(())
 }
 
 // The ends after a line of the conversation.
-fn after_line(ends: Ends, line: &[u8]) -> Ends {
+fn after_line(rt: &impl Print, ends: Ends, line: &[u8]) -> io::Result<Ends> {
     if text::byte_at(line, 0) == b'#' {
-        print::named(b"\n", text::field(line, b'#', 1));
-        print::letter(b'\n');
-        return ends;
+        print::named(rt, b"\n", text::field(line, b'#', 1))?;
+        print::letter(rt, b'\n')?;
+        return Ok(ends);
     }
-    send::made(ends.counted(), line)
+    send::made(rt, ends.counted(), line)
 }

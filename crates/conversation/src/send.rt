@@ -6,6 +6,7 @@ use crate::{delivery, piece};
 use connection::{Connection, Sent};
 use conversation_text::{print, words};
 use packet::Direction;
+use std::io;
 use vectors_text::{parse, text};
 
 // The fields of a line.
@@ -14,17 +15,17 @@ const LETTER: usize = 1;
 const CONTENT: usize = 2;
 
 // The ends after a send. It is printed, and so are the ends.
-pub fn made(ends: Ends, line: &[u8]) -> Ends {
+pub fn made(rt: &impl Print, ends: Ends, line: &[u8]) -> io::Result<Ends> {
     let letter = text::byte_at(text::field(line, b'|', LETTER), 0);
     let direction = direction(letter);
-    print::counted(b"\n", ends.sends as u64, 0);
-    print::text(b". ");
-    words::way(direction);
-    print::text(text::field(line, b'|', 0));
-    print::letter(b'\n');
-    let ends = delivered(ends, direction, letter, line);
-    ends.show();
-    ends
+    print::counted(rt, b"\n", ends.sends as u64, 0)?;
+    print::text(rt, b". ")?;
+    words::way(rt, direction)?;
+    print::text(rt, text::field(line, b'|', 0))?;
+    print::letter(rt, b'\n')?;
+    let ends = delivered(rt, ends, direction, letter, line)?;
+    ends.show(rt)?;
+    Ok(ends)
 }
 
 // Which way a packet goes.
@@ -36,10 +37,16 @@ fn direction(letter: u8) -> Direction {
 }
 
 // Writes the packet and delivers it.
-fn delivered(ends: Ends, direction: Direction, letter: u8, line: &[u8]) -> Ends {
+fn delivered(
+    rt: &impl Print,
+    ends: Ends,
+    direction: Direction,
+    letter: u8,
+    line: &[u8],
+) -> io::Result<Ends> {
     let mut buffer = [0u8; Connection::MAX_PACKET];
     let sent = sent(ends.sender(direction), letter, line, &mut buffer);
-    delivery::after(ends, direction, sent, &buffer)
+    delivery::after(rt, ends, direction, sent, &buffer)
 }
 
 fn sent(connection: Connection, letter: u8, line: &[u8], buffer: &mut [u8]) -> Sent {

@@ -1,6 +1,7 @@
 // A field of a packet that was read, each in a line of its own.
 use crate::print;
 use packet::{Name, Place};
+use std::io;
 use vectors_text::text;
 use wire::part_of;
 
@@ -35,34 +36,34 @@ const NAMES: [u8; 119] =
     *b"method/protocol/req_uri/remote_addr/remote_host/server_name/server_port/is_ssl/declared/status/message/header/attribute";
 
 // Begins a line, up to the field's value.
-pub fn label(field: usize) {
+pub fn label(rt: &impl Print, field: usize) -> io::Result<()> {
     let names = NAMES;
-    print::text(b"\n      ");
-    print::padded(text::field(&names, b'/', field), 13);
+    print::text(rt, b"\n      ")?;
+    print::padded(rt, text::field(&names, b'/', field), 13)
 }
 
 // Prints a listed name.
-pub fn name(found: Name) {
+pub fn name(rt: &impl Print, found: Name) -> io::Result<()> {
     let bytes = found.bytes;
-    print::text(part_of(&bytes, 0, found.len));
+    print::text(rt, part_of(&bytes, 0, found.len))
 }
 
 // Prints the string at a place.
-pub fn text(packet: &[u8], place: Place) {
+pub fn text(rt: &impl Print, packet: &[u8], place: Place) -> io::Result<()> {
     if views::is_null_at(packet, place) {
-        print::text(b"null");
+        print::text(rt, b"null")
     } else {
-        print::text(views::text_at(packet, place));
+        print::text(rt, views::text_at(packet, place))
     }
 }
 
 // Prints a field that is a string, and one that is a number.
-pub fn string(field: usize, packet: &[u8], place: Place) {
-    label(field);
-    text(packet, place);
+pub fn string(rt: &impl Print, field: usize, packet: &[u8], place: Place) -> io::Result<()> {
+    label(rt, field)?;
+    text(rt, packet, place)
 }
 
-pub fn number(field: usize, n: u64) {
-    label(field);
-    print::decimal(n);
+pub fn number(rt: &impl Print, field: usize, n: u64) -> io::Result<()> {
+    label(rt, field)?;
+    print::decimal(rt, n)
 }

@@ -1,6 +1,7 @@
 // Words for what is printed, by number, each list a text with a slash between two.
 use crate::print;
 use packet::Direction;
+use std::io;
 use vectors_text::text;
 
 // What the refusals say, each at its number; a number that is no refusal's has nothing between its slashes.
@@ -14,11 +15,11 @@ const WAYS: [u8; 82] =
     *b"server -> container: /container -> server: /    container reads /    server reads ";
 
 // Prints a refusal's number and what it says.
-pub fn refusal(number: u8) {
+pub fn refusal(rt: &impl Print, number: u8) -> io::Result<()> {
     let refusals = REFUSALS;
-    print::counted(b"    refused ", number as u64, 0);
-    print::named(b": ", text::field(&refusals, b'/', number as usize));
-    print::letter(b'\n');
+    print::counted(rt, b"    refused ", number as u64, 0)?;
+    print::named(rt, b": ", text::field(&refusals, b'/', number as usize))?;
+    print::letter(rt, b'\n')
 }
 
 // 1 for true, 0 for false.
@@ -30,24 +31,24 @@ pub fn bit(is: bool) -> usize {
 }
 
 // Prints the end that sends in a direction, and the one to which it leads.
-pub fn way(direction: Direction) {
+pub fn way(rt: &impl Print, direction: Direction) -> io::Result<()> {
     match direction {
-        Direction::ToContainer => by_way(0),
-        Direction::ToServer => by_way(1),
+        Direction::ToContainer => by_way(rt, 0),
+        Direction::ToServer => by_way(rt, 1),
     }
 }
 
 // Prints the end that reads, and how many bytes.
-pub fn reads(direction: Direction, taken: usize) {
+pub fn reads(rt: &impl Print, direction: Direction, taken: usize) -> io::Result<()> {
     match direction {
-        Direction::ToContainer => by_way(2),
-        Direction::ToServer => by_way(3),
+        Direction::ToContainer => by_way(rt, 2)?,
+        Direction::ToServer => by_way(rt, 3)?,
     }
-    print::decimal(taken as u64);
-    print::text(b" bytes: ");
+    print::decimal(rt, taken as u64)?;
+    print::text(rt, b" bytes: ")
 }
 
-fn by_way(number: usize) {
+fn by_way(rt: &impl Print, number: usize) -> io::Result<()> {
     let ways = WAYS;
-    print::text(text::field(&ways, b'/', number));
+    print::text(rt, text::field(&ways, b'/', number))
 }

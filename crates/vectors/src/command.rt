@@ -1,6 +1,7 @@
 // The commands of the cases: which one a case is of, and what the library answers.
 use crate::{check, name, print, read};
 use packet::Direction;
+use std::io;
 use vectors_text::{commands, form, text};
 
 // The command whose form a case has.
@@ -28,7 +29,7 @@ pub fn answer(command: usize, case: &[u8], out: &mut [u8]) -> usize {
 }
 
 // Prints what a command is called, and all of them for no command.
-pub fn print_name(command: usize) {
+pub fn print_name(rt: &impl Print, command: usize) -> io::Result<()> {
     let names = commands::NAMES;
-    print::text(text::field(&names, b'\n', command));
+    print::text(rt, text::field(&names, b'\n', command))
 }

@@ -11,7 +11,8 @@ mod read;
 mod tally;
 
 use crate::tally::Tallies;
-use libc::STDIN_FILENO;
+use std::io;
+use std::io::Read;
 use vectors_text::{commands, text};
 use wire::part_of;
 
@@ -22,39 +23,52 @@ fn room_for_list() -> [u8; LIST] {
     [0; LIST]
 }
 
-fn main() {
+fn main(rt: HostRuntime) -> io::Result<()> {
     let mut list = room_for_list();
-    let count = io::read_full(STDIN_FILENO, &mut list);
-    let tallies = judged(part_of(&list, 0, count));
-    let tallies = whole(tallies, count);
-    tallies.show();
+    let count = read_full(&mut rt.stdin(), &mut list)?;
+    let tallies = judged(&rt, part_of(&list, 0, count))?;
+    let tallies = whole(&rt, tallies, count)?;
+    tallies.show(&rt)
+}
+
+// Reads until the room is full or the input ends: how many bytes came.
+fn read_full(input: &mut impl Read, room: &mut [u8]) -> io::Result<usize> {
+    let mut done = 0;
+    while done < room.len() {
+        let n = input.read(&mut room[done..])?;
+        if n == 0 {
+            break;
+        }
+        done += n;
+    }
+    Ok(done)
 }
 
 // The tallies of a list.
-fn judged(list: &[u8]) -> Tallies {
+fn judged(rt: &impl Print, list: &[u8]) -> io::Result<Tallies> {
     let mut case = text::room();
     let mut answer = text::room();
-    run(list, &mut case, &mut answer)
+    run(rt, list, &mut case, &mut answer)
 }
 
 // Takes the lines of the list one after the other, in as many turns as it has characters; behind the last line nothing is taken.
-fn run(list: &[u8], case: &mut [u8], answer: &mut [u8]) -> Tallies {
+fn run(rt: &impl Print, list: &[u8], case: &mut [u8], answer: &mut [u8]) -> io::Result<Tallies> {
     let mut tallies = Tallies::none();
     let mut start = 0;
     for i in 0..list.len() {
         let end = text::find(list, start, b'\n');
         let found = text::between(list, start, end);
-        tallies = line::judged(found, text::after(i), case, answer, tallies);
+        tallies = line::judged(rt, found, text::after(i), case, answer, tallies)?;
         start = text::after(end);
     }
-    tallies
+    Ok(tallies)
 }
 
 // The tallies, with one more that differs where the list may be longer than what was read of it.
-fn whole(tallies: Tallies, count: usize) -> Tallies {
+fn whole(rt: &impl Print, tallies: Tallies, count: usize) -> io::Result<Tallies> {
     if count < LIST {
-        return tallies;
+        return Ok(tallies);
     }
-    print::text(b"the list is too long to be read\n");
-    tallies.with(commands::UNKNOWN, true)
+    print::text(rt, b"the list is too long to be read\n")?;
+    Ok(tallies.with(commands::UNKNOWN, true))
 }

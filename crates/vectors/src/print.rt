@@ -1,16 +1,16 @@
 // Writes to standard output.
-use libc::STDOUT_FILENO;
+use std::io;
 
-pub fn text(s: &[u8]) {
-    io::write_all(STDOUT_FILENO, s);
+pub fn text(rt: &impl Print, s: &[u8]) -> io::Result<()> {
+    rt.write_all(s)
 }
 
 // What stands before a text, and the text.
-pub fn named(before: &[u8], s: &[u8]) {
-    text(before);
-    text(s);
+pub fn named(rt: &impl Print, before: &[u8], s: &[u8]) -> io::Result<()> {
+    text(rt, before)?;
+    text(rt, s)
 }
 
-pub fn decimal(n: u64) {
-    io::print_decimal(STDOUT_FILENO, n);
+pub fn decimal(rt: &impl Print, n: u64) -> io::Result<()> {
+    rt.print(n)
 }

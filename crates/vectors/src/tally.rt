@@ -1,5 +1,6 @@
 // How many cases there were, and how many differ: a row for each command, and one for all.
 use crate::{command, print};
+use std::io;
 use vectors_text::commands;
 
 // The row for all, behind those of the commands, and how many rows there are. A case that is not understood counts in that row alone.
@@ -43,12 +44,13 @@ impl Tallies {
     }
 
     // Prints a line for each row.
-    pub fn show(self) {
+    pub fn show(self, rt: &impl Print) -> io::Result<()> {
         let cases = self.cases;
         let differ = self.differ;
         for row in 0..ROWS {
-            show(row, cases[row], differ[row]);
+            show(rt, row, cases[row], differ[row])?;
         }
+        Ok(())
     }
 }
 
@@ -60,11 +62,11 @@ fn more(n: u64) -> u64 {
     n
 }
 
-fn show(row: usize, cases: u64, differ: u64) {
-    command::print_name(row);
-    print::text(b": ");
-    print::decimal(cases);
-    print::text(b" cases, ");
-    print::decimal(differ);
-    print::text(b" differ\n");
+fn show(rt: &impl Print, row: usize, cases: u64, differ: u64) -> io::Result<()> {
+    command::print_name(rt, row)?;
+    print::text(rt, b": ")?;
+    print::decimal(rt, cases)?;
+    print::text(rt, b" cases, ")?;
+    print::decimal(rt, differ)?;
+    print::text(rt, b" differ\n")
 }
