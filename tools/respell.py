@@ -15,7 +15,7 @@ import sys
 
 NAME = r"[A-Za-z_ℕ⊎μλ₀-₉'][\w'₀-₉]*(?:-[\w'₀-₉+*^≤<≡]+)*"
 # Comments, strings and characters, then names; a number in hexadecimal is no name.
-TOKEN = re.compile(r'--[^\n]*|//[^\n]*|"(?:[^"\\\n]|\\.)*"|b?\'(?:[^\'\\\n]|\\x..|\\.)\'|0x[0-9a-fA-F_]+|(?<![\w\'])' + NAME)
+TOKEN = re.compile(r'--[^\n]*|//[^\n]*|"(?:[^"\\\n]|\\(?:.|\n))*"|b?\'(?:[^\'\\\n]|\\x..|\\.)\'|0x[0-9a-fA-F_]+|(?<![\w\'])' + NAME)
 CAMEL = re.compile(r"^[a-z][a-z0-9]*(?:[A-Z0-9][a-z0-9]*)*[A-Z]")
 
 

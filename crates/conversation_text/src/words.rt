@@ -7,7 +7,7 @@ use vectors_text::text;
 // What the refusals say, each at its number; a number that is no refusal's has nothing between its slashes.
 const REFUSALS: [u8; 309] =
     *b"no fault/wrong leading bytes/packet too long/cut short/unknown code/code not served/wrong string/out of range/wrong header name/\
-    wrong attribute code/wrong content_length/too many/bytes left over/not allowed in this state/wrong body size/too little room/\
+    wrong attribute code/wrong content-length/too many/bytes left over/not allowed in this state/wrong body size/too little room/\
     wrong building record/unfinished packet/capture too long";
 
 // What stands before a send and before what was read, by direction.
