@@ -10,6 +10,8 @@ mod print;
 mod read;
 mod tally;
 
+ghost use Rattle.std.specs.Prelude.{◌≤◌, IfOk, length};
+
 use crate::tally::Tallies;
 use std::io;
 use std::io::Read;
@@ -32,7 +34,9 @@ fn main(rt: HostRuntime) -> io::Result<()> {
 }
 
 // Reads until the room is full or the input ends: how many bytes came.
-fn read_full(input: &mut impl Read, room: &mut [u8]) -> io::Result<usize> {
+fn read_full(input: &mut impl Read, room: &mut [u8]) -> io::Result<usize>
+    ensures { IfOk result (λ count. count ≤ length room.new) }
+{
     let mut done = 0;
     while done < room.len() {
         let n = input.read(&mut room[done..])?;

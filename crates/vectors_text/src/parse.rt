@@ -73,8 +73,8 @@ fn double(s: &[u8], at: usize) -> u16 {
 
 // The lesser of two numbers.
 fn least(a: usize, b: usize) -> usize
-    ensures upper_bound { result ≤ a }
-    ensures upper_bound_2 { result ≤ b }
+    ensures le_a { result ≤ a }
+    ensures le_b { result ≤ b }
 {
     if a < b {
         return a;

@@ -33,7 +33,7 @@ returns-then-buffer-next c =
     let i = c.index-next.ensures in
     let j = c.index-count.ensures in
     let w = c.fits_packet.ensures in
-    possible_by r buffer true false _ _ _ _ (ap (λ m. leb m max_packet) (sym i) ∙ sym w ∙ c.if-not-fits_packet.false) (lt-leb r.next.0 (length buffer) (omega (arith, i, c.if-buffer-next.true))) refl refl refl refl
+    possible_by r buffer true false _ _ _ _ (ap (λ m. leb m max_packet) (sym i) ∙ sym w ∙ c.if-not-fits_packet.false) (lt-leb r.next.0 (length buffer) (omega (arith, i))) refl refl refl refl
 
 pub returns-then-count-lt-PAYLOAD_PLACE : goal.returns-then-count-lt-PAYLOAD_PLACE
 returns-then-count-lt-PAYLOAD_PLACE c =
@@ -43,7 +43,7 @@ returns-then-count-lt-PAYLOAD_PLACE c =
     let i = c.index-next.ensures in
     let j = c.index-count.ensures in
     let w = c.fits_packet.ensures in
-    possible_by r buffer true true false _ _ _ (ap (λ m. leb m max_packet) (sym i) ∙ sym w ∙ c.if-not-fits_packet.false) (le-leb r.next.0 (length buffer) (omega (arith, i, c.if-buffer-next.false))) (lt-leb payload_place r.count.0 (omega (arith, j, c.if-count-lt-PAYLOAD_PLACE.true))) refl refl refl
+    possible_by r buffer true true false _ _ _ (ap (λ m. leb m max_packet) (sym i) ∙ sym w ∙ c.if-not-fits_packet.false) (le-leb r.next.0 (length buffer) (omega (arith, i))) (lt-leb payload_place r.count.0 (omega (arith, j))) refl refl refl
 
 pub returns-then-next-count : goal.returns-then-next-count
 returns-then-next-count c =
@@ -53,7 +53,7 @@ returns-then-next-count c =
     let i = c.index-next.ensures in
     let j = c.index-count.ensures in
     let w = c.fits_packet.ensures in
-    possible_by r buffer true true true false _ _ (ap (λ m. leb m max_packet) (sym i) ∙ sym w ∙ c.if-not-fits_packet.false) (le-leb r.next.0 (length buffer) (omega (arith, i, c.if-buffer-next.false))) (le-leb payload_place r.count.0 (omega (arith, j, c.if-count-lt-PAYLOAD_PLACE.false))) (lt-leb (r.count.0 + count_size) r.next.0 (omega (arith, i, j, c.if-next-count.true))) refl refl
+    possible_by r buffer true true true false _ _ (ap (λ m. leb m max_packet) (sym i) ∙ sym w ∙ c.if-not-fits_packet.false) (le-leb r.next.0 (length buffer) (omega (arith, i))) (le-leb payload_place r.count.0 (omega (arith, j))) (lt-leb (r.count.0 + count_size) r.next.0 (omega (arith, i, j))) refl refl
 
 pub returns-then-self-gt-MAX_HEADERS : goal.returns-then-self-gt-MAX_HEADERS
 returns-then-self-gt-MAX_HEADERS c =
@@ -63,7 +63,7 @@ returns-then-self-gt-MAX_HEADERS c =
     let i = c.index-next.ensures in
     let j = c.index-count.ensures in
     let w = c.fits_packet.ensures in
-    possible_by r buffer true true true true false _ (ap (λ m. leb m max_packet) (sym i) ∙ sym w ∙ c.if-not-fits_packet.false) (le-leb r.next.0 (length buffer) (omega (arith, i, c.if-buffer-next.false))) (le-leb payload_place r.count.0 (omega (arith, j, c.if-count-lt-PAYLOAD_PLACE.false))) (le-leb (r.count.0 + count_size) r.next.0 (omega (arith, i, j, c.if-next-count.false))) (lt-leb r.headers max_headers (omega (arith, c.if-self-gt-MAX_HEADERS.true))) refl
+    possible_by r buffer true true true true false _ (ap (λ m. leb m max_packet) (sym i) ∙ sym w ∙ c.if-not-fits_packet.false) (le-leb r.next.0 (length buffer) (omega (arith, i))) (le-leb payload_place r.count.0 (omega (arith, j))) (le-leb (r.count.0 + count_size) r.next.0 (omega (arith, i, j))) (lt-leb r.headers max_headers (omega arith)) refl
 
 pub returns : goal.returns
 returns c =
@@ -73,5 +73,5 @@ returns c =
     let i = c.index-next.ensures in
     let j = c.index-count.ensures in
     let w = c.fits_packet.ensures in
-    possible_by r buffer true true true true true _ (ap (λ m. leb m max_packet) (sym i) ∙ sym w ∙ c.if-not-fits_packet.false) (le-leb r.next.0 (length buffer) (omega (arith, i, c.if-buffer-next.false))) (le-leb payload_place r.count.0 (omega (arith, j, c.if-count-lt-PAYLOAD_PLACE.false))) (le-leb (r.count.0 + count_size) r.next.0 (omega (arith, i, j, c.if-next-count.false))) (le-leb r.headers max_headers (omega (arith, c.if-self-gt-MAX_HEADERS.false)))
+    possible_by r buffer true true true true true _ (ap (λ m. leb m max_packet) (sym i) ∙ sym w ∙ c.if-not-fits_packet.false) (le-leb r.next.0 (length buffer) (omega (arith, i))) (le-leb payload_place r.count.0 (omega (arith, j))) (le-leb (r.count.0 + count_size) r.next.0 (omega (arith, i, j))) (le-leb r.headers max_headers (omega arith))
     (ap (eqb (get_or buffer code_place 0)) (sym (c.code_of.ensures ∙ ap code_of c.kind.ensures)))

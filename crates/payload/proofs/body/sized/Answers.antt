@@ -18,14 +18,14 @@ returns-then-size-end c =
 pub returns-then-size : goal.returns-then-size
 returns-then-size c =
     let a = c.args in
-    let none : a.len ≡ 0 = c.if-len-eq0.true in
+    let none : a.len ≡ 0 = omega arith in
     let more : body_start + a.len < a.size = omega (arith, none, c.if-size.true) in
     sized_by a.size a.len false true (le-ltb _ _ c.if-size-end.false) (lt-ltb (body_start + a.len) a.size more)
 
 pub returns-then-len-eq0 : goal.returns-then-len-eq0
 returns-then-len-eq0 c =
     let a = c.args in
-    let none : a.len ≡ 0 = c.if-len-eq0.true in
+    let none : a.len ≡ 0 = omega arith in
     let all : a.size ≤ body_start + a.len = omega (arith, none, c.if-size.false) in
     c.empty.ensures
     ∙ sized_whole a.size a.len true (le-ltb _ _ c.if-size-end.false) (le-ltb (body_start + a.len) a.size all)
@@ -40,4 +40,4 @@ pub returns : goal.returns
 returns c =
     let a = c.args in
     sized_whole a.size a.len false (le-ltb _ _ c.if-size-end.false) (le-ltb _ _ c.if-end-size.false)
-    (ne_eqb _ _ c.if-len-eq0.false)
+    (ne_eqb a.len 0 (omega arith))

@@ -7,6 +7,7 @@ use Rattle.connection.specs.declared.State.{State}
 use Rattle.words.specs.Number.{word}
 use Rattle.words.specs.ConnectionWords.{state_word, state_place}
 use Rattle.words.proofs.Records.{connection_short, connection_judged, connection_by}
+use Rattle.std.proofs.Common.{arith}
 use Rattle.words.proofs.connection_words.connection_fault.Goals as goal
 
 pub returns-then-words-ne-CONNECTION_SIZE : goal.returns-then-words-ne-CONNECTION_SIZE
@@ -23,11 +24,11 @@ returns-then-words-ne-BUSY c =
     let w = c.args.words.now in
     c.unless.ensures
     ∙ connection_judged w c.if-words-ne-CONNECTION_SIZE.false _
-    (connection_by w true false _ _ (sym c.are_unused.ensures ∙ c.if-not-are_unused.false) (ne_eqb (word w state_place) (state_word State.Busy) c.if-words-ne-BUSY.true) refl refl)
+    (connection_by w true false _ _ (sym c.are_unused.ensures ∙ c.if-not-are_unused.false) (ne_eqb (word w state_place) (state_word State.Busy) (omega arith)) refl refl)
 
 pub returns : goal.returns
 returns c =
     let w = c.args.words.now in
     c.unless-2.ensures
     ∙ connection_judged w c.if-words-ne-CONNECTION_SIZE.false _
-    (connection_by w true true _ _ (sym c.are_unused.ensures ∙ c.if-not-are_unused.false) (eq-eqb (word w state_place) (state_word State.Busy) c.if-words-ne-BUSY.false) (sym c.are_busy.ensures) refl)
+    (connection_by w true true _ _ (sym c.are_unused.ensures ∙ c.if-not-are_unused.false) (eq-eqb (word w state_place) (state_word State.Busy) (omega arith)) (sym c.are_busy.ensures) refl)
