@@ -14,8 +14,8 @@ use Rattle.wire.specs.Bytes.{over}
 use Rattle.wire.specs.Refusal.{none, cut_short, too_many}
 use Rattle.wire.specs.Field.{integer_at, string_at, is_optional}
 use Rattle.wire.specs.declared.StringField.{StringField}
-use Rattle.wire.specs.declared.read.NumberRead.{NumberRead}
-use Rattle.wire.specs.declared.read.StringRead.{StringRead}
+use Rattle.wire.specs.Read.{NumberRead}
+use Rattle.wire.specs.Read.{StringRead}
 use Rattle.wire.specs.Facts.{StringInside, NumberInside}
 use Rattle.wire.proofs.Field.{string_inside, integer_inside}
 use Rattle.names.specs.Attribute.{attribute_kind, attribute_fault}

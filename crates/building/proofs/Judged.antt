@@ -13,8 +13,8 @@ use Rattle.wire.specs.Pick.{pick, both}
 use Rattle.wire.specs.Bytes.{integer_bytes}
 use Rattle.wire.specs.Field.{is_optional, lacks, holds_barred, text_at, string_of, string_at, string_bytes, string_allowed, null_length}
 use Rattle.wire.specs.declared.StringField.{StringField}
-use Rattle.wire.specs.declared.read.NumberRead.{NumberRead}
-use Rattle.wire.specs.declared.read.StringRead.{StringRead}
+use Rattle.wire.specs.Read.{NumberRead}
+use Rattle.wire.specs.Read.{StringRead}
 use Rattle.wire.proofs.Bytes.{part_middle}
 use Rattle.wire.proofs.Field.{string_is, after_is, text_barred}
 use Rattle.wire.proofs.RoundTrip.{integer_written, string_written}

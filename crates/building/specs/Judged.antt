@@ -5,7 +5,7 @@ use Rattle.std.specs.Prelude.{Bool, List, ℕ, eqb}
 use Rattle.wire.specs.Pick.{pick}
 use Rattle.wire.specs.Refusal.{none}
 use Rattle.wire.specs.Facts.{written}
-use Rattle.wire.specs.declared.read.StringRead.{StringRead}
+use Rattle.wire.specs.Read.{StringRead}
 
 -- by the fault that was found: with none it is read, null or its text, behind a place; else it is refused with the fault
 abbrev pub judged : ℕ → ℕ → Bool → List ℕ → StringRead

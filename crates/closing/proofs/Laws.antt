@@ -15,7 +15,7 @@ use Rattle.wire.specs.Bytes.{part, integer_in}
 use Rattle.wire.specs.Field.{byte_at, integer_at}
 use Rattle.packet.specs.declared.Direction.{Direction}
 use Rattle.packet.specs.declared.Packet.{Packet}
-use Rattle.wire.specs.declared.read.NumberRead.{NumberRead}
+use Rattle.wire.specs.Read.{NumberRead}
 use Rattle.wire.proofs.Field.{number_read}
 use Rattle.wire.specs.Refusal.{leading_wrong, not_now, record_wrong}
 use Rattle.connection.specs.Cycle.{direction_of, in_state}

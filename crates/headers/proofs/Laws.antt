@@ -15,8 +15,8 @@ use Rattle.wire.specs.Bytes.{part, over}
 use Rattle.wire.specs.Field.{integer_at, null_length, is_optional, holds_barred, text_at, after_length, string_of, string_at}
 use Rattle.packet.specs.declared.Direction.{Direction}
 use Rattle.wire.specs.declared.StringField.{StringField}
-use Rattle.wire.specs.declared.read.NumberRead.{NumberRead}
-use Rattle.wire.specs.declared.read.StringRead.{StringRead}
+use Rattle.wire.specs.Read.{NumberRead}
+use Rattle.wire.specs.Read.{StringRead}
 use Rattle.wire.specs.Facts.{NumberInside, StringInside}
 use Rattle.wire.proofs.Field.{integer_inside, string_inside}
 use Rattle.names.specs.Header.{begins_code, code_fault, spelled_fault}

@@ -11,8 +11,8 @@ use Rattle.wire.specs.Refusal.{none, cut_short, is_refusal, is_fault}
 use Rattle.wire.specs.Bytes.{part}
 use Rattle.wire.specs.Field.{integer_at, string_at, is_optional}
 use Rattle.wire.specs.declared.StringField.{StringField}
-use Rattle.wire.specs.declared.read.NumberRead.{NumberRead}
-use Rattle.wire.specs.declared.read.StringRead.{StringRead}
+use Rattle.wire.specs.Read.{NumberRead}
+use Rattle.wire.specs.Read.{StringRead}
 use Rattle.wire.proofs.Refusals.{fault_refusal, NumberRefusal, integer_refusal, StringRefusal, string_refusal}
 use Rattle.packet.specs.declared.Direction.{Direction}
 use Rattle.names.specs.Header.{begins_code, code_fault, spelled_fault}

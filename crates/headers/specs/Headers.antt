@@ -8,8 +8,8 @@ use Rattle.wire.specs.Bytes.{part}
 use Rattle.wire.specs.Field.{integer_at, string_at, is_optional}
 use Rattle.packet.specs.declared.Direction.{Direction}
 use Rattle.wire.specs.declared.StringField.{StringField}
-use Rattle.wire.specs.declared.read.NumberRead.{NumberRead}
-use Rattle.wire.specs.declared.read.StringRead.{StringRead}
+use Rattle.wire.specs.Read.{NumberRead}
+use Rattle.wire.specs.Read.{StringRead}
 use Rattle.names.specs.Header.{begins_code, code_fault, spelled_fault, is_request}
 use Rattle.headers.specs.Length.{is_content_length, length_after}
 use Rattle.headers.specs.declared.length.Declared.{Declared}

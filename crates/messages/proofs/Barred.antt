@@ -14,8 +14,8 @@ use Rattle.wire.specs.Refusal.{string_wrong}
 use Rattle.wire.specs.Bytes.{integer_in}
 use Rattle.wire.specs.Field.{integer_at, null_length, is_optional, lacks, holds_barred, after_length, string_at, string_allowed}
 use Rattle.wire.specs.declared.StringField.{StringField}
-use Rattle.wire.specs.declared.read.NumberRead.{NumberRead}
-use Rattle.wire.specs.declared.read.StringRead.{StringRead}
+use Rattle.wire.specs.Read.{NumberRead}
+use Rattle.wire.specs.Read.{StringRead}
 use Rattle.wire.proofs.Field.{number_read, string_is, after_is, text_barred}
 use Rattle.packet.specs.declared.Direction.{Direction}
 use Rattle.names.specs.Header.{begins_code, spelled_fault}

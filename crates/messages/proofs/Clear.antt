@@ -16,7 +16,7 @@ use Rattle.wire.specs.Bytes.{part}
 use Rattle.wire.specs.Field.{string_at, is_optional, string_allowed}
 use Rattle.wire.specs.Facts.{Clear}
 use Rattle.wire.specs.declared.StringField.{StringField}
-use Rattle.wire.specs.declared.read.StringRead.{StringRead}
+use Rattle.wire.specs.Read.{StringRead}
 use Rattle.wire.proofs.Field.{text_read}
 use Rattle.wire.proofs.Clear.{allowed_clear}
 use Rattle.packet.specs.declared.Direction.{Direction}

@@ -12,9 +12,9 @@ use Rattle.wire.specs.Bytes.{part, integer_in, integer_bytes}
 use Rattle.wire.specs.Field.{byte_at, integer_at, boolean_at, boolean_bytes, string_at, is_optional, string_allowed}
 use Rattle.packet.specs.declared.Direction.{Direction}
 use Rattle.wire.specs.declared.StringField.{StringField}
-use Rattle.wire.specs.declared.read.NumberRead.{NumberRead}
-use Rattle.wire.specs.declared.read.BooleanRead.{BooleanRead}
-use Rattle.wire.specs.declared.read.StringRead.{StringRead}
+use Rattle.wire.specs.Read.{NumberRead}
+use Rattle.wire.specs.Read.{BooleanRead}
+use Rattle.wire.specs.Read.{StringRead}
 use Rattle.wire.proofs.Bytes.{part_none, part_one}
 use Rattle.wire.proofs.Field.{boolean_inside, text_read, null_read}
 use Rattle.wire.specs.Facts.{TextRead, NullRead, Bytes}

@@ -14,8 +14,8 @@ use Rattle.wire.specs.Bytes.{integer_bytes}
 use Rattle.wire.specs.Field.{byte_at, integer_at, boolean_at, boolean_bytes, string_at, string_bytes, is_optional, boolean_number}
 use Rattle.packet.specs.declared.Direction.{Direction}
 use Rattle.wire.specs.declared.StringField.{StringField}
-use Rattle.wire.specs.declared.read.NumberRead.{NumberRead}
-use Rattle.wire.specs.declared.read.StringRead.{StringRead}
+use Rattle.wire.specs.Read.{NumberRead}
+use Rattle.wire.specs.Read.{StringRead}
 use Rattle.wire.proofs.RoundTrip.{integer_written, byte_written, boolean_written}
 use Rattle.wire.specs.Refusal.{out_of_range, too_many}
 use Rattle.connection.specs.Connection.{max_packet}

@@ -15,7 +15,7 @@ use Rattle.wire.specs.Bytes.{part, integer_in}
 use Rattle.wire.specs.Field.{integer_at}
 use Rattle.wire.specs.Packet.{leading, packet_head, packet, payload_place, length_place}
 use Rattle.packet.specs.declared.Direction.{Direction}
-use Rattle.wire.specs.declared.read.NumberRead.{NumberRead}
+use Rattle.wire.specs.Read.{NumberRead}
 use Rattle.wire.proofs.Tests.{neither_first, neither_second}
 use Rattle.wire.proofs.Field.{number_read}
 use Rattle.wire.proofs.Bytes.{length_part, part_add, part_one}

@@ -17,8 +17,8 @@ use Rattle.wire.specs.Bytes.{part, integer_bytes}
 use Rattle.wire.specs.Field.{integer_at, string_at, is_optional, string_bytes, string_allowed}
 use Rattle.packet.specs.declared.Direction.{Direction}
 use Rattle.wire.specs.declared.StringField.{StringField}
-use Rattle.wire.specs.declared.read.NumberRead.{NumberRead}
-use Rattle.wire.specs.declared.read.StringRead.{StringRead}
+use Rattle.wire.specs.Read.{NumberRead}
+use Rattle.wire.specs.Read.{StringRead}
 use Rattle.wire.proofs.Bytes.{part_middle}
 use Rattle.wire.proofs.Field.{size_null, size_text}
 use Rattle.wire.proofs.RoundTrip.{integer_written}

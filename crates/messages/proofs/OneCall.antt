@@ -16,7 +16,7 @@ use Rattle.wire.specs.Bytes.{part, over, integer_in, integer_bytes}
 use Rattle.wire.specs.Field.{byte_at, integer_at, boolean_at, boolean_bytes}
 use Rattle.wire.specs.Packet.{packet_head, packet, payload_place, after_code_place}
 use Rattle.packet.specs.declared.Direction.{Direction}
-use Rattle.wire.specs.declared.read.NumberRead.{NumberRead}
+use Rattle.wire.specs.Read.{NumberRead}
 use Rattle.wire.proofs.Tests.{both_first, both_second}
 use Rattle.wire.proofs.Bytes.{length_part, part_middle, part_add}
 use Rattle.wire.proofs.RoundTrip.{integer_written, integer_kept}

@@ -18,7 +18,7 @@ use Rattle.wire.specs.Bytes.{part}
 use Rattle.wire.specs.Field.{byte_at}
 use Rattle.wire.specs.Packet.{packet_head, packet, after_code_place, code_place}
 use Rattle.packet.specs.declared.Direction.{Direction}
-use Rattle.wire.specs.declared.read.NumberRead.{NumberRead}
+use Rattle.wire.specs.Read.{NumberRead}
 use Rattle.wire.proofs.Tests.{both_first}
 use Rattle.wire.proofs.Field.{head_four}
 use Rattle.wire.proofs.Bytes.{length_part}

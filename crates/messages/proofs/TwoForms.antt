@@ -16,7 +16,7 @@ use Rattle.wire.specs.Field.{byte_at}
 use Rattle.wire.specs.Packet.{packet_head, packet, code_place, after_code_place}
 use Rattle.wire.specs.Facts.{Bytes}
 use Rattle.wire.specs.Refusal.{cut_short, code_wrong, left_over, body_size_wrong}
-use Rattle.wire.specs.declared.read.NumberRead.{NumberRead}
+use Rattle.wire.specs.Read.{NumberRead}
 use Rattle.wire.proofs.Parts.{bytes_part}
 use Rattle.wire.proofs.RoundTrip.{byte_written, integer_written}
 use Rattle.packet.specs.declared.Direction.{Direction}

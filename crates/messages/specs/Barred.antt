@@ -7,7 +7,7 @@ use Rattle.wire.specs.Refusal.{string_wrong}
 use Rattle.wire.specs.Bytes.{part, integer_in}
 use Rattle.wire.specs.Field.{null_length, is_optional, holds_barred, string_at}
 use Rattle.wire.specs.declared.StringField.{StringField}
-use Rattle.wire.specs.declared.read.StringRead.{StringRead}
+use Rattle.wire.specs.Read.{StringRead}
 use Rattle.packet.specs.declared.Direction.{Direction}
 use Rattle.names.specs.Header.{begins_code}
 use Rattle.headers.specs.Headers.{name_at, header_value_at}

@@ -16,9 +16,9 @@ use Rattle.wire.specs.Bytes.{part}
 use Rattle.wire.specs.Field.{number_at, byte_at, integer_at, boolean_at, string_at, is_optional, boolean_number}
 use Rattle.packet.specs.declared.Direction.{Direction}
 use Rattle.wire.specs.declared.StringField.{StringField}
-use Rattle.wire.specs.declared.read.NumberRead.{NumberRead}
-use Rattle.wire.specs.declared.read.BooleanRead.{BooleanRead}
-use Rattle.wire.specs.declared.read.StringRead.{StringRead}
+use Rattle.wire.specs.Read.{NumberRead}
+use Rattle.wire.specs.Read.{BooleanRead}
+use Rattle.wire.specs.Read.{StringRead}
 use Rattle.wire.proofs.Field.{integer_inside}
 use Rattle.headers.specs.Length.{declared_length}
 use Rattle.wire.proofs.Tests.{both_second}

@@ -15,9 +15,9 @@ use Rattle.wire.specs.Bytes.{integer_in}
 use Rattle.wire.specs.Field.{byte_at, integer_at, boolean_at, string_at, is_optional}
 use Rattle.packet.specs.declared.Direction.{Direction}
 use Rattle.wire.specs.declared.StringField.{StringField}
-use Rattle.wire.specs.declared.read.NumberRead.{NumberRead}
-use Rattle.wire.specs.declared.read.BooleanRead.{BooleanRead}
-use Rattle.wire.specs.declared.read.StringRead.{StringRead}
+use Rattle.wire.specs.Read.{NumberRead}
+use Rattle.wire.specs.Read.{BooleanRead}
+use Rattle.wire.specs.Read.{StringRead}
 use Rattle.wire.proofs.Field.{number_short}
 use Rattle.connection.specs.declared.Kind.{Kind}
 use Rattle.connection.specs.Cycle.{direction_of}

@@ -11,8 +11,8 @@ use Rattle.wire.specs.Refusal.{left_over, cut_short, string_wrong}
 use Rattle.wire.specs.Field.{integer_at, boolean_at}
 use Rattle.wire.specs.Packet.{payload_place, after_code_place}
 use Rattle.packet.specs.declared.Direction.{Direction}
-use Rattle.wire.specs.declared.read.NumberRead.{NumberRead}
-use Rattle.wire.specs.declared.read.BooleanRead.{BooleanRead}
+use Rattle.wire.specs.Read.{NumberRead}
+use Rattle.wire.specs.Read.{BooleanRead}
 use Rattle.connection.specs.declared.Kind.{Kind}
 use Rattle.connection.specs.Cycle.{move_kind}
 use Rattle.headers.specs.declared.HeadersRead.{HeadersRead}

@@ -10,9 +10,9 @@ use Rattle.wire.specs.Pick.{pick, between}
 use Rattle.wire.specs.Refusal.{cut_short, string_wrong, out_of_range, too_many, left_over, is_refusal}
 use Rattle.wire.specs.Field.{byte_at, integer_at, boolean_at, string_at, is_optional}
 use Rattle.wire.specs.declared.StringField.{StringField}
-use Rattle.wire.specs.declared.read.NumberRead.{NumberRead}
-use Rattle.wire.specs.declared.read.BooleanRead.{BooleanRead}
-use Rattle.wire.specs.declared.read.StringRead.{StringRead}
+use Rattle.wire.specs.Read.{NumberRead}
+use Rattle.wire.specs.Read.{BooleanRead}
+use Rattle.wire.specs.Read.{StringRead}
 use Rattle.wire.proofs.Refusals.{NumberRefusal, byte_refusal, integer_refusal, BooleanRefusal, boolean_refusal, StringRefusal, string_refusal}
 use Rattle.packet.specs.declared.Direction.{Direction}
 use Rattle.packet.specs.declared.Packet.{Packet}

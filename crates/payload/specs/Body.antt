@@ -6,7 +6,7 @@ use Rattle.std.specs.Prelude.{List, ℕ, ◌+◌, ltb, eqb, length}
 use Rattle.wire.specs.Pick.{pick}
 use Rattle.wire.specs.Refusal.{cut_short, left_over}
 use Rattle.wire.specs.Field.{integer_at}
-use Rattle.wire.specs.declared.read.NumberRead.{NumberRead}
+use Rattle.wire.specs.Read.{NumberRead}
 use Rattle.packet.specs.declared.Part.{Part}
 use Rattle.packet.specs.declared.Packet.{Packet}
 use Rattle.payload.specs.declared.found.PacketRead.{PacketRead}

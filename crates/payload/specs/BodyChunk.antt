@@ -5,7 +5,7 @@ use Rattle.std.specs.Prelude.{List, ℕ, ◌+◌, leb, eqb, length, get_or}
 use Rattle.wire.specs.Pick.{pick}
 use Rattle.wire.specs.Refusal.{cut_short, string_wrong}
 use Rattle.wire.specs.Field.{integer_at}
-use Rattle.wire.specs.declared.read.NumberRead.{NumberRead}
+use Rattle.wire.specs.Read.{NumberRead}
 use Rattle.packet.specs.declared.Packet.{Packet}
 use Rattle.payload.specs.declared.found.PacketRead.{PacketRead}
 use Rattle.payload.specs.Packet.{part_from, finished}

@@ -6,7 +6,7 @@ use Rattle.wire.specs.Pick.{pick, either}
 use Rattle.wire.specs.Refusal.{code_wrong, code_not_served}
 use Rattle.wire.specs.Field.{byte_at}
 use Rattle.packet.specs.declared.Direction.{Direction}
-use Rattle.wire.specs.declared.read.NumberRead.{NumberRead}
+use Rattle.wire.specs.Read.{NumberRead}
 use Rattle.connection.specs.declared.Kind.{Kind}
 use Rattle.payload.specs.declared.Context.{Context}
 use Rattle.payload.specs.declared.KindRead.{KindRead}

@@ -3,7 +3,7 @@
 -- Assumes nothing.
 use Rattle.std.specs.Prelude.{List, ℕ, length}
 use Rattle.wire.specs.Field.{boolean_at}
-use Rattle.wire.specs.declared.read.BooleanRead.{BooleanRead}
+use Rattle.wire.specs.Read.{BooleanRead}
 use Rattle.packet.specs.declared.Packet.{Packet}
 use Rattle.payload.specs.declared.found.PacketRead.{PacketRead}
 use Rattle.payload.specs.Packet.{finished}

@@ -9,9 +9,9 @@ use Rattle.wire.specs.Field.{byte_at, integer_at, boolean_at, string_at, is_opti
 use Rattle.wire.specs.Packet.{payload_place, after_code_place}
 use Rattle.packet.specs.declared.Direction.{Direction}
 use Rattle.wire.specs.declared.StringField.{StringField}
-use Rattle.wire.specs.declared.read.NumberRead.{NumberRead}
-use Rattle.wire.specs.declared.read.BooleanRead.{BooleanRead}
-use Rattle.wire.specs.declared.read.StringRead.{StringRead}
+use Rattle.wire.specs.Read.{NumberRead}
+use Rattle.wire.specs.Read.{BooleanRead}
+use Rattle.wire.specs.Read.{StringRead}
 use Rattle.names.specs.Attribute.{attribute_kind}
 use Rattle.packet.specs.declared.AttributeKind.{AttributeKind}
 use Rattle.places.specs.Entries.{max_headers, max_attributes}

@@ -15,7 +15,7 @@ use Rattle.wire.specs.Refusal.{leading_wrong, too_long, cut_short}
 use Rattle.wire.specs.Field.{integer_at}
 use Rattle.wire.proofs.Bytes.{length_part}
 use Rattle.packet.specs.declared.Direction.{Direction}
-use Rattle.wire.specs.declared.read.NumberRead.{NumberRead}
+use Rattle.wire.specs.Read.{NumberRead}
 use Rattle.connection.specs.Connection.{max_packet, max_payload}
 use Rattle.reader.specs.declared.frame.FrameRead.{FrameRead}
 use Rattle.reader.specs.Frame.{differs, leading_differs, length_at, frame_of, frame_at}

@@ -7,7 +7,7 @@ use Rattle.wire.specs.Refusal.{leading_wrong, too_long}
 use Rattle.wire.specs.Field.{integer_at}
 use Rattle.wire.specs.Packet.{leading, payload_place, length_place}
 use Rattle.packet.specs.declared.Direction.{Direction}
-use Rattle.wire.specs.declared.read.NumberRead.{NumberRead}
+use Rattle.wire.specs.Read.{NumberRead}
 use Rattle.connection.specs.Connection.{max_payload}
 use Rattle.reader.specs.declared.frame.FrameRead.{FrameRead}
 

@@ -1,6 +1,6 @@
 // Where a packet ends: its leading bytes and its length.
 ghost use Rattle.std.specs.Prelude.{◌≡◌};
-ghost use Rattle.wire.specs.declared.read.NumberRead.{NumberRead};
+ghost use Rattle.wire.specs.Read.{NumberRead};
 ghost use Rattle.reader.specs.Frame.{leading_differs, differs, frame_at, length_at};
 
 use connection::Connection;

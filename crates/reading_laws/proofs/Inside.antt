@@ -14,7 +14,7 @@ use Rattle.packet.specs.declared.Direction.{Direction}
 use Rattle.wire.specs.declared.StringField.{StringField}
 use Rattle.wire.specs.Facts.{StringInside}
 use Rattle.wire.specs.Field.{string_at, is_optional}
-use Rattle.wire.specs.declared.read.StringRead.{StringRead}
+use Rattle.wire.specs.Read.{StringRead}
 use Rattle.wire.proofs.Field.{string_inside}
 use Rattle.wire.proofs.Tests.{both_first, both_second}
 use Rattle.headers.specs.declared.length.Declared.{Declared}

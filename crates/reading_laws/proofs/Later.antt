@@ -16,7 +16,7 @@ use Rattle.wire.specs.Bytes.{part, integer_in}
 use Rattle.wire.specs.Field.{integer_at}
 use Rattle.wire.specs.Packet.{leading, payload_place, length_place}
 use Rattle.packet.specs.declared.Direction.{Direction}
-use Rattle.wire.specs.declared.read.NumberRead.{NumberRead}
+use Rattle.wire.specs.Read.{NumberRead}
 use Rattle.wire.proofs.Tests.{both_first}
 use Rattle.wire.proofs.Field.{integer_inside}
 use Rattle.connection.specs.Connection.{max_payload}

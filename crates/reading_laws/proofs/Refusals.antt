@@ -10,7 +10,7 @@ use Rattle.wire.specs.Pick.{pick}
 use Rattle.wire.specs.Refusal.{leading_wrong, too_long, not_now, buffer_too_short, is_refusal}
 use Rattle.wire.specs.Bytes.{part}
 use Rattle.wire.specs.Field.{integer_at}
-use Rattle.wire.specs.declared.read.NumberRead.{NumberRead}
+use Rattle.wire.specs.Read.{NumberRead}
 use Rattle.packet.specs.declared.Direction.{Direction}
 use Rattle.packet.specs.declared.Packet.{Packet}
 use Rattle.connection.specs.Connection.{max_payload}

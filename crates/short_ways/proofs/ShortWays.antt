@@ -12,7 +12,7 @@ use Rattle.wire.specs.Pick.{pick}
 use Rattle.wire.specs.Bytes.{part, integer_in}
 use Rattle.wire.specs.Field.{byte_at, integer_at}
 use Rattle.packet.specs.declared.Direction.{Direction}
-use Rattle.wire.specs.declared.read.NumberRead.{NumberRead}
+use Rattle.wire.specs.Read.{NumberRead}
 use Rattle.places.specs.Entries.{Entries, ended}
 use Rattle.connection.specs.Connection.{body_due}
 use Rattle.connection.specs.Cycle.{in_state, step_of}

@@ -7,7 +7,7 @@ use Rattle.wire.specs.Field.{byte_at}
 use Rattle.packet.specs.declared.Direction.{Direction}
 use Rattle.packet.specs.declared.Part.{Part}
 use Rattle.packet.specs.declared.Packet.{Packet}
-use Rattle.wire.specs.declared.read.NumberRead.{NumberRead}
+use Rattle.wire.specs.Read.{NumberRead}
 use Rattle.connection.specs.Cycle.{in_state}
 use Rattle.connection.specs.declared.Kind.{Kind}
 use Rattle.connection.specs.declared.Connection.{Connection}

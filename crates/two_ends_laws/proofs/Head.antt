@@ -16,7 +16,7 @@ use Rattle.wire.specs.Bytes.{part, integer_in}
 use Rattle.wire.specs.Field.{byte_at, integer_at}
 use Rattle.wire.specs.Packet.{code_place, after_code_place}
 use Rattle.wire.specs.Refusal.{cut_short}
-use Rattle.wire.specs.declared.read.NumberRead.{NumberRead}
+use Rattle.wire.specs.Read.{NumberRead}
 use Rattle.wire.proofs.Tests.{both_first}
 use Rattle.packet.specs.declared.Direction.{Direction}
 use Rattle.packet.specs.declared.Forward.{Forward}

@@ -12,7 +12,7 @@ use Rattle.wire.specs.Pick.{pick, both}
 use Rattle.wire.specs.Refusal.{cut_short}
 use Rattle.wire.specs.Bytes.{part, integer_in}
 use Rattle.wire.specs.Field.{byte_at, integer_at, null_length}
-use Rattle.wire.specs.declared.read.NumberRead.{NumberRead}
+use Rattle.wire.specs.Read.{NumberRead}
 use Rattle.names.specs.Header.{begins_code}
 use Rattle.packet.specs.declared.HeaderName.{HeaderName}
 use Rattle.views.specs.View.{integer_view, null_view, text_view, name_view}

@@ -4,6 +4,7 @@ pub mod Bytes
 pub mod Copying
 pub mod Rows
 pub mod Field
+pub mod Exits
 pub mod RoundTrip
 pub mod Parts
 pub mod Blocks

@@ -1,5 +1,6 @@
 pub mod Pick
 pub mod Refusal
+pub mod Read
 pub mod Bytes
 pub mod Field
 pub mod Packet

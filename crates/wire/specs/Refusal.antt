@@ -2,6 +2,7 @@
 -- Assumes nothing.
 use Rattle.std.specs.Prelude.{Bool, List, [], ◌∷◌, ℕ, eqb}
 use Rattle.wire.specs.Pick.{either, one_of}
+use Rattle.wire.specs.declared.refusal.Refusal.{Refusal}
 
 -- no fault
 abbrev pub none : ℕ
@@ -114,3 +115,24 @@ is_refusal n = one_of refusals n
 -- a fault: none, or such a number
 abbrev pub is_fault : ℕ → Bool
 is_fault n = either (eqb n none) (is_refusal n)
+
+-- the number of a refusal, as the code names it
+abbrev pub number_of : Refusal → ℕ
+number_of Refusal.LeadingWrong = leading_wrong
+number_of Refusal.TooLong = too_long
+number_of Refusal.CutShort = cut_short
+number_of Refusal.CodeWrong = code_wrong
+number_of Refusal.CodeNotServed = code_not_served
+number_of Refusal.StringWrong = string_wrong
+number_of Refusal.OutOfRange = out_of_range
+number_of Refusal.NameWrong = name_wrong
+number_of Refusal.AttributeWrong = attribute_wrong
+number_of Refusal.ContentLengthWrong = content_length_wrong
+number_of Refusal.TooMany = too_many
+number_of Refusal.LeftOver = left_over
+number_of Refusal.NotNow = not_now
+number_of Refusal.BodySizeWrong = body_size_wrong
+number_of Refusal.BufferTooShort = buffer_too_short
+number_of Refusal.RecordWrong = record_wrong
+number_of Refusal.UnfinishedPacket = unfinished_packet
+number_of Refusal.CaptureTooLong = capture_too_long

@@ -1,129 +1,112 @@
 // Reads a field at a place of a packet.
 ghost use Rattle.std.specs.Prelude.{◌≡◌};
 ghost use Rattle.wire.specs.Field.{byte_at, integer_at, boolean_at, text_at, after_length, string_at, is_optional};
+ghost use Rattle.wire.specs.Read.{number_meaning, boolean_meaning, string_meaning};
 
-use crate::{
-    NULL_LENGTH, StringField, has_room, holds_barred, is_optional, lacks, part_of, refusal,
-};
+use crate::refusal::Refusal;
+use crate::{NULL_LENGTH, StringField, has_room, holds_barred, is_optional, lacks, part_of};
 
-// A byte or an integer: refused, or its value and the place after it.
+// A field as read: its value, and the place after it.
 #[derive(Clone, Copy)]
-pub enum NumberRead {
-    Refused(u8),
-    Number { value: u16, next: usize },
+pub struct Field<T> {
+    pub value: T,
+    pub next: usize,
 }
 
-// A boolean: refused, or its value and the place after it.
+// Where a string's bytes start, and how many they are.
 #[derive(Clone, Copy)]
-pub enum BooleanRead {
-    Refused(u8),
-    Boolean { value: bool, next: usize },
-}
-
-// A string: refused, null, or where its bytes start and how many they are. next is the place after the field.
-#[derive(Clone, Copy)]
-pub enum StringRead {
-    Refused(u8),
-    Null {
-        next: usize,
-    },
-    Text {
-        start: usize,
-        len: usize,
-        next: usize,
-    },
+pub struct Span {
+    pub start: usize,
+    pub len: usize,
 }
 
 // The byte at a place.
-pub fn byte(packet: &[u8], at: usize) -> NumberRead
-    ensures { result ≡ byte_at packet.now at }
+pub fn byte(packet: &[u8], at: usize) -> Result<Field<u16>, Refusal>
+    ensures { number_meaning result ≡ byte_at packet.now at }
 {
     if !has_room(packet.len(), at, 1) {
-        return NumberRead::Refused(refusal::CUT_SHORT);
+        return Err(Refusal::CutShort);
     }
-    let value = packet[at] as u16;
-    NumberRead::Number {
-        value,
+    Ok(Field {
+        value: packet[at] as u16,
         next: at + 1,
-    }
+    })
 }
 
 // The integer at a place, high byte first.
-pub fn integer(packet: &[u8], at: usize) -> NumberRead
-    ensures { result ≡ integer_at packet.now at }
+pub fn integer(packet: &[u8], at: usize) -> Result<Field<u16>, Refusal>
+    ensures { number_meaning result ≡ integer_at packet.now at }
 {
     if !has_room(packet.len(), at, 2) {
-        return NumberRead::Refused(refusal::CUT_SHORT);
+        return Err(Refusal::CutShort);
     }
     let high = packet[at] as u16;
     let low = packet[at + 1] as u16;
-    let value = high * 256 + low;
-    NumberRead::Number {
-        value,
+    Ok(Field {
+        value: high * 256 + low,
         next: at + 2,
-    }
+    })
 }
 
 // The boolean at a place.
-pub fn boolean(packet: &[u8], at: usize) -> BooleanRead
-    ensures { result ≡ boolean_at packet.now at }
+pub fn boolean(packet: &[u8], at: usize) -> Result<Field<bool>, Refusal>
+    ensures { boolean_meaning result ≡ boolean_at packet.now at }
 {
-    match byte(packet, at) {
-        NumberRead::Refused(n) => BooleanRead::Refused(n),
-        NumberRead::Number { value, next } => {
-            if value == 0 {
-                return BooleanRead::Boolean { value: false, next };
-            }
-            if value == 1 {
-                return BooleanRead::Boolean { value: true, next };
-            }
-            BooleanRead::Refused(refusal::OUT_OF_RANGE)
-        }
+    let Field { value, next } = byte(packet, at)?;
+    match value {
+        0 => Ok(Field { value: false, next }),
+        1 => Ok(Field { value: true, next }),
+        _ => Err(Refusal::OutOfRange),
     }
 }
 
-// The string of a field at a place; null and empty are refused unless the field is optional.
-pub fn string(packet: &[u8], at: usize, field: StringField) -> StringRead
-    ensures { result ≡ string_at packet.now at (is_optional field) }
+// The string of a field at a place, None for null; null and empty are refused unless the field is optional.
+pub fn string(packet: &[u8], at: usize, field: StringField) -> Result<Field<Option<Span>>, Refusal>
+    ensures { string_meaning result ≡ string_at packet.now at (is_optional field) }
 {
-    match integer(packet, at) {
-        NumberRead::Refused(n) => StringRead::Refused(n),
-        NumberRead::Number { value, next } => after_length(packet, is_optional(field), value, next),
-    }
+    let length = integer(packet, at)?;
+    after_length(packet, is_optional(field), length.value, length.next)
 }
 
 // What follows a string's length: nothing for null, else its bytes.
-fn after_length(packet: &[u8], optional: bool, len: u16, start: usize) -> StringRead
-    ensures { result ≡ after_length packet.now optional len start }
+fn after_length(
+    packet: &[u8],
+    optional: bool,
+    len: u16,
+    start: usize,
+) -> Result<Field<Option<Span>>, Refusal>
+    ensures { string_meaning result ≡ after_length packet.now optional len start }
 {
     let null = len == NULL_LENGTH;
     if lacks(optional, null, len as usize) {
-        return StringRead::Refused(refusal::STRING_WRONG);
+        return Err(Refusal::StringWrong);
     }
     if null {
-        return StringRead::Null { next: start };
+        return Ok(Field {
+            value: None,
+            next: start,
+        });
     }
     text(packet, start, len)
 }
 
 // A string's bytes and its last zero.
-fn text(packet: &[u8], start: usize, len: u16) -> StringRead
-    ensures { result ≡ text_at packet.now start len }
+fn text(packet: &[u8], start: usize, len: u16) -> Result<Field<Option<Span>>, Refusal>
+    ensures { string_meaning result ≡ text_at packet.now start len }
 {
-    let n = len as usize;
-    if !has_room(packet.len(), start, n + 1) {
-        return StringRead::Refused(refusal::CUT_SHORT);
+    let len = len as usize;
+    if !has_room(packet.len(), start, len + 1) {
+        return Err(Refusal::CutShort);
     }
-    let end = start + n;
+    let end = start + len;
     if packet[end] != 0 {
-        return StringRead::Refused(refusal::STRING_WRONG);
+        return Err(Refusal::StringWrong);
     }
-    if holds_barred(part_of(packet, start, n)) {
-        return StringRead::Refused(refusal::STRING_WRONG);
+    if holds_barred(part_of(packet, start, len)) {
+        return Err(Refusal::StringWrong);
     }
-    StringRead::Text {
-        start,
-        len: n,
+    Ok(Field {
+        value: Some(Span { start, len }),
         next: end + 1,
-    }
+    })
 }

@@ -1,7 +1,7 @@
 -- `headers::spelled_name` meets its contract, by what the name's length reads as.
 -- Assumes nothing.
 use mathlib.Core.Path.{sym, ◌∙◌}
-use Rattle.wire.specs.declared.read.NumberRead.{NumberRead}
+use Rattle.wire.specs.Read.{NumberRead}
 use Rattle.headers.proofs.Laws.{spelled_by}
 use Rattle.headers.proofs.spelled_name.Goals as goal
 

@@ -2,7 +2,7 @@
 -- Assumes nothing.
 use mathlib.Core.Path.{◌≡◌, refl, sym, ap, ◌∙◌}
 use mathlib.Core.Bool.{true, false}
-use Rattle.wire.specs.declared.read.StringRead.{StringRead}
+use Rattle.wire.specs.Read.{StringRead}
 use Rattle.headers.specs.Headers.{declared_after, header_valued, header_value_of, header_value_at}
 use Rattle.headers.proofs.Laws.{value_is, part_none}
 use Rattle.headers.proofs.value_at.Goals as goal
