@@ -1,9 +1,10 @@
 // Attribute codes: what value each has, and which may repeat.
 ghost use Rattle.std.specs.Prelude.{◌≡◌};
 ghost use Rattle.names.specs.Attribute.{attribute_kind, may_repeat, is_served, attribute_fault};
+ghost use Rattle.wire.specs.Read.{fault_number};
 
 use packet::AttributeKind;
-use wire::refusal;
+use wire::refusal::Refusal;
 
 // What value the attribute with a code has.
 pub fn kind_of(code: u8) -> AttributeKind
@@ -37,17 +38,17 @@ fn is_served(kind: AttributeKind) -> bool
     }
 }
 
-// The refusal of an attribute's code, 0 for none; `seen` says that it came before.
-pub fn code_fault(code: u8, seen: bool) -> u8
-    ensures { result ≡ attribute_fault code seen }
+// The fault of an attribute's code; `seen` says that it came before.
+pub fn code_fault(code: u8, seen: bool) -> Result<(), Refusal>
+    ensures { fault_number result ≡ attribute_fault code seen }
 {
     if !is_served(kind_of(code)) {
-        return refusal::ATTRIBUTE_WRONG;
+        return Err(Refusal::AttributeWrong);
     }
     if seen {
         if !may_repeat(code) {
-            return refusal::ATTRIBUTE_WRONG;
+            return Err(Refusal::AttributeWrong);
         }
     }
-    refusal::NONE
+    Ok(())
 }

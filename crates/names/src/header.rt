@@ -1,6 +1,7 @@
 // What a header's name may be.
 ghost use Rattle.std.specs.Prelude.{◌≡◌, true, false, map, ◌<◌, length};
 ghost use Rattle.wire.specs.Bits.{bit};
+ghost use Rattle.wire.specs.Read.{fault_number};
 ghost use Rattle.names.specs.Private.{TokenFlags, has_all, alphabet_place};
 ghost use Rattle.names.specs.Names.{names_in, code_in};
 ghost use Rattle.names.specs.Header.{begins_code, header_names, code_fault, is_found, is_transfer_encoding, unlisted_fault, spelled_fault};
@@ -8,7 +9,7 @@ ghost use Rattle.names.specs.Header.{begins_code, header_names, code_fault, is_f
 use crate::token::BYTES;
 use crate::{CodeFound, NameList, table, token};
 use packet::{Direction, NAME_ROOM, Name};
-use wire::refusal;
+use wire::refusal::Refusal;
 
 // Whether a name that begins with this byte is a code, and no string.
 pub fn begins_code(first: u8) -> bool
@@ -27,14 +28,14 @@ pub fn names_of(direction: Direction) -> NameList
     }
 }
 
-// The refusal of a code as a header's name, 0 for none.
-pub fn code_fault(direction: Direction, code: u16) -> u8
-    ensures { result ≡ code_fault direction code }
+// The fault of a code as a header's name.
+pub fn code_fault(direction: Direction, code: u16) -> Result<(), Refusal>
+    ensures { fault_number result ≡ code_fault direction code }
 {
     if table::is_listed(names_of(direction), code) {
-        return refusal::NONE;
+        return Ok(());
     }
-    refusal::NAME_WRONG
+    Err(Refusal::NameWrong)
 }
 
 // Whether a text spells transfer-encoding.
@@ -126,32 +127,35 @@ fn is_listed_name(direction: Direction, text: &[u8]) -> bool
     }
 }
 
-// The refusal of a text as a header's spelled name, 0 for none; `flags` are those of the token bytes. That it is not empty is the string's
-// own rule.
-pub fn spelled_fault(direction: Direction, text: &[u8], flags: &[bool; BYTES]) -> u8
+// The fault of a text as a header's spelled name; `flags` are those of the token bytes. That it is not empty is the string's own rule.
+pub fn spelled_fault(
+    direction: Direction,
+    text: &[u8],
+    flags: &[bool; BYTES],
+) -> Result<(), Refusal>
     requires { TokenFlags flags.now }
-    ensures { result ≡ spelled_fault direction text.now }
+    ensures { fault_number result ≡ spelled_fault direction text.now }
 {
     if !token::is_token(text, flags) {
-        return refusal::NAME_WRONG;
+        return Err(Refusal::NameWrong);
     }
     if is_listed_name(direction, text) {
-        return refusal::NAME_WRONG;
+        return Err(Refusal::NameWrong);
     }
     unlisted_fault(direction, text)
 }
 
-// The refusal of a spelled name that is not listed, 0 for none.
-fn unlisted_fault(direction: Direction, text: &[u8]) -> u8
-    ensures { result ≡ unlisted_fault direction text.now }
+// The fault of a spelled name that is not listed.
+fn unlisted_fault(direction: Direction, text: &[u8]) -> Result<(), Refusal>
+    ensures { fault_number result ≡ unlisted_fault direction text.now }
 {
     match direction {
-        Direction::ToServer => refusal::NONE,
+        Direction::ToServer => Ok(()),
         Direction::ToContainer => {
             if is_transfer_encoding(text) {
-                return refusal::CONTENT_LENGTH_WRONG;
+                return Err(Refusal::ContentLengthWrong);
             }
-            refusal::NONE
+            Ok(())
         }
     }
 }
