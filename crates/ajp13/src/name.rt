@@ -5,7 +5,7 @@ ghost use Rattle.building.specs.Fault.{or_else};
 ghost use Rattle.words.specs.Number.{capped};
 ghost use Rattle.view_words.specs.Name.{list_in, list_fault, name_fault, name_after, code_number};
 
-use names::{CodeFound, table};
+use names::{table};
 use view_words::name::{NO_CODE, list_fault, list_in, name_fault, put_name};
 use words::number::number_in;
 use words::status;
@@ -33,7 +33,7 @@ pub extern "C" fn ajp13_code(list: u32, text: &[u8]) -> u32
         return found;
     }
     match table::code_of(list_in(list), text) {
-        CodeFound::Code(code) => code as u32,
-        CodeFound::NotListed => NO_CODE,
+        Some(code) => code as u32,
+        None => NO_CODE,
     }
 }

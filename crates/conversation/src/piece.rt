@@ -3,7 +3,6 @@
 // with a number, p,NAME,VALUE one that brings its name with it.
 use building_record::Building;
 use connection::{Connection, Sent};
-use names::CodeFound;
 use pieces::forward::{Nulls, Numbers};
 use pieces::{Added, attribute, code, forward, header, send_headers};
 use vectors_text::{parse, text};
@@ -67,10 +66,10 @@ fn forward(line: &[u8], buffer: &mut [u8]) -> Added {
 }
 
 // The code that was found, 0 for none.
-fn coded(found: CodeFound) -> u16 {
+fn coded(found: Option<u16>) -> u16 {
     match found {
-        CodeFound::Code(code) => code,
-        CodeFound::NotListed => 0,
+        Some(code) => code,
+        None => 0,
     }
 }
 

@@ -27,7 +27,7 @@ use Rattle.packet.specs.declared.Packet.{Packet}
 use Rattle.names.specs.Attribute.{attribute_kind}
 use Rattle.names.specs.Header.{header_names, spelled_fault}
 use Rattle.names.specs.Names.{code_in}
-use Rattle.names.specs.declared.CodeFound.{CodeFound}
+use Rattle.std.specs.Prelude.{Option, Some, None}
 use Rattle.headers.specs.Headers.{name_at, declares}
 use Rattle.headers.specs.declared.NameRead.{NameRead}
 use Rattle.headers.specs.declared.length.Declared.{Declared}
@@ -269,9 +269,9 @@ piece_clear (header_coded r buffer code no_value value) e = coded_piece_clear r 
 piece_clear (header_spelled r buffer no_name name no_value value) e = spelled_piece_clear r buffer no_name name no_value value e
 piece_clear (header_named r buffer name no_value value) e = go (code_in (header_names (direction_in r)) name) e
   where
-    go : (found : CodeFound) → first_fault (named_by r buffer name no_value value found).faults ≡ 0 → AllClear (named_texts name no_value value found)
-    go (CodeFound.Code code) h = coded_piece_clear r buffer code no_value value h
-    go CodeFound.NotListed h = spelled_piece_clear r buffer false name no_value value h
+    go : (found : Option ℕ) → first_fault (named_by r buffer name no_value value found).faults ≡ 0 → AllClear (named_texts name no_value value found)
+    go (Some code) h = coded_piece_clear r buffer code no_value value h
+    go None h = spelled_piece_clear r buffer false name no_value value h
 piece_clear (attribute_text r buffer code no_value value) e =
     fault_clear StringField.AttributeValue no_value value (faultless (text_call r buffer code no_value value).faults e).1.1.0
 piece_clear (attribute_integer r buffer code value) e = tt

@@ -20,7 +20,7 @@ use Rattle.names.specs.Header.{code_fault, is_found, unlisted_fault, spelled_fau
 use Rattle.names.specs.Token.{is_token}
 use Rattle.headers.specs.Length.{digits, decimal_of, decimal_declared, is_content_length, declared_length}
 use Rattle.names.specs.declared.NameList.{NameList}
-use Rattle.names.specs.declared.CodeFound.{CodeFound}
+use Rattle.std.specs.Prelude.{Some}
 use Rattle.headers.specs.declared.length.Decimal.{Decimal}
 use Rattle.headers.specs.declared.length.Declared.{Declared}
 use Rattle.headers.specs.declared.length.LengthRead.{LengthRead}
@@ -107,13 +107,13 @@ unfolding code_from
 not_spelled first [] bytes i h e = absurd (omega arith)
 not_spelled first (name ∷ names) bytes zero h e = go (same_name true name bytes) e
   where
-    go : (t : Bool) → is_found (pick t (CodeFound.Code first) (code_from true (first + 1) names bytes)) ≡ false → t ≡ false
+    go : (t : Bool) → is_found (pick t (Some first) (code_from true (first + 1) names bytes)) ≡ false → t ≡ false
     go true e = e
     go false e = refl
 not_spelled first (name ∷ names) bytes (suc i) h e =
     go (same_name true name bytes) e (not_spelled (first + 1) names bytes i (omega arith))
   where
-    go : (t : Bool) → is_found (pick t (CodeFound.Code first) (code_from true (first + 1) names bytes)) ≡ false
+    go : (t : Bool) → is_found (pick t (Some first) (code_from true (first + 1) names bytes)) ≡ false
         → (is_found (code_from true (first + 1) names bytes) ≡ false → same_name true (get_or names i []) bytes ≡ false)
         → same_name true (get_or names i []) bytes ≡ false
     go true e so = absurd (false≢true (sym e))

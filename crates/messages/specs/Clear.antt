@@ -10,7 +10,7 @@ use Rattle.packet.specs.declared.Direction.{Direction}
 use Rattle.packet.specs.declared.Packet.{Packet}
 use Rattle.names.specs.Header.{header_names}
 use Rattle.names.specs.Names.{code_in}
-use Rattle.names.specs.declared.CodeFound.{CodeFound}
+use Rattle.std.specs.Prelude.{Option, Some, None}
 use Rattle.connection.specs.declared.Connection.{Connection}
 use Rattle.places.specs.Entries.{max_places}
 use Rattle.building.specs.Call.{Call, with_fault, done, outcome}
@@ -92,9 +92,9 @@ abbrev pub given : Bool → List ℕ → List (List ℕ)
 given absent bytes = pick absent [] (bytes ∷ [])
 
 -- the texts that a header whose name is given as a text has: the name itself only where it is spelled out
-abbrev pub named_texts : List ℕ → Bool → List ℕ → CodeFound → List (List ℕ)
-named_texts name no_value value (CodeFound.Code code) = given no_value value
-named_texts name no_value value CodeFound.NotListed = name ∷ given no_value value
+abbrev pub named_texts : List ℕ → Bool → List ℕ → Option ℕ → List (List ℕ)
+named_texts name no_value value (Some code) = given no_value value
+named_texts name no_value value None = name ∷ given no_value value
 
 -- the texts of a Forward's fixed strings
 abbrev pub fixed_texts : Nulls → List ℕ → List ℕ → List ℕ → List ℕ → List ℕ → List (List ℕ)

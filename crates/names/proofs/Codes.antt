@@ -16,7 +16,7 @@ use Rattle.packet.specs.declared.Direction.{Direction}
 use Rattle.wire.proofs.Tests.{both_first, both_second}
 use Rattle.wire.specs.Bits.{bit}
 use Rattle.names.specs.declared.NameList.{NameList}
-use Rattle.names.specs.declared.CodeFound.{CodeFound}
+use Rattle.std.specs.Prelude.{Option, Some, None}
 use Rattle.names.specs.Token.{token_byte, is_token}
 use Rattle.names.specs.Attribute.{attribute_kind, is_served}
 use Rattle.names.specs.Header.{header_names, is_found, unlisted_fault, spelled_fault}
@@ -81,16 +81,16 @@ listed_within list n h =
     (leb-true _ _ (both_first first last h), ltb-true _ _ (both_second first last h))
 
 -- the code that a list's name at a place is found to have, and the one that it has
-abbrev found : NameList → ℕ → CodeFound
+abbrev found : NameList → ℕ → Option ℕ
 found list k = code_in list (get_or (names_in list) k [])
 
-abbrev due : NameList → ℕ → CodeFound
-due list k = CodeFound.Code (first_code list + k)
+abbrev due : NameList → ℕ → Option ℕ
+due list k = Some (first_code list + k)
 
 -- a list's names are found at their own places: antt looks each of them up
 at_place : (list : NameList) (k : ℕ) → k < length (names_in list) → found list k ≡ due list k
 unfolding method_names request_names response_names attribute_names letter same_name code_from code_in
-at_place list k h = agree (found list) (due list) CodeFound.NotListed (length (names_in list)) (looked_up list) k h
+at_place list k h = agree (found list) (due list) None (length (names_in list)) (looked_up list) k h
   where
     looked_up : (list : NameList) → values (found list) 0 (length (names_in list)) ≡ values (due list) 0 (length (names_in list))
     looked_up NameList.Methods = refl
@@ -99,36 +99,36 @@ at_place list k h = agree (found list) (due list) CodeFound.NotListed (length (n
     looked_up NameList.Attributes = refl
 
 -- the name for a listed code has that code
-pub round_trip : (list : NameList) (n : ℕ) → is_listed list n ≡ true → code_in list (name_for list n) ≡ CodeFound.Code n
+pub round_trip : (list : NameList) (n : ℕ) → is_listed list n ≡ true → code_in list (name_for list n) ≡ Some n
 round_trip list n h =
     let w = listed_within list n h in
     let e : first_code list + (n - first_code list) ≡ n = omega arith in
     ap (code_in list) (name_from list n (first_code list) refl w.0)
     ∙ at_place list (n - first_code list) (omega arith)
-    ∙ ap CodeFound.Code e
+    ∙ ap Some e
 
 -- the code that is taken for HEAD has that name in the list, and looking that name up gives this code
-pub head_named : (name_for NameList.Methods head_method ≡ ascii "HEAD") × (code_in NameList.Methods (ascii "HEAD") ≡ CodeFound.Code head_method)
+pub head_named : (name_for NameList.Methods head_method ≡ ascii "HEAD") × (code_in NameList.Methods (ascii "HEAD") ≡ Some head_method)
 unfolding method_names name_for letter same_name code_from code_in
 head_named = (refl, refl)
 
 -- a code that is found is at a place of the names
 found_within : (ignoring : Bool) (first : ℕ) (names : List (List ℕ)) (text : List ℕ) (n : ℕ)
-    → code_from ignoring first names text ≡ CodeFound.Code n
+    → code_from ignoring first names text ≡ Some n
     → (first ≤ n) × (n < first + length names)
 unfolding code_from
 found_within ignoring first [] text n e = let z : ◌≡◌ {A = ℕ} 0 1 = cc in absurd (omega arith)
 found_within ignoring first (name ∷ names) text n e =
     go (same_name ignoring name text) e (found_within ignoring (first + 1) names text n)
   where
-    go : (t : Bool) → pick t (CodeFound.Code first) (code_from ignoring (first + 1) names text) ≡ CodeFound.Code n
-        → (code_from ignoring (first + 1) names text ≡ CodeFound.Code n → (first + 1 ≤ n) × (n < first + 1 + length names))
+    go : (t : Bool) → pick t (Some first) (code_from ignoring (first + 1) names text) ≡ Some n
+        → (code_from ignoring (first + 1) names text ≡ Some n → (first + 1 ≤ n) × (n < first + 1 + length names))
         → (first ≤ n) × (n < first + suc (length names))
     go true e ih = let q : first ≡ n = cc in omega arith
     go false e ih = omega (arith, ih e)
 
 -- a code that is found is listed
-pub found_listed : (list : NameList) (text : List ℕ) (n : ℕ) → code_in list text ≡ CodeFound.Code n → is_listed list n ≡ true
+pub found_listed : (list : NameList) (text : List ℕ) (n : ℕ) → code_in list text ≡ Some n → is_listed list n ≡ true
 unfolding is_listed code_in
 found_listed list text n e =
     let w = found_within _ _ _ text n e in
@@ -136,22 +136,22 @@ found_listed list text n e =
 
 -- the name at a found code's place is the one that the text spells
 found_name : (ignoring : Bool) (first : ℕ) (names : List (List ℕ)) (text : List ℕ) (n : ℕ)
-    → code_from ignoring first names text ≡ CodeFound.Code n → same_name ignoring (get_or names (n - first) []) text ≡ true
+    → code_from ignoring first names text ≡ Some n → same_name ignoring (get_or names (n - first) []) text ≡ true
 unfolding code_from
 found_name ignoring first [] text n e = let z : ◌≡◌ {A = ℕ} 0 1 = cc in absurd (omega arith)
 found_name ignoring first (name ∷ names) text n e =
     go (same_name ignoring name text) refl e (found_name ignoring (first + 1) names text n) (found_within ignoring (first + 1) names text n)
   where
     go : (t : Bool) → same_name ignoring name text ≡ t
-        → pick t (CodeFound.Code first) (code_from ignoring (first + 1) names text) ≡ CodeFound.Code n
-        → (code_from ignoring (first + 1) names text ≡ CodeFound.Code n → same_name ignoring (get_or names (n - (first + 1)) []) text ≡ true)
-        → (code_from ignoring (first + 1) names text ≡ CodeFound.Code n → (first + 1 ≤ n) × (n < first + 1 + length names))
+        → pick t (Some first) (code_from ignoring (first + 1) names text) ≡ Some n
+        → (code_from ignoring (first + 1) names text ≡ Some n → same_name ignoring (get_or names (n - (first + 1)) []) text ≡ true)
+        → (code_from ignoring (first + 1) names text ≡ Some n → (first + 1 ≤ n) × (n < first + 1 + length names))
         → same_name ignoring (get_or (name ∷ names) (n - first) []) text ≡ true
     go true s e ih w = let q : n - first ≡ 0 = let p : first ≡ n = cc in omega arith in rw q s
     go false s e ih w = let q : n - first ≡ suc (n - (first + 1)) = omega (arith, w e) in rw q (ih e)
 
 -- a text spells the name for the code that it is found to have
-pub found_spelled : (list : NameList) (text : List ℕ) (n : ℕ) → code_in list text ≡ CodeFound.Code n
+pub found_spelled : (list : NameList) (text : List ℕ) (n : ℕ) → code_in list text ≡ Some n
     → same_name (ignores_case list) (name_for list n) text ≡ true
 unfolding code_in
 found_spelled list text n e =
@@ -170,13 +170,13 @@ at_all p f (name ∷ names) (suc k) h e = at_all p f names k (le_of_suc-le-suc h
 -- A text is not listed where a test holds of a number of every name and not of the text's, if a text that spells a name has its number.
 told_apart : (list : NameList) (text : List ℕ) (p : ℕ → Bool) (f : List ℕ → ℕ)
     → ((name : List ℕ) → (f name ≡ f text → ⊥) → same_name (ignores_case list) name text ≡ false)
-    → all p (map f (names_in list)) ≡ true → p (f text) ≡ false → code_in list text ≡ CodeFound.NotListed
+    → all p (map f (names_in list)) ≡ true → p (f text) ≡ false → code_in list text ≡ None
 unfolding code_in
 told_apart list text p f differ all_have not_this = go (code_in list text) refl
   where
-    go : (r : CodeFound) → code_in list text ≡ r → r ≡ CodeFound.NotListed
-    go CodeFound.NotListed e = refl
-    go (CodeFound.Code n) e =
+    go : (r : Option ℕ) → code_in list text ≡ r → r ≡ None
+    go None e = refl
+    go (Some n) e =
         let w = found_within (ignores_case list) (first_code list) (names_in list) text n e in
         let name : List ℕ = get_or (names_in list) (n - first_code list) [] in
         let same : same_name (ignores_case list) name text ≡ true = found_name (ignores_case list) (first_code list) (names_in list) text n e in
@@ -197,18 +197,18 @@ letter_place ignoring b = go (both ignoring (between 65 90 b))
 
 -- a text that is told from every listed name: it is longer, has another length, or another first letter
 module _ (list : NameList) (text : List ℕ) where
-  pub unlisted_long : name_room < length text → code_in list text ≡ CodeFound.NotListed
+  pub unlisted_long : name_room < length text → code_in list text ≡ None
   unlisted_long h =
       told_apart list text (λ (n : ℕ). leb n name_room) length (λ name. same_length (ignores_case list) name text) (all_short list)
       (lt-leb (length text) name_room h)
 
   pub unlisted_length : (set : ℕ) → has_all set (map length (names_in list)) ≡ true → bit set (length text) ≡ false
-      → code_in list text ≡ CodeFound.NotListed
+      → code_in list text ≡ None
   unlisted_length set has not_this =
       told_apart list text (bit set) length (λ name. same_length (ignores_case list) name text) has not_this
 
   pub unlisted_letter : (set : ℕ) → has_all set (map alphabet_place (names_in list)) ≡ true → bit set (alphabet_place text) ≡ false
-      → code_in list text ≡ CodeFound.NotListed
+      → code_in list text ≡ None
   unlisted_letter set has not_this =
       told_apart list text (bit set) alphabet_place
       (λ name d. same_first (ignores_case list) name text

@@ -15,7 +15,7 @@ use Rattle.wire.specs.Pick.{pick, both}
 use Rattle.wire.proofs.Tests.{both_assoc, both_true}
 use Rattle.packet.specs.declared.Name.{Name}
 use Rattle.names.specs.declared.NameList.{NameList}
-use Rattle.names.specs.declared.CodeFound.{CodeFound}
+use Rattle.std.specs.Prelude.{Option, Some, None}
 use Rattle.names.specs.Names.{method_names, request_names, response_names, attribute_names, names_in, first_code, ignores_case, is_listed, name_for, letter, same_name, code_from, code_in}
 use Rattle.names.specs.Row.{name_room, row_of, padded, name_bytes}
 use Rattle.names.specs.Private.{first_of}
@@ -75,7 +75,7 @@ same_first ignoring (x ∷ a) (y ∷ b) h = rw (ne_eqb (letter ignoring x) (lett
 code_step : (ignoring : Bool) (first : ℕ) (names : List (List ℕ)) (text : List ℕ) (k : ℕ) (t : Bool)
     → k < length names → same_name ignoring (get_or names k []) text ≡ t
     → code_from ignoring (first + k) (drop k names) text
-    ≡ pick t (CodeFound.Code (first + k)) (code_from ignoring (first + (k + 1)) (drop (k + 1) names) text)
+    ≡ pick t (Some (first + k)) (code_from ignoring (first + (k + 1)) (drop (k + 1) names) text)
 unfolding code_from
 code_step ignoring first names text k t h e =
     let q : first + (k + 1) ≡ first + k + 1 = omega arith in
@@ -83,7 +83,7 @@ code_step ignoring first names text k t h e =
 
 -- a loop that looks a text up in a list: the names left answer as the whole list does
 module _ (list : NameList) (text : List ℕ) where
-  abbrev pub code_left : ℕ → CodeFound
+  abbrev pub code_left : ℕ → Option ℕ
   code_left k = code_from (ignores_case list) (first_code list + k) (drop k (names_in list)) text
 
   -- no name is passed yet
@@ -93,11 +93,11 @@ module _ (list : NameList) (text : List ℕ) where
 
   -- one name is compared: t is its test
   pub code_turn : (k : ℕ) (t : Bool) → k < length (names_in list) → same_name (ignores_case list) (get_or (names_in list) k []) text ≡ t
-      → code_left k ≡ pick t (CodeFound.Code (first_code list + k)) (code_left (k + 1))
+      → code_left k ≡ pick t (Some (first_code list + k)) (code_left (k + 1))
   code_turn k t h e = code_step (ignores_case list) (first_code list) (names_in list) text k t h e
 
   -- all names are passed
-  pub code_end : (k : ℕ) → k ≡ length (names_in list) → code_left k ≡ CodeFound.NotListed
+  pub code_end : (k : ℕ) → k ≡ length (names_in list) → code_left k ≡ None
   unfolding code_from
   code_end k e = rw (e, drop-length (names_in list))
 

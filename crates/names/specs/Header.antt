@@ -6,7 +6,7 @@ use Rattle.wire.specs.Pick.{pick, both}
 use Rattle.wire.specs.Refusal.{none, name_wrong, content_length_wrong}
 use Rattle.packet.specs.declared.Direction.{Direction}
 use Rattle.names.specs.declared.NameList.{NameList}
-use Rattle.names.specs.declared.CodeFound.{CodeFound}
+use Rattle.std.specs.Prelude.{Option, Some, None}
 use Rattle.names.specs.Token.{is_token}
 use Rattle.names.specs.Names.{ascii, is_listed, same_name, code_in}
 
@@ -24,9 +24,9 @@ unfoldable pub code_fault : Direction → ℕ → ℕ
 code_fault direction n = pick (is_listed (header_names direction) n) none name_wrong
 
 -- a code was found
-abbrev pub is_found : CodeFound → Bool
-is_found (CodeFound.Code n) = true
-is_found CodeFound.NotListed = false
+abbrev pub is_found : Option ℕ → Bool
+is_found (Some n) = true
+is_found None = false
 
 -- a text that spells transfer-encoding, case ignored
 unfoldable pub is_transfer_encoding : List ℕ → Bool

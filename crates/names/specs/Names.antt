@@ -7,7 +7,7 @@ use Prim.Native.Char.{code}
 use Prim.Native.String.{String, [] as empty, ◌∷◌ as ◌then◌}
 use Rattle.wire.specs.Pick.{pick, both, between}
 use Rattle.names.specs.declared.NameList.{NameList}
-use Rattle.names.specs.declared.CodeFound.{CodeFound}
+use Rattle.std.specs.Prelude.{Option, Some, None}
 
 -- the bytes of a text
 abbrev pub ascii : String → List ℕ
@@ -138,11 +138,11 @@ same_name ignoring (x ∷ xs) [] = false
 same_name ignoring (x ∷ xs) (y ∷ ys) = both (eqb (letter ignoring x) (letter ignoring y)) (same_name ignoring xs ys)
 
 -- the code of the first of these names that a text spells, where the first has code n
-unfoldable pub code_from : Bool → ℕ → List (List ℕ) → List ℕ → CodeFound
-code_from ignoring n [] text = CodeFound.NotListed
+unfoldable pub code_from : Bool → ℕ → List (List ℕ) → List ℕ → Option ℕ
+code_from ignoring n [] text = None
 code_from ignoring n (name ∷ names) text =
-    pick (same_name ignoring name text) (CodeFound.Code n) (code_from ignoring (n + 1) names text)
+    pick (same_name ignoring name text) (Some n) (code_from ignoring (n + 1) names text)
 
 -- the code of the name that a text spells
-unfoldable pub code_in : NameList → List ℕ → CodeFound
+unfoldable pub code_in : NameList → List ℕ → Option ℕ
 code_in list text = code_from (ignores_case list) (first_code list) (names_in list) text

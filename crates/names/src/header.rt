@@ -1,5 +1,5 @@
 // What a header's name may be.
-ghost use Rattle.std.specs.Prelude.{◌≡◌, true, false, map, ◌<◌, length};
+ghost use Rattle.std.specs.Prelude.{◌≡◌, None, true, false, map, ◌<◌, length};
 ghost use Rattle.wire.specs.Bits.{bit};
 ghost use Rattle.wire.specs.Read.{fault_number};
 ghost use Rattle.names.specs.Private.{TokenFlags, has_all, alphabet_place};
@@ -7,7 +7,7 @@ ghost use Rattle.names.specs.Names.{names_in, code_in};
 ghost use Rattle.names.specs.Header.{begins_code, header_names, code_fault, is_found, is_transfer_encoding, unlisted_fault, spelled_fault};
 
 use crate::token::BYTES;
-use crate::{CodeFound, NameList, table, token};
+use crate::{NameList, table, token};
 use packet::{Direction, NAME_ROOM, Name};
 use wire::refusal::Refusal;
 
@@ -92,7 +92,7 @@ fn letters_of(direction: Direction) -> u32
 
 // Whether a text may spell a listed name, by its length and its first letter, which tell most spelled names from the listed ones.
 fn may_be_listed(direction: Direction, text: &[u8]) -> bool
-    ensures { result ≡ false → code_in (header_names direction) text.now ≡ CodeFound.NotListed }
+    ensures { result ≡ false → code_in (header_names direction) text.now ≡ None }
 {
     let n = text.len();
     if n == 0 {
@@ -108,11 +108,11 @@ fn may_be_listed(direction: Direction, text: &[u8]) -> bool
 }
 
 // The code of the header's name that a text spells, small and capital letters taken as one.
-pub fn code_of(direction: Direction, text: &[u8]) -> CodeFound
+pub fn code_of(direction: Direction, text: &[u8]) -> Option<u16>
     ensures { result ≡ code_in (header_names direction) text.now }
 {
     if !may_be_listed(direction, text) {
-        return CodeFound::NotListed;
+        return None;
     }
     table::code_of(names_of(direction), text)
 }
@@ -121,10 +121,7 @@ pub fn code_of(direction: Direction, text: &[u8]) -> CodeFound
 fn is_listed_name(direction: Direction, text: &[u8]) -> bool
     ensures { result ≡ is_found (code_in (header_names direction) text.now) }
 {
-    match code_of(direction, text) {
-        CodeFound::Code(_) => true,
-        CodeFound::NotListed => false,
-    }
+    code_of(direction, text).is_some()
 }
 
 // The fault of a text as a header's spelled name; `flags` are those of the token bytes. That it is not empty is the string's own rule.

@@ -17,10 +17,3 @@ pub enum NameList {
     ResponseHeaders,
     Attributes,
 }
-
-// The code for a name.
-#[derive(Clone, Copy)]
-pub enum CodeFound {
-    Code(u16),
-    NotListed,
-}

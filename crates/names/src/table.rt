@@ -5,7 +5,7 @@ ghost use Rattle.names.specs.Names.{method_names, request_names, response_names,
 ghost use Rattle.names.specs.Row.{row_of, padded, name_bytes};
 ghost use Rattle.names.specs.Private.{lengths_in, first_of, firsts_in, most_names};
 
-use crate::{CodeFound, NameList};
+use crate::NameList;
 use packet::{NAME_ROOM, Name};
 
 // How many names each list has.
@@ -338,7 +338,7 @@ fn spells_at(
 }
 
 // The code of the name of a list that a text spells, by the list's lengths and first letters.
-fn find(list: NameList, text: &[u8], lengths: &[u8; MOST], firsts: &[u8; MOST]) -> CodeFound
+fn find(list: NameList, text: &[u8], lengths: &[u8; MOST], firsts: &[u8; MOST]) -> Option<u16>
     requires lengths_value { lengths.now ≡ lengths_in list }
     requires firsts_value { firsts.now ≡ firsts_in list }
     ensures { result ≡ code_in list text.now }
@@ -348,15 +348,15 @@ fn find(list: NameList, text: &[u8], lengths: &[u8; MOST], firsts: &[u8; MOST]) 
     let mut k = 0;
     while k < n {
         if spells_at(list, k, text, lengths, firsts) {
-            return CodeFound::Code(first + (k as u16));
+            return Some(first + (k as u16));
         }
         k += 1;
     }
-    CodeFound::NotListed
+    None
 }
 
 // The code of the name that a text spells.
-pub fn code_of(list: NameList, text: &[u8]) -> CodeFound
+pub fn code_of(list: NameList, text: &[u8]) -> Option<u16>
     ensures { result ≡ code_in list text.now }
 {
     match list {

@@ -16,7 +16,7 @@ use Rattle.wire.specs.Refusal.{out_of_range}
 use Rattle.connection.specs.declared.Kind.{Kind}
 use Rattle.names.specs.Header.{header_names}
 use Rattle.names.specs.Names.{code_in}
-use Rattle.names.specs.declared.CodeFound.{CodeFound}
+use Rattle.std.specs.Prelude.{Option}
 use Rattle.payload.specs.Forward.{first_method, last_method}
 use Rattle.building.specs.Fault.{or_else, first_fault, range_fault}
 use Rattle.building.specs.Call.{Outcome, outcome, buffer_after}
@@ -102,7 +102,7 @@ method_within numbers nulls protocol uri addr host name h =
     leb-true n last_method (both_second (leb first_method n) (leb n last_method) (unless_none (between first_method last_method n) out_of_range (omega arith) (first_none (range_fault first_method last_method n) later h)))
 
 -- a header whose name is given as a text, by whether it is listed
-pub named_both : (r : Building) (buffer name : List ℕ) (null : Bool) (value : List ℕ) (found : CodeFound) (answer : Outcome Building) (after : List ℕ)
+pub named_both : (r : Building) (buffer name : List ℕ) (null : Bool) (value : List ℕ) (found : Option ℕ) (answer : Outcome Building) (after : List ℕ)
     → code_in (header_names (direction_in r)) name ≡ found
     → answer ≡ outcome (named_by r buffer name null value found) (length buffer)
     → after ≡ buffer_after (named_by r buffer name null value found) buffer

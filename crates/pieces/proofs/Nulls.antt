@@ -12,7 +12,7 @@ use Rattle.packet.specs.declared.Direction.{Direction}
 use Rattle.names.specs.Attribute.{attribute_kind}
 use Rattle.names.specs.Header.{header_names}
 use Rattle.names.specs.Names.{code_in}
-use Rattle.names.specs.declared.CodeFound.{CodeFound}
+use Rattle.std.specs.Prelude.{Option, Some, None}
 use Rattle.headers.specs.Headers.{declares, declared_after}
 use Rattle.payload.specs.Forward.{first_method, last_method}
 use Rattle.payload.specs.SendHeaders.{least_status, greatest_status}
@@ -108,9 +108,9 @@ module _ (r : Building) (buffer : List ℕ) where
   unfolding named_call
   named_same name null value other same = by (code_in (header_names (direction_in r)) name)
     where
-      by : (found : CodeFound) → named_by r buffer name null value found ≡ named_by r buffer name null other found
-      by (CodeFound.Code code) = coded_same code null value other same
-      by CodeFound.NotListed = spelled_same false name name null value other (λ e. refl) same
+      by : (found : Option ℕ) → named_by r buffer name null value found ≡ named_by r buffer name null other found
+      by (Some code) = coded_same code null value other same
+      by None = spelled_same false name name null value other (λ e. refl) same
 
   -- an attribute with a string
   pub text_same : (code : ℕ) (null : Bool) (value other : List ℕ) → SameText null value other

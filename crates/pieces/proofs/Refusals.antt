@@ -13,7 +13,7 @@ use Rattle.names.specs.Attribute.{attribute_kind}
 use Rattle.names.specs.Header.{header_names, spelled_fault}
 use Rattle.names.specs.Names.{code_in}
 use Rattle.headers.specs.Length.{length_after}
-use Rattle.names.specs.declared.CodeFound.{CodeFound}
+use Rattle.std.specs.Prelude.{Option, Some, None}
 use Rattle.headers.specs.declared.length.Declared.{Declared}
 use Rattle.headers.specs.declared.length.LengthRead.{LengthRead}
 use Rattle.names.proofs.Refusals.{code_fault_lem, spelled_fault_lem}
@@ -97,9 +97,9 @@ module _ (r : Building) (buffer : List ℕ) where
   unfolding named_call
   named_refusal name null value = by (code_in (header_names (direction_in r)) name)
     where
-      by : (found : CodeFound) → Numbered (named_by r buffer name null value found)
-      by (CodeFound.Code code) = coded_refusal code null value
-      by CodeFound.NotListed = spelled_refusal false name null value
+      by : (found : Option ℕ) → Numbered (named_by r buffer name null value found)
+      by (Some code) = coded_refusal code null value
+      by None = spelled_refusal false name null value
 
 -- the calls, one by one
 pub piece_refusals :

@@ -9,7 +9,7 @@ use Rattle.packet.specs.declared.Direction.{Direction}
 use Rattle.wire.specs.declared.StringField.{StringField}
 use Rattle.names.specs.Header.{header_names, code_fault, spelled_fault}
 use Rattle.names.specs.Names.{code_in}
-use Rattle.names.specs.declared.CodeFound.{CodeFound}
+use Rattle.std.specs.Prelude.{Option, Some, None}
 use Rattle.headers.specs.declared.length.Declared.{Declared}
 use Rattle.headers.specs.declared.length.LengthRead.{LengthRead}
 use Rattle.headers.specs.Headers.{declares, declared_after}
@@ -71,14 +71,14 @@ spelled_call r buffer name_null name value_null value =
     header_call r buffer (spelled_fields (direction_in r) name_null name value_null value)
 
 -- a header whose name is given as a text: by its code where it is listed, else spelled out
-abbrev pub named_by : Building → List ℕ → List ℕ → Bool → List ℕ → CodeFound → Call Building
-named_by r buffer name null value (CodeFound.Code code) = coded_call r buffer code null value
-named_by r buffer name null value CodeFound.NotListed = spelled_call r buffer false name null value
+abbrev pub named_by : Building → List ℕ → List ℕ → Bool → List ℕ → Option ℕ → Call Building
+named_by r buffer name null value (Some code) = coded_call r buffer code null value
+named_by r buffer name null value None = spelled_call r buffer false name null value
 
 unfoldable pub named_call : Building → List ℕ → List ℕ → Bool → List ℕ → Call Building
 named_call r buffer name null value = named_by r buffer name null value (code_in (header_names (direction_in r)) name)
 
 -- how many bytes a buffer needs for it
-abbrev pub named_needs : Building → List ℕ → Bool → List ℕ → CodeFound → ℕ
-named_needs r name null value (CodeFound.Code code) = needed_at r.next.0 (coded_fields (direction_in r) code null value)
-named_needs r name null value CodeFound.NotListed = needed_at r.next.0 (spelled_fields (direction_in r) false name null value)
+abbrev pub named_needs : Building → List ℕ → Bool → List ℕ → Option ℕ → ℕ
+named_needs r name null value (Some code) = needed_at r.next.0 (coded_fields (direction_in r) code null value)
+named_needs r name null value None = needed_at r.next.0 (spelled_fields (direction_in r) false name null value)

@@ -8,24 +8,24 @@ ghost use Rattle.building_record.specs.Record.{built_kind};
 
 use building_record::BuildingKind;
 use names::table::code_of;
-use names::{CodeFound, NameList, header};
+use names::{NameList, header};
 
 // The code of a header's name, by the packet that it is for, small and capital letters taken as one.
-pub fn of_header(kind: BuildingKind, name: &[u8]) -> CodeFound
+pub fn of_header(kind: BuildingKind, name: &[u8]) -> Option<u16>
     ensures { result ≡ code_in (header_names (direction_of (built_kind kind))) name.now }
 {
     header::code_of(kind.kind().direction(), name)
 }
 
 // The code of a method's name.
-pub fn of_method(name: &[u8]) -> CodeFound
+pub fn of_method(name: &[u8]) -> Option<u16>
     ensures { result ≡ code_in NameList.Methods name.now }
 {
     code_of(NameList::Methods, name)
 }
 
 // The code of an attribute's name.
-pub fn of_attribute(name: &[u8]) -> CodeFound
+pub fn of_attribute(name: &[u8]) -> Option<u16>
     ensures { result ≡ code_in NameList.Attributes name.now }
 {
     code_of(NameList::Attributes, name)

@@ -19,7 +19,7 @@ use building_record::Building;
 use headers::length::{Declared, LengthRead};
 use headers::{declared_after, declares_length};
 use names::header::{code_fault, spelled_fault};
-use names::{CodeFound, token};
+use names::{token};
 use packet::Direction;
 use wire::{StringField, refusal, write};
 
@@ -57,8 +57,8 @@ pub fn named_needs(building: Building, name: &[u8], null: bool, value: &[u8]) ->
 {
     let kind = building.kind;
     match of_header(kind, name) {
-        CodeFound::Code(code) => coded_needs(building, code, null, value),
-        CodeFound::NotListed => spelled_needs(building, false, name, null, value),
+        Some(code) => coded_needs(building, code, null, value),
+        None => spelled_needs(building, false, name, null, value),
     }
 }
 
@@ -178,7 +178,7 @@ pub fn named(building: Building, buffer: &mut [u8], name: &[u8], null: bool, val
 {
     let kind = building.kind;
     match of_header(kind, name) {
-        CodeFound::Code(code) => coded(building, buffer, code, null, value),
-        CodeFound::NotListed => spelled(building, buffer, false, name, null, value),
+        Some(code) => coded(building, buffer, code, null, value),
+        None => spelled(building, buffer, false, name, null, value),
     }
 }

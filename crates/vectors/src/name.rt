@@ -1,6 +1,5 @@
 // The commands that look up a name by its code and a code by its name, in each of the four lists.
 use building_record::BuildingKind;
-use names::CodeFound;
 use packet::{Direction, Name};
 use pieces::code;
 use vectors_text::answer::Answer;
@@ -37,12 +36,12 @@ pub fn code_of(command: usize, case: &[u8], out: &mut [u8]) -> usize {
     let mut name = [0u8; ROOM];
     let count = parse::bytes(text::word(case, LOOKED_UP), &mut name);
     match found(command, part_of(&name, 0, count)) {
-        CodeFound::Code(n) => told(out, Answer::of(answer::CODE).with(n as u64), b""),
-        CodeFound::NotListed => told(out, Answer::of(answer::NOT_LISTED), b""),
+        Some(n) => told(out, Answer::of(answer::CODE).with(n as u64), b""),
+        None => told(out, Answer::of(answer::NOT_LISTED), b""),
     }
 }
 
-fn found(command: usize, name: &[u8]) -> CodeFound {
+fn found(command: usize, name: &[u8]) -> Option<u16> {
     match command {
         commands::METHOD_CODE => code::of_method(name),
         commands::REQUEST_CODE => code::of_header(BuildingKind::Forward, name),

@@ -5,7 +5,7 @@ use Rattle.std.specs.Prelude.{List, ℕ, leb, eqb, length}
 use Rattle.wire.specs.Pick.{pick, both}
 use Rattle.names.specs.Names.{is_listed, name_for}
 use Rattle.names.specs.Row.{name_room, row_of}
-use Rattle.names.specs.declared.CodeFound.{CodeFound}
+use Rattle.std.specs.Prelude.{Option, Some, None}
 use Rattle.names.specs.declared.NameList.{NameList}
 use Rattle.building.specs.Fault.{unless, or_else}
 use Rattle.words.specs.Status as status
@@ -35,6 +35,6 @@ name_after list code name =
     pick (both (eqb (name_fault list name) status.done) (is_listed (list_in list) (capped code))) (row_of (name_for (list_in list) (capped code))) name
 
 -- the number of a code that was looked for: 0 where the name is not listed
-abbrev pub code_number : CodeFound → ℕ
-code_number (CodeFound.Code code) = code
-code_number CodeFound.NotListed = 0
+abbrev pub code_number : Option ℕ → ℕ
+code_number (Some code) = code
+code_number None = 0

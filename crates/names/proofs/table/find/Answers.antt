@@ -6,7 +6,7 @@ use mathlib.Core.Bool.{true, false}
 use Prim.Native.Nat.{ℕ, ◌+◌, ◌<◌}
 use native.Mathlib.Omega.{arith}
 use lib.ListN.{length}
-use Rattle.names.specs.declared.CodeFound.{CodeFound}
+use Rattle.std.specs.Prelude.{Some}
 use Rattle.names.specs.Names.{names_in}
 use Rattle.names.proofs.Rows.{most_names_lem}
 use Rattle.names.proofs.Laws.{code_start, code_turn, code_end, code_room}
@@ -54,7 +54,7 @@ returns-then-spells_at c =
     let first = c.first_code-first.ensures in
     (omega (arith, n), omega (arith, first, code_room list)) in
     let a = c.args in
-    ap (λ (n : ℕ). CodeFound.Code (n + c.loop-k.k)) c.first_code-first.ensures
+    ap (λ (n : ℕ). Some (n + c.loop-k.k)) c.first_code-first.ensures
     ∙ sym (c.loop-k.invariant.1
     ∙ code_turn a.list a.text.now c.loop-k.k true (inside).0 (sym c.spells_at.ensures ∙ c.if-spells_at.true))
 
