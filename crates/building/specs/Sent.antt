@@ -2,22 +2,20 @@
 -- connection after it.
 -- Document 01, 'Building'.
 -- Assumes nothing.
-use Rattle.std.specs.Prelude.{Bool, true, false, ℕ}
-use Rattle.connection.specs.declared.Connection.{Connection}
-use Rattle.connection.specs.declared.Sent.{Sent}
+use Rattle.std.specs.Prelude.{Bool, true, false, Result, Ok, Err}
+use Rattle.wire.specs.Refusal.{number_of}
+use Rattle.wire.specs.declared.refusal.Refusal.{Refusal}
 use Rattle.building.specs.Call.{Outcome, refused, done}
 
 -- a packet that stands in the buffer from its first byte on: how long it is, and the connection after it
-pub record Written : Type 0 where
-  pub size : ℕ
-  pub connection : Connection
+pub use Rattle.connection.specs.declared.Written.{Written}
 
 -- what each case of the answer says
-abbrev pub sent_outcome : Sent → Outcome Written
-sent_outcome (Sent.Refused n) = refused n
-sent_outcome (Sent.Written size connection) = done (record { size = size; connection = connection })
+abbrev pub sent_outcome : Result Written Refusal → Outcome Written
+sent_outcome (Err refusal) = refused (number_of refusal)
+sent_outcome (Ok written) = done written
 
 -- an answer that says the packet is written
-abbrev pub is_written : Sent → Bool
-is_written (Sent.Refused n) = false
-is_written (Sent.Written size connection) = true
+abbrev pub is_written : Result Written Refusal → Bool
+is_written (Err refusal) = false
+is_written (Ok written) = true

@@ -16,7 +16,7 @@ use Rattle.connection.specs.declared.State.{State}
 use Rattle.connection.specs.declared.Connection.{Connection}
 use Rattle.connection.specs.declared.Kind.{Kind}
 use Rattle.connection.specs.declared.Move.{Move}
-use Rattle.connection.specs.declared.Step.{Step}
+use Rattle.connection.specs.Step.{Step}
 use Rattle.connection.specs.Connection.{is_idle, is_pinged, is_busy, rest, with_headers, busy, tidy, body_due}
 use Rattle.connection.specs.Cycle.{move_kind, direction_of, in_state, largest_body, size_allowed, chunk_allowed, in_size, allowed, forwarded, after, step_of, number_in, connection_after_step}
 use Rattle.connection.specs.Facts.{Commuting, BodyWithin, Ignored}

@@ -11,7 +11,7 @@ use Rattle.wire.specs.Pick.{pick, both}
 use Rattle.wire.specs.Refusal.{not_now, body_size_wrong}
 use Rattle.connection.specs.declared.Connection.{Connection}
 use Rattle.connection.specs.declared.Move.{Move}
-use Rattle.connection.specs.declared.Step.{Step}
+use Rattle.connection.specs.Step.{Step}
 use Rattle.connection.specs.Connection.{max_body, is_busy, body_due}
 use Rattle.connection.specs.Cycle.{move_kind, in_state, largest_body, size_allowed, in_size, after, sized_step, step_of}
 

@@ -12,7 +12,7 @@ use Rattle.connection.specs.declared.Connection.{Connection}
 use Rattle.connection.specs.declared.Kind.{Kind}
 use Rattle.connection.specs.declared.ForwardMove.{ForwardMove}
 use Rattle.connection.specs.declared.Move.{Move}
-use Rattle.connection.specs.declared.Step.{Step}
+use Rattle.connection.specs.Step.{Step}
 use Rattle.connection.specs.Connection.{max_body, is_idle, is_pinged, is_busy, rest, with_left, with_due, with_headers, with_head, busy, body_due, is_head}
 
 -- the kind of packet that makes a move

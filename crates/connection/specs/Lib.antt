@@ -1,3 +1,4 @@
 pub mod Connection
+pub mod Step
 pub mod Cycle
 pub mod Facts

@@ -5,11 +5,12 @@
 ghost use Rattle.std.specs.Prelude.{◌≡◌, ◌-◌, leb};
 ghost use Rattle.connection.specs.Connection.{max_packet, max_payload, fresh, rest, with_left, with_due, with_headers, with_head, busy, is_idle, is_pinged, is_busy, body_due, is_head};
 ghost use Rattle.connection.specs.Cycle.{move_kind, direction_of, in_state, largest_body, size_allowed, chunk_allowed, forwarded, sized_step, step_of};
+ghost use Rattle.connection.specs.Step.{Step, step_meaning};
 ghost use Rattle.wire.specs.Refusal.{not_now};
 ghost use Rattle.wire.specs.Pick.{pick};
 
 use packet::{BodyLeft, Direction};
-use wire::refusal;
+use wire::refusal::Refusal;
 
 // Where a connection stands.
 #[derive(Clone, Copy)]
@@ -65,18 +66,11 @@ pub enum Move {
     End(bool),
 }
 
-// What a move makes of a connection.
+// A packet that stands in the buffer from its first byte on: how long it is, and the connection after it.
 #[derive(Clone, Copy)]
-pub enum Step {
-    Refused(u8),
-    Next(Connection),
-}
-
-// What a call that sends answers: the refusal's number, or the packet's length and the connection after it.
-#[derive(Clone, Copy)]
-pub enum Sent {
-    Refused(u8),
-    Written { size: usize, connection: Connection },
+pub struct Written {
+    pub size: usize,
+    pub connection: Connection,
 }
 
 impl State {
@@ -358,94 +352,94 @@ impl Connection {
     }
 
     // A move, by the rows of the cycle: refused with 13 or 14, or the connection after it.
-    pub fn step(self, m: Move) -> Step
-        ensures { result ≡ step_of self m }
+    pub fn step(self, m: Move) -> Result<Connection, Refusal>
+        ensures { step_meaning result ≡ step_of self m }
     {
         if !self.allows(m.kind()) {
-            return Step::Refused(refusal::NOT_NOW);
+            return Err(Refusal::NotNow);
         }
         self.step_allowed(m)
     }
 
     // The same for a caller that asked before whether the kind is allowed: refused with 14, or the connection after it.
-    pub fn step_allowed(self, m: Move) -> Step
-        ensures { result ≡ sized_step self m }
+    pub fn step_allowed(self, m: Move) -> Result<Connection, Refusal>
+        ensures { step_meaning result ≡ sized_step self m }
     {
         match m {
-            Move::CPing => Step::Next(Self::rest(State::Pinged)),
-            Move::CPong => Step::Next(Self::rest(State::Idle)),
-            Move::Forward(f) => Step::Next(Self::forwarded(f).busy()),
+            Move::CPing => Ok(Self::rest(State::Pinged)),
+            Move::CPong => Ok(Self::rest(State::Idle)),
+            Move::Forward(f) => Ok(Self::forwarded(f).busy()),
             Move::Body(k) => self.sized_body(k),
-            Move::GetBody(r) => Step::Next(self.busy().with_due(true, r)),
-            Move::SendHeaders => Step::Next(self.busy().with_headers(true)),
+            Move::GetBody(r) => Ok(self.busy().with_due(true, r)),
+            Move::SendHeaders => Ok(self.busy().with_headers(true)),
             Move::BodyChunk(k) => self.sized_chunk(k),
-            Move::End(reuse) => Step::Next(Self::ended(reuse)),
+            Move::End(reuse) => Ok(Self::ended(reuse)),
         }
     }
 
     // A body packet of k bytes, for a caller that knows the move: refused with 13 or 14, or the connection after it.
-    pub fn step_body(self, k: usize) -> Step
-        ensures { result ≡ step_of self (Move.Body k) }
+    pub fn step_body(self, k: usize) -> Result<Connection, Refusal>
+        ensures { step_meaning result ≡ step_of self (Move.Body k) }
     {
         if !self.is_body_due() {
-            return Step::Refused(refusal::NOT_NOW);
+            return Err(Refusal::NotNow);
         }
         self.sized_body(k)
     }
 
     // A Send Body Chunk of k bytes, in the same way.
-    pub fn step_body_chunk(self, k: usize) -> Step
-        ensures { result ≡ step_of self (Move.BodyChunk k) }
+    pub fn step_body_chunk(self, k: usize) -> Result<Connection, Refusal>
+        ensures { step_meaning result ≡ step_of self (Move.BodyChunk k) }
     {
         if !self.allows(Kind::BodyChunk) {
-            return Step::Refused(refusal::NOT_NOW);
+            return Err(Refusal::NotNow);
         }
         self.sized_chunk(k)
     }
 
     // A Get Body Chunk that asks for so many bytes, in the same way.
-    pub fn step_get_body(self, asked: u16) -> Step
-        ensures { result ≡ step_of self (Move.GetBody asked) }
+    pub fn step_get_body(self, asked: u16) -> Result<Connection, Refusal>
+        ensures { step_meaning result ≡ step_of self (Move.GetBody asked) }
     {
         self.step_any_size(Kind::GetBody, self.busy().with_due(true, asked))
     }
 
     // An End, in the same way.
-    pub fn step_end(self, reuse: bool) -> Step
-        ensures { result ≡ step_of self (Move.End reuse) }
+    pub fn step_end(self, reuse: bool) -> Result<Connection, Refusal>
+        ensures { step_meaning result ≡ step_of self (Move.End reuse) }
     {
         self.step_any_size(Kind::End, Self::ended(reuse))
     }
 
     // A packet of a kind that may have any size: refused with 13, or the connection that it makes.
-    fn step_any_size(self, kind: Kind, after: Connection) -> Step
-        ensures { result ≡ pick (in_state self kind) (Step.Next after) (Step.Refused not_now) }
+    fn step_any_size(self, kind: Kind, after: Connection) -> Result<Connection, Refusal>
+        ensures { step_meaning result ≡ pick (in_state self kind) (Step.Next after) (Step.Refused not_now) }
     {
         if !self.allows(kind) {
-            return Step::Refused(refusal::NOT_NOW);
+            return Err(Refusal::NotNow);
         }
-        Step::Next(after)
+        Ok(after)
     }
 
     // A body packet of k bytes where one is due: its size, then the connection after it.
-    fn sized_body(self, k: usize) -> Step
-        ensures { result ≡ sized_step self (Move.Body k) }
+    fn sized_body(self, k: usize) -> Result<Connection, Refusal>
+        ensures { step_meaning result ≡ sized_step self (Move.Body k) }
     {
         let left = self.left;
         if !is_size_allowed(self.largest_body(), k) {
-            return Step::Refused(refusal::BODY_SIZE_WRONG);
+            return Err(Refusal::BodySizeWrong);
         }
-        Step::Next(self.busy().with_left(left.less(k)).with_due(false, 0))
+        Ok(self.busy().with_left(left.less(k)).with_due(false, 0))
     }
 
     // A Send Body Chunk of k bytes where one is allowed, in the same way.
-    fn sized_chunk(self, k: usize) -> Step
-        ensures { result ≡ sized_step self (Move.BodyChunk k) }
+    fn sized_chunk(self, k: usize) -> Result<Connection, Refusal>
+        ensures { step_meaning result ≡ sized_step self (Move.BodyChunk k) }
     {
         if !is_chunk_allowed(self.is_head(), k) {
-            return Step::Refused(refusal::BODY_SIZE_WRONG);
+            return Err(Refusal::BodySizeWrong);
         }
-        Step::Next(self.busy())
+        Ok(self.busy())
     }
 
     // A request as its Forward tells of it: all of its body is left, a body packet is due where there is any, and whether it is HEAD.

@@ -19,7 +19,7 @@ use Rattle.places.specs.Entries.{ended}
 use Rattle.connection.specs.Cycle.{in_state, sized_step, step_of}
 use Rattle.connection.specs.declared.Kind.{Kind}
 use Rattle.connection.specs.declared.Connection.{Connection}
-use Rattle.connection.specs.declared.Step.{Step}
+use Rattle.connection.specs.Step.{Step}
 use Rattle.connection.proofs.Laws.{step_now}
 use Rattle.payload.specs.Code.{kind_at}
 use Rattle.payload.specs.Kinds.{packet_at, packet_move}

@@ -18,7 +18,7 @@ use Rattle.wire.proofs.Bytes.{length_part}
 use Rattle.connection.specs.Cycle.{move_kind, in_state, in_size, allowed, after, step_of}
 use Rattle.connection.specs.declared.Kind.{Kind}
 use Rattle.connection.specs.declared.Connection.{Connection}
-use Rattle.connection.specs.declared.Step.{Step}
+use Rattle.connection.specs.Step.{Step}
 use Rattle.connection.proofs.Laws.{step_by}
 use Rattle.places.specs.Entries.{max_places}
 use Rattle.payload.specs.Code.{kind_at}

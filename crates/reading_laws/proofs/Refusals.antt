@@ -17,7 +17,7 @@ use Rattle.connection.specs.Connection.{max_payload}
 use Rattle.connection.specs.Cycle.{in_state, step_of}
 use Rattle.connection.specs.declared.Kind.{Kind}
 use Rattle.connection.specs.declared.Connection.{Connection}
-use Rattle.connection.specs.declared.Step.{Step}
+use Rattle.connection.specs.Step.{Step}
 use Rattle.connection.proofs.Refusals.{step_refusal}
 use Rattle.payload.specs.Code.{kind_at}
 use Rattle.payload.specs.Kinds.{packet_at, packet_move}

@@ -18,7 +18,7 @@ use Rattle.connection.specs.Connection.{body_due}
 use Rattle.connection.specs.Cycle.{in_state, step_of}
 use Rattle.connection.specs.declared.Kind.{Kind}
 use Rattle.connection.specs.declared.Connection.{Connection}
-use Rattle.connection.specs.declared.Step.{Step}
+use Rattle.connection.specs.Step.{Step}
 use Rattle.payload.specs.Code.{code_kind, kind_of_code, kind_at}
 use Rattle.payload.specs.Kinds.{packet_at, packet_kind, packet_move}
 use Rattle.payload.specs.declared.Context.{Context}

@@ -3,7 +3,7 @@
 use Rattle.std.specs.Prelude.{ℕ}
 use Rattle.packet.specs.declared.Part.{Part}
 use Rattle.packet.specs.declared.Packet.{Packet}
-use Rattle.connection.specs.declared.Step.{Step}
+use Rattle.connection.specs.Step.{Step}
 use Rattle.short_ways.specs.declared.PartRead.{PartRead}
 
 -- a part of no bytes, and the part of a packet: this one unless it is a body packet or a chunk

@@ -21,7 +21,7 @@ use Rattle.connection.specs.Cycle.{move_kind, direction_of, in_state, in_size, a
 use Rattle.connection.specs.declared.Connection.{Connection}
 use Rattle.connection.specs.declared.Kind.{Kind}
 use Rattle.connection.specs.declared.Move.{Move}
-use Rattle.connection.specs.declared.Step.{Step}
+use Rattle.connection.specs.Step.{Step}
 use Rattle.connection.specs.declared.Sent.{Sent}
 use Rattle.building.specs.Fault.{unless, or_else, first_fault, fit_fault}
 use Rattle.building.specs.Field.{opening, size_told}

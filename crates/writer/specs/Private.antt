@@ -1,7 +1,7 @@
 -- What the writer's own functions promise to one another.
 -- Assumes nothing.
 use Rattle.std.specs.Prelude.{ℕ}
-use Rattle.connection.specs.declared.Step.{Step}
+use Rattle.connection.specs.Step.{Step}
 use Rattle.building.specs.Fault.{fit_fault}
 use Rattle.building.specs.Call.{Outcome, refused, outcome_by}
 use Rattle.building.specs.Sent.{Written}

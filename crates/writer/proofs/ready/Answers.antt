@@ -3,7 +3,7 @@
 use borrow.Author.Tests.{eq-eqb, ne_eqb}
 use mathlib.Core.Bool.{true, false}
 use mathlib.Core.Path.{sym, ap}
-use Rattle.connection.specs.declared.Step.{Step}
+use Rattle.connection.specs.Step.{Step}
 use Rattle.writer.specs.Private.{ready_of}
 use Rattle.writer.proofs.Laws.{ready_next}
 use Rattle.writer.proofs.ready.Goals as goal

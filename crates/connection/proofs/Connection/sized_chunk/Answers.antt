@@ -3,7 +3,7 @@
 use mathlib.Core.Path.{◌≡◌, sym, ap, ◌∙◌}
 use mathlib.Core.Bool.{Bool}
 use Rattle.connection.specs.declared.Move.{Move}
-use Rattle.connection.specs.declared.Step.{Step}
+use Rattle.connection.specs.Step.{Step}
 use Rattle.connection.specs.Cycle.{chunk_allowed, in_size}
 use Rattle.connection.proofs.Connection.sized_chunk.Goals as goal
 

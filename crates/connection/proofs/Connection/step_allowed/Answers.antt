@@ -2,7 +2,7 @@
 -- Assumes nothing.
 use mathlib.Core.Path.{sym, ap, ◌∙◌}
 use mathlib.Core.Bool.{true}
-use Rattle.connection.specs.declared.Step.{Step}
+use Rattle.connection.specs.Step.{Step}
 use Rattle.connection.specs.Connection.{with_due, with_headers, busy}
 use Rattle.connection.specs.Cycle.{sized_step}
 use Rattle.connection.proofs.Connection.step_allowed.Goals as goal
