@@ -13,9 +13,9 @@ use lib.Dec.{lit<}
 use lib.ListN.{length, get_or, drop, drop_of_length-le}
 use lib.Seq.{drop-cons}
 use Rattle.wire.specs.Pick.{pick, between}
-use Rattle.headers.specs.declared.length.Decimal.{Decimal}
-use Rattle.headers.specs.declared.length.Declared.{Declared}
-use Rattle.headers.specs.declared.length.LengthRead.{LengthRead}
+use Rattle.std.specs.Prelude.{Option, Some, None}
+use Rattle.std.specs.Prelude.{Option, Some, None}
+use Rattle.headers.specs.Read.{LengthRead}
 use Rattle.wire.specs.Refusal.{is_refusal}
 use Rattle.names.specs.declared.NameList.{NameList}
 use Rattle.names.specs.Names.{ascii, request_names, name_for}
@@ -23,13 +23,13 @@ use Rattle.headers.specs.Length.{max_digits, within, digits, decimal_of, decimal
 
 -- one digit more, or none
 digits_step : (n : ℕ) (text : List ℕ) (i : ℕ) (t : Bool) → i < length text → between 48 57 (get_or text i 0) ≡ t
-    → digits n (drop i text) ≡ pick t (digits (n * 10 + (get_or text i 0 - 48)) (drop (i + 1) text)) Decimal.Bad
+    → digits n (drop i text) ≡ pick t (digits (n * 10 + (get_or text i 0 - 48)) (drop (i + 1) text)) None
 unfolding digits
 digits_step n text i t h e = rw (add-one, drop-cons text i 0 h, e)
 
 -- the text has as many bytes as a length may have digits, or not
 pub decimal_long : (text : List ℕ) (t : Bool) → between 1 max_digits (length text) ≡ t
-    → decimal_of text ≡ pick t (digits 0 text) Decimal.Bad
+    → decimal_of text ≡ pick t (digits 0 text) None
 unfolding decimal_of
 decimal_long text t e = rw e
 
@@ -60,7 +60,7 @@ turn text sum i R h lo hi =
 
 -- a byte that is no digit
 pub stop : (text : List ℕ) (sum i : ℕ) → Reading text sum i → i < length text → between 48 57 (get_or text i 0) ≡ false
-    → decimal_of text ≡ Decimal.Bad
+    → decimal_of text ≡ None
 stop text sum i R h e = R.same ∙ digits_step sum text i false h e
 
 -- all digits are read
@@ -80,12 +80,12 @@ abbrev pub LengthRefusal : LengthRead → Type 0
 LengthRefusal (LengthRead.Refused n) = is_refusal n ≡ true
 LengthRefusal (LengthRead.Now declared) = Unit
 
-decimal_refusal : (r : Decimal) → LengthRefusal (decimal_declared r)
-decimal_refusal (Decimal.Value n) = tt
-decimal_refusal Decimal.Bad = refl
+decimal_refusal : (r : Option ℕ) → LengthRefusal (decimal_declared r)
+decimal_refusal (Some n) = tt
+decimal_refusal None = refl
 
 -- a content-length
-pub length_refusal : (before : Declared) (null : Bool) (text : List ℕ) → LengthRefusal (length_after before null text)
-length_refusal Declared.Absent true text = refl
-length_refusal Declared.Absent false text = decimal_refusal (decimal_of text)
-length_refusal (Declared.Known n) null text = refl
+pub length_refusal : (before : Option ℕ) (null : Bool) (text : List ℕ) → LengthRefusal (length_after before null text)
+length_refusal None true text = refl
+length_refusal None false text = decimal_refusal (decimal_of text)
+length_refusal (Some n) null text = refl

@@ -21,15 +21,15 @@ use Rattle.wire.specs.Facts.{NumberInside, StringInside}
 use Rattle.wire.proofs.Field.{integer_inside, string_inside}
 use Rattle.names.specs.Header.{begins_code, code_fault, spelled_fault}
 use Rattle.headers.specs.Length.{length_after}
-use Rattle.headers.specs.declared.length.Declared.{Declared}
-use Rattle.headers.specs.declared.length.LengthRead.{LengthRead}
+use Rattle.std.specs.Prelude.{Option, None}
+use Rattle.headers.specs.Read.{LengthRead}
 use Rattle.places.specs.Entries.{Entries, ended, front}
 use Rattle.places.proofs.Filling.{Filling, filling_start, filling_turn, filling_stop, filling_end}
 use Rattle.headers.specs.Headers.{code_name_of, spelled_at, spelled_of, name_at, declared_after, header_valued, header_value_of, header_value_at, header_of, header_at, header_then, headers_at}
 use Rattle.headers.specs.Facts.{NameInside, HeaderInside, HeadersInside}
-use Rattle.headers.specs.declared.NameRead.{NameRead}
-use Rattle.headers.specs.declared.HeaderRead.{HeaderRead}
-use Rattle.headers.specs.declared.HeadersRead.{HeadersRead}
+use Rattle.headers.specs.Read.{NameRead}
+use Rattle.headers.specs.Read.{HeaderRead}
+use Rattle.headers.specs.Read.{HeadersRead}
 
 -- a name by its code, by the fault of the code and the test on it
 pub code_is : (d : Direction) (number : NumberRead) (code next fault : ℕ) (t : Bool) → number ≡ NumberRead.Number code next
@@ -98,7 +98,7 @@ unfolding name_at
 name_is d s at there code optional r p q o e = rw (p, q, ← o, e)
 
 -- what is declared after a value, by whether it declares
-pub declared_is : (is_length : Bool) (before : Declared) (null : Bool) (text : List ℕ) (t : Bool) → is_length ≡ t
+pub declared_is : (is_length : Bool) (before : Option ℕ) (null : Bool) (text : List ℕ) (t : Bool) → is_length ≡ t
     → pick t (length_after before null text) (LengthRead.Now before) ≡ declared_after is_length before null text
 unfolding declared_after
 declared_is is_length before null text t p = rw p
@@ -109,13 +109,13 @@ unfolding part
 part_none s = refl
 
 -- the value at a place, by what its string reads as
-pub value_is : (s : List ℕ) (at : ℕ) (is_length : Bool) (before : Declared) (optional : Bool) (r : StringRead)
+pub value_is : (s : List ℕ) (at : ℕ) (is_length : Bool) (before : Option ℕ) (optional : Bool) (r : StringRead)
     → optional ≡ is_optional StringField.HeaderValue → string_at s at optional ≡ r → header_value_of s at is_length before r ≡ header_value_at s at is_length before
 unfolding header_value_at
 value_is s at is_length before optional r o e = rw (← o, e)
 
 -- the header at a place, by what its name reads as
-pub header_is : (d : Direction) (s : List ℕ) (at : ℕ) (before : Declared) (r : NameRead) → name_at d s at ≡ r
+pub header_is : (d : Direction) (s : List ℕ) (at : ℕ) (before : Option ℕ) (r : NameRead) → name_at d s at ≡ r
     → header_of d s before r ≡ header_at d s at before
 unfolding header_at
 header_is d s at before r e = ap (header_of d s before) (sym e)
@@ -158,7 +158,7 @@ valued_inside n at value next h j k (LengthRead.Refused m) = tt
 valued_inside n at value next h j k (LengthRead.Now declared) = (h, (j, k))
 
 -- and where the value's string does
-value_of_inside : (n at value : ℕ) (s : List ℕ) (is_length : Bool) (before : Declared) → at + 2 ≤ value → (r : StringRead) → StringInside n value r
+value_of_inside : (n at value : ℕ) (s : List ℕ) (is_length : Bool) (before : Option ℕ) → at + 2 ≤ value → (r : StringRead) → StringInside n value r
     → HeaderInside n at (header_value_of s value is_length before r)
 value_of_inside n at value s is_length before h (StringRead.Refused k) i = tt
 value_of_inside n at value s is_length before h (StringRead.Null next) i =
@@ -167,21 +167,21 @@ value_of_inside n at value s is_length before h (StringRead.Text start len next)
     valued_inside n at value next h (omega (arith, i.0, i.1.0)) i.1.1 (declared_after is_length before false (part s start len))
 
 -- a value behind a name lies inside
-value_inside : (s : List ℕ) (at value : ℕ) (is_length : Bool) (before : Declared) → at + 2 ≤ value
+value_inside : (s : List ℕ) (at value : ℕ) (is_length : Bool) (before : Option ℕ) → at + 2 ≤ value
     → HeaderInside (length s) at (header_value_at s value is_length before)
 unfolding header_value_at
 value_inside s at value is_length before h =
     value_of_inside (length s) at value s is_length before h (string_at s value true) (string_inside s value true (string_at s value true) refl)
 
 -- a header lies inside where its name does
-header_of_inside : (d : Direction) (s : List ℕ) (at : ℕ) (before : Declared) (r : NameRead) → NameInside (length s) at r
+header_of_inside : (d : Direction) (s : List ℕ) (at : ℕ) (before : Option ℕ) (r : NameRead) → NameInside (length s) at r
     → HeaderInside (length s) at (header_of d s before r)
 header_of_inside d s at before (NameRead.Refused k) i = tt
 header_of_inside d s at before (NameRead.Code code next) i = value_inside s at next _ before (omega (arith, i.0))
 header_of_inside d s at before (NameRead.Spelled start len next) i = value_inside s at next false before (omega (arith, i.0, i.1.0))
 
 -- a header at a place lies inside
-pub header_inside : (d : Direction) (s : List ℕ) (at : ℕ) (before : Declared) (r : HeaderRead) → header_at d s at before ≡ r
+pub header_inside : (d : Direction) (s : List ℕ) (at : ℕ) (before : Option ℕ) (r : HeaderRead) → header_at d s at before ≡ r
     → HeaderInside (length s) at r
 unfolding header_at
 header_inside d s at before r e =
@@ -201,8 +201,8 @@ later_inside n at value next count places (HeadersRead.Headers declared end) h j
     (omega (arith, i.0), (omega (arith, i.1.0), λ _. i.1.1 j))
 
 -- what holds of later headers holds with one in front of them
-read_more : (n at count : ℕ) (r : HeaderRead) (later : Declared → ℕ → Entries HeadersRead) → HeaderInside n at r
-    → ((after : Declared) (next : ℕ) → Read n next count (later after next)) → Read n at (suc count) (header_then at r later)
+read_more : (n at count : ℕ) (r : HeaderRead) (later : Option ℕ → ℕ → Entries HeadersRead) → HeaderInside n at r
+    → ((after : Option ℕ) (next : ℕ) → Read n next count (later after next)) → Read n at (suc count) (header_then at r later)
 unfolding all
 read_more n at count (HeaderRead.Refused k) later i f = record {
   few = omega arith;
@@ -220,7 +220,7 @@ read_more n at count (HeaderRead.Header value declared next) later i f =
     }
 
 -- so it holds of any number of headers
-read_all : (d : Direction) (s : List ℕ) (at count : ℕ) (declared : Declared) → Read (length s) at count (headers_at d s at count declared)
+read_all : (d : Direction) (s : List ℕ) (at count : ℕ) (declared : Option ℕ) → Read (length s) at count (headers_at d s at count declared)
 unfolding headers_at all
 read_all d s at zero declared = record {
   few = omega arith;
@@ -232,7 +232,7 @@ read_all d s at (suc count) declared =
     (header_inside d s at declared (header_at d s at declared) refl) (λ after next. read_all d s next count after)
 
 -- headers from a place on
-module _ (d : Direction) (s : List ℕ) (at count : ℕ) (declared : Declared) where
+module _ (d : Direction) (s : List ℕ) (at count : ℕ) (declared : Option ℕ) where
   -- there are at most two places each
   pub headers_few : length (headers_at d s at count declared).places ≤ count + count
   headers_few = (read_all d s at count declared).few
@@ -248,48 +248,48 @@ module _ (d : Direction) (s : List ℕ) (at count : ℕ) (declared : Declared) w
       subst (HeadersInside (length s) at count (headers_at d s at count declared).places) e (read_all d s at count declared).inside
 
 -- headers that are left
-module _ (d : Direction) (s : List ℕ) (at count i : ℕ) (declared : Declared) (more : i < count) where
+module _ (d : Direction) (s : List ℕ) (at count i : ℕ) (declared : Option ℕ) (more : i < count) where
   -- the next one is refused
   headers_refused : (n : ℕ) → header_at d s at declared ≡ HeaderRead.Refused n → headers_at d s at (count - i) declared ≡ ended (HeadersRead.Refused n)
   unfolding headers_at
   headers_refused n e = let q : count - i ≡ suc (count - (i + 1)) = omega arith in rw (q, e)
 
   -- the next one is read
-  headers_more : (value : ℕ) (after : Declared) (next : ℕ) → header_at d s at declared ≡ HeaderRead.Header value after next
+  headers_more : (value : ℕ) (after : Option ℕ) (next : ℕ) → header_at d s at declared ≡ HeaderRead.Header value after next
       → headers_at d s at (count - i) declared ≡ front at value (headers_at d s next (count - (i + 1)) after)
   unfolding headers_at
   headers_more value after next e = let q : count - i ≡ suc (count - (i + 1)) = omega arith in rw (q, e)
 
 -- none is left
-headers_none : (d : Direction) (s : List ℕ) (at count i : ℕ) (declared : Declared) → count ≤ i
+headers_none : (d : Direction) (s : List ℕ) (at count i : ℕ) (declared : Option ℕ) → count ≤ i
     → headers_at d s at (count - i) declared ≡ ended (HeadersRead.Headers declared at)
 unfolding headers_at
 headers_none d s at count i declared h = let q : count - i ≡ 0 = omega arith in rw q
 
 -- The loop after i headers: the table has their places, and those that are left are read from a place on.
-pub record Reading (d : Direction) (s : List ℕ) (at count : ℕ) (entry table : List ℕ) (declared : Declared) (place i : ℕ) : Type 0 where
+pub record Reading (d : Direction) (s : List ℕ) (at count : ℕ) (entry table : List ℕ) (declared : Option ℕ) (place i : ℕ) : Type 0 where
   pub below : i ≤ count
-  pub filling : Filling (headers_at d s at count Declared.Absent) (headers_at d s place (count - i) declared) entry table 0 i
+  pub filling : Filling (headers_at d s at count None) (headers_at d s place (count - i) declared) entry table 0 i
 
 -- before the first header
-pub reading_start : (d : Direction) (s : List ℕ) (at count : ℕ) (entry : List ℕ) → Reading d s at count entry entry Declared.Absent at 0
+pub reading_start : (d : Direction) (s : List ℕ) (at count : ℕ) (entry : List ℕ) → Reading d s at count entry entry None at 0
 reading_start d s at count entry =
     let q : count - 0 ≡ count = omega arith in
     record {
       below = omega arith;
-      filling = rw q (filling_start (headers_at d s at count Declared.Absent) entry 0);
+      filling = rw q (filling_start (headers_at d s at count None) entry 0);
     }
 
 -- what the loop answers: the end of the headers, and the table with their places
 abbrev pub Answer : Direction → List ℕ → ℕ → ℕ → List ℕ → List ℕ → HeadersRead → Type 0
 Answer d s at count entry table r =
-    (r ≡ (headers_at d s at count Declared.Absent).end) × (table ≡ over entry 0 (headers_at d s at count Declared.Absent).places)
+    (r ≡ (headers_at d s at count None).end) × (table ≡ over entry 0 (headers_at d s at count None).places)
 
-module _ (d : Direction) (s : List ℕ) (at count : ℕ) (entry table : List ℕ) (declared : Declared) (place i : ℕ)
+module _ (d : Direction) (s : List ℕ) (at count : ℕ) (entry table : List ℕ) (declared : Option ℕ) (place i : ℕ)
     (R : Reading d s at count entry table declared place i) where
   -- all headers, and those that are left
   abbrev whole : Entries HeadersRead
-  whole = headers_at d s at count Declared.Absent
+  whole = headers_at d s at count None
 
   abbrev later : Entries HeadersRead
   later = headers_at d s place (count - i) declared
@@ -308,7 +308,7 @@ module _ (d : Direction) (s : List ℕ) (at count : ℕ) (entry table : List ℕ
   reading_done h = ends (HeadersRead.Headers declared place) (headers_none d s place count i declared h)
 
   -- the next header is read, and its two places are put into the table
-  pub reading_turn : (value : ℕ) (after : Declared) (next : ℕ) → i < count → count + count ≤ length entry
+  pub reading_turn : (value : ℕ) (after : Option ℕ) (next : ℕ) → i < count → count + count ≤ length entry
       → header_at d s place declared ≡ HeaderRead.Header value after next
       → Reading d s at count entry (over table (i + i) (place ∷ value ∷ [])) after next (i + 1)
   reading_turn value after next h k e =

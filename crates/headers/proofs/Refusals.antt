@@ -16,15 +16,15 @@ use Rattle.wire.specs.Read.{StringRead}
 use Rattle.wire.proofs.Refusals.{fault_refusal, NumberRefusal, integer_refusal, StringRefusal, string_refusal}
 use Rattle.packet.specs.declared.Direction.{Direction}
 use Rattle.names.specs.Header.{begins_code, code_fault, spelled_fault}
-use Rattle.headers.specs.declared.length.Declared.{Declared}
-use Rattle.headers.specs.declared.length.LengthRead.{LengthRead}
+use Rattle.std.specs.Prelude.{Option}
+use Rattle.headers.specs.Read.{LengthRead}
 use Rattle.names.proofs.Refusals.{code_fault_lem, spelled_fault_lem}
 use Rattle.headers.proofs.ContentLength.{LengthRefusal, length_refusal}
 use Rattle.places.specs.Entries.{Entries}
 use Rattle.headers.specs.Headers.{name_unless, code_name_of, spelled_at, spelled_of, name_at, declares, declared_after, header_valued, header_value_of, header_value_at, header_of, header_at, header_then, headers_at}
-use Rattle.headers.specs.declared.NameRead.{NameRead}
-use Rattle.headers.specs.declared.HeaderRead.{HeaderRead}
-use Rattle.headers.specs.declared.HeadersRead.{HeadersRead}
+use Rattle.headers.specs.Read.{NameRead}
+use Rattle.headers.specs.Read.{HeaderRead}
+use Rattle.headers.specs.Read.{HeadersRead}
 
 -- a name, where it is refused
 abbrev pub NameRefusal : NameRead → Type 0
@@ -78,12 +78,12 @@ valued_refusal : (at next : ℕ) (r : LengthRead) → LengthRefusal r → Header
 valued_refusal at next (LengthRead.Refused n) h = h
 valued_refusal at next (LengthRead.Now declared) h = tt
 
-declared_refusal : (is_length : Bool) (before : Declared) (null : Bool) (text : List ℕ) → LengthRefusal (declared_after is_length before null text)
+declared_refusal : (is_length : Bool) (before : Option ℕ) (null : Bool) (text : List ℕ) → LengthRefusal (declared_after is_length before null text)
 unfolding declared_after
 declared_refusal true before null text = length_refusal before null text
 declared_refusal false before null text = tt
 
-value_of_refusal : (s : List ℕ) (at : ℕ) (is_length : Bool) (before : Declared) (r : StringRead) → StringRefusal r
+value_of_refusal : (s : List ℕ) (at : ℕ) (is_length : Bool) (before : Option ℕ) (r : StringRead) → StringRefusal r
     → HeaderRefusal (header_value_of s at is_length before r)
 value_of_refusal s at is_length before (StringRead.Refused n) h = h
 value_of_refusal s at is_length before (StringRead.Null next) h =
@@ -91,19 +91,19 @@ value_of_refusal s at is_length before (StringRead.Null next) h =
 value_of_refusal s at is_length before (StringRead.Text start len next) h =
     valued_refusal at next (declared_after is_length before false (part s start len)) (declared_refusal is_length before false (part s start len))
 
-value_refusal : (s : List ℕ) (at : ℕ) (is_length : Bool) (before : Declared) → HeaderRefusal (header_value_at s at is_length before)
+value_refusal : (s : List ℕ) (at : ℕ) (is_length : Bool) (before : Option ℕ) → HeaderRefusal (header_value_at s at is_length before)
 unfolding header_value_at
 value_refusal s at is_length before =
     let r = string_at s at (is_optional StringField.HeaderValue) in
     value_of_refusal s at is_length before r (string_refusal s at (is_optional StringField.HeaderValue) r refl)
 
-header_of_refusal : (d : Direction) (s : List ℕ) (before : Declared) (r : NameRead) → NameRefusal r → HeaderRefusal (header_of d s before r)
+header_of_refusal : (d : Direction) (s : List ℕ) (before : Option ℕ) (r : NameRead) → NameRefusal r → HeaderRefusal (header_of d s before r)
 header_of_refusal d s before (NameRead.Refused n) h = h
 header_of_refusal d s before (NameRead.Code code next) h = value_refusal s next (declares d code) before
 header_of_refusal d s before (NameRead.Spelled start len next) h = value_refusal s next false before
 
 -- the header at a place
-pub header_refusal : (d : Direction) (s : List ℕ) (at : ℕ) (before : Declared) (r : HeaderRead) → header_at d s at before ≡ r → HeaderRefusal r
+pub header_refusal : (d : Direction) (s : List ℕ) (at : ℕ) (before : Option ℕ) (r : HeaderRead) → header_at d s at before ≡ r → HeaderRefusal r
 unfolding header_at
 header_refusal d s at before r e =
     subst HeaderRefusal e (header_of_refusal d s before (name_at d s at) (name_refusal d s at (name_at d s at) refl))
@@ -113,13 +113,13 @@ abbrev pub HeadersRefusal : HeadersRead → Type 0
 HeadersRefusal (HeadersRead.Refused n) = is_refusal n ≡ true
 HeadersRefusal (HeadersRead.Headers declared next) = Unit
 
-then_refusal : (at : ℕ) (r : HeaderRead) (later : Declared → ℕ → Entries HeadersRead) → HeaderRefusal r
-    → ((declared : Declared) (next : ℕ) → HeadersRefusal (later declared next).end) → HeadersRefusal (header_then at r later).end
+then_refusal : (at : ℕ) (r : HeaderRead) (later : Option ℕ → ℕ → Entries HeadersRead) → HeaderRefusal r
+    → ((declared : Option ℕ) (next : ℕ) → HeadersRefusal (later declared next).end) → HeadersRefusal (header_then at r later).end
 then_refusal at (HeaderRead.Refused n) later h f = h
 then_refusal at (HeaderRead.Header value declared next) later h f = f declared next
 
 -- so many headers from a place on
-pub headers_refusal : (d : Direction) (s : List ℕ) (at count : ℕ) (declared : Declared) → HeadersRefusal (headers_at d s at count declared).end
+pub headers_refusal : (d : Direction) (s : List ℕ) (at count : ℕ) (declared : Option ℕ) → HeadersRefusal (headers_at d s at count declared).end
 unfolding headers_at
 headers_refusal d s at zero declared = tt
 headers_refusal d s at (suc count) declared =

@@ -12,12 +12,12 @@ use Rattle.wire.specs.Read.{NumberRead}
 use Rattle.wire.specs.Read.{StringRead}
 use Rattle.names.specs.Header.{begins_code, code_fault, spelled_fault, is_request}
 use Rattle.headers.specs.Length.{is_content_length, length_after}
-use Rattle.headers.specs.declared.length.Declared.{Declared}
-use Rattle.headers.specs.declared.length.LengthRead.{LengthRead}
+use Rattle.std.specs.Prelude.{Option}
+use Rattle.headers.specs.Read.{LengthRead}
 use Rattle.places.specs.Entries.{Entries, ended, front}
-use Rattle.headers.specs.declared.NameRead.{NameRead}
-use Rattle.headers.specs.declared.HeaderRead.{HeaderRead}
-use Rattle.headers.specs.declared.HeadersRead.{HeadersRead}
+use Rattle.headers.specs.Read.{NameRead}
+use Rattle.headers.specs.Read.{HeaderRead}
+use Rattle.headers.specs.Read.{HeadersRead}
 
 -- a name, unless it has a fault
 abbrev pub name_unless : ℕ → NameRead → NameRead
@@ -50,7 +50,7 @@ abbrev pub declares : Direction → ℕ → Bool
 declares direction code = both (is_request direction) (is_content_length code)
 
 -- what is declared after a header's value; a value that declares nothing leaves it
-unfoldable pub declared_after : Bool → Declared → Bool → List ℕ → LengthRead
+unfoldable pub declared_after : Bool → Option ℕ → Bool → List ℕ → LengthRead
 declared_after is_length before null text = pick is_length (length_after before null text) (LengthRead.Now before)
 
 -- a header whose value was read, by what is declared then
@@ -59,32 +59,32 @@ header_valued at next (LengthRead.Refused n) = HeaderRead.Refused n
 header_valued at next (LengthRead.Now declared) = HeaderRead.Header at declared next
 
 -- the value's string, as read: its own faults come before those of the length that it declares
-abbrev pub header_value_of : List ℕ → ℕ → Bool → Declared → StringRead → HeaderRead
+abbrev pub header_value_of : List ℕ → ℕ → Bool → Option ℕ → StringRead → HeaderRead
 header_value_of s at is_length before (StringRead.Refused n) = HeaderRead.Refused n
 header_value_of s at is_length before (StringRead.Null next) = header_valued at next (declared_after is_length before true [])
 header_value_of s at is_length before (StringRead.Text start len next) = header_valued at next (declared_after is_length before false (part s start len))
 
 -- the value at a place
-unfoldable pub header_value_at : List ℕ → ℕ → Bool → Declared → HeaderRead
+unfoldable pub header_value_at : List ℕ → ℕ → Bool → Option ℕ → HeaderRead
 header_value_at s at is_length before = header_value_of s at is_length before (string_at s at (is_optional StringField.HeaderValue))
 
 -- a header: a name, as read, and the value behind it
-abbrev pub header_of : Direction → List ℕ → Declared → NameRead → HeaderRead
+abbrev pub header_of : Direction → List ℕ → Option ℕ → NameRead → HeaderRead
 header_of direction s before (NameRead.Refused n) = HeaderRead.Refused n
 header_of direction s before (NameRead.Code code next) = header_value_at s next (declares direction code) before
 header_of direction s before (NameRead.Spelled start len next) = header_value_at s next false before
 
 -- the header at a place, where those before it declare this
-unfoldable pub header_at : Direction → List ℕ → ℕ → Declared → HeaderRead
+unfoldable pub header_at : Direction → List ℕ → ℕ → Option ℕ → HeaderRead
 header_at direction s at before = header_of direction s before (name_at direction s at)
 
 -- a header, as read at a place, and the later ones
-abbrev pub header_then : ℕ → HeaderRead → (Declared → ℕ → Entries HeadersRead) → Entries HeadersRead
+abbrev pub header_then : ℕ → HeaderRead → (Option ℕ → ℕ → Entries HeadersRead) → Entries HeadersRead
 header_then at (HeaderRead.Refused n) later = ended (HeadersRead.Refused n)
 header_then at (HeaderRead.Header value declared next) later = front at value (later declared next)
 
 -- so many headers from a place on, where those before them declare this
-unfoldable pub headers_at : Direction → List ℕ → ℕ → ℕ → Declared → Entries HeadersRead
+unfoldable pub headers_at : Direction → List ℕ → ℕ → ℕ → Option ℕ → Entries HeadersRead
 headers_at direction s at zero declared = ended (HeadersRead.Headers declared at)
 headers_at direction s at (suc count) declared =
     header_then at (header_at direction s at declared) (λ after next. headers_at direction s next count after)

@@ -20,9 +20,9 @@ use Rattle.wire.proofs.Field.{number_read, string_is, after_is, text_barred}
 use Rattle.packet.specs.declared.Direction.{Direction}
 use Rattle.names.specs.Header.{begins_code, spelled_fault}
 use Rattle.headers.specs.Headers.{spelled_of, name_at, declared_after, header_value_of, header_value_at}
-use Rattle.headers.specs.declared.NameRead.{NameRead}
-use Rattle.headers.specs.declared.HeaderRead.{HeaderRead}
-use Rattle.headers.specs.declared.length.Declared.{Declared}
+use Rattle.headers.specs.Read.{NameRead}
+use Rattle.headers.specs.Read.{HeaderRead}
+use Rattle.std.specs.Prelude.{Option, None}
 use Rattle.building.specs.Fault.{or_else, string_fault}
 use Rattle.pieces.specs.Header.{length_fault, value_fault}
 use Rattle.messages.specs.Barred.{BarredAt, BarredFirst}
@@ -56,7 +56,7 @@ name_barred d s at spelled h =
     rw (le-leb (at + 2) (length s) there, spelled) (ap (spelled_of d s) (string_barred StringField.HeaderName s at h))
 
 -- a header's value that is read
-value_barred : (s : List ℕ) (at : ℕ) (is_length : Bool) (before : Declared) → BarredAt s at → header_value_at s at is_length before ≡ HeaderRead.Refused string_wrong
+value_barred : (s : List ℕ) (at : ℕ) (is_length : Bool) (before : Option ℕ) → BarredAt s at → header_value_at s at is_length before ≡ HeaderRead.Refused string_wrong
 unfolding header_value_at
 value_barred s at is_length before h = ap (header_value_of s at is_length before) (string_barred StringField.HeaderValue s at h)
 
@@ -79,5 +79,5 @@ barred_first = record {
   written = fault_barred;
   written_name = λ d bytes held. ap (λ (fault : ℕ). or_else fault (spelled_fault d bytes)) (fault_barred StringField.HeaderName bytes held);
   written_value = λ is_length bytes held.
-      ap (λ (fault : ℕ). or_else fault (length_fault (declared_after is_length Declared.Absent false bytes))) (fault_barred StringField.HeaderValue bytes held);
+      ap (λ (fault : ℕ). or_else fault (length_fault (declared_after is_length None false bytes))) (fault_barred StringField.HeaderValue bytes held);
 }

@@ -29,8 +29,8 @@ use Rattle.names.specs.Header.{header_names, spelled_fault}
 use Rattle.names.specs.Names.{code_in}
 use Rattle.std.specs.Prelude.{Option, Some, None}
 use Rattle.headers.specs.Headers.{name_at, declares}
-use Rattle.headers.specs.declared.NameRead.{NameRead}
-use Rattle.headers.specs.declared.length.Declared.{Declared}
+use Rattle.headers.specs.Read.{NameRead}
+use Rattle.std.specs.Prelude.{Option, None}
 use Rattle.connection.specs.declared.Connection.{Connection}
 use Rattle.places.specs.Entries.{max_places}
 use Rattle.payload.specs.Forward.{forward_at}
@@ -105,7 +105,7 @@ name_clear d s at end = go (name_at d s at) refl (name_fine d s at)
         (text_clear s at StringField.HeaderName start len next fine.1, tt)
 
 -- headers that were read
-headers_clear : (d : Direction) (s : List ℕ) (at : ℕ) (before : Declared) (places : List ℕ) (end : ℕ) (after : Declared)
+headers_clear : (d : Direction) (s : List ℕ) (at : ℕ) (before : Option ℕ) (places : List ℕ) (end : ℕ) (after : Option ℕ)
     → HeadersHanded d s at before places end after → AllClear (headers_texts (headers_shown s places))
 headers_clear d s at before [] end after h = tt
 headers_clear d s at before (p ∷ []) end after h = tt
@@ -155,7 +155,7 @@ forward_clear s f e =
     (shown_clear s f.remote_host.0 StringField.RemoteHost f.server_name.0 h.host_there)
     (all_append name (headers ++ attributes) (shown_clear s f.server_name.0 StringField.ServerName h.port_place h.name_there)
     (all_append headers attributes
-    (headers_clear Direction.ToContainer s h.lists_place Declared.Absent lists.of_headers lists.middle lists.of_length lists.headers_there)
+    (headers_clear Direction.ToContainer s h.lists_place None lists.of_headers lists.middle lists.of_length lists.headers_there)
     (attributes_clear s lists.middle lists.of_attributes (length s) lists.attributes_there))))))
 
 -- a Send Headers that was read
@@ -165,7 +165,7 @@ send_headers_clear s response e =
     let h = send_headers_handed s response e in
     all_append (texts_of (text_shown s response.message.0)) (headers_texts (headers_shown s (send_headers_at s).places))
     (shown_clear s response.message.0 StringField.Message h.count_place h.message_there)
-    (headers_clear Direction.ToServer s h.headers_place Declared.Absent (send_headers_at s).places (length s) Declared.Absent h.headers_there)
+    (headers_clear Direction.ToServer s h.headers_place None (send_headers_at s).places (length s) None h.headers_there)
 
 -- a packet that was read shows a message with clear strings
 packet_clear : (p : Packet) (s table : List ℕ) → (packet_at (context_for (packet_kind p)) (packet_kind p) s).end ≡ PacketRead.Packet p

@@ -21,12 +21,12 @@ use Rattle.names.specs.Token.{is_token}
 use Rattle.headers.specs.Length.{digits, decimal_of, decimal_declared, is_content_length, declared_length}
 use Rattle.names.specs.declared.NameList.{NameList}
 use Rattle.std.specs.Prelude.{Some}
-use Rattle.headers.specs.declared.length.Decimal.{Decimal}
-use Rattle.headers.specs.declared.length.Declared.{Declared}
-use Rattle.headers.specs.declared.length.LengthRead.{LengthRead}
+use Rattle.std.specs.Prelude.{Option, Some, None}
+use Rattle.std.specs.Prelude.{Option, Some, None}
+use Rattle.headers.specs.Read.{LengthRead}
 use Rattle.names.proofs.Rule.{agree}
 use Rattle.headers.specs.Headers.{name_at, declared_after}
-use Rattle.headers.specs.declared.NameRead.{NameRead}
+use Rattle.headers.specs.Read.{NameRead}
 use Rattle.connection.specs.declared.Connection.{Connection}
 use Rattle.packet.specs.declared.Forward.{Forward}
 use Rattle.packet.specs.declared.Packet.{Packet}
@@ -46,26 +46,26 @@ use Rattle.messages.proofs.Parses.{context_for, accepted_parses}
 use Rattle.messages.proofs.Tables.{table_of, table_filled, forward_table}
 
 -- a number that is read from digits is their decimal value, and they are digits
-abbrev Counted : ℕ → List ℕ → Decimal → Type 0
-Counted n bytes Decimal.Bad = Unit
-Counted n bytes (Decimal.Value m) = (m ≡ value_from n bytes) × (all (between zero_digit nine_digit) bytes ≡ true) × (m ≤ most_declared)
+abbrev Counted : ℕ → List ℕ → Option ℕ → Type 0
+Counted n bytes None = Unit
+Counted n bytes (Some m) = (m ≡ value_from n bytes) × (all (between zero_digit nine_digit) bytes ≡ true) × (m ≤ most_declared)
 
 -- from any number on
 digits_count : (n : ℕ) (bytes : List ℕ) → Counted n bytes (digits n bytes)
 unfolding digits all
 digits_count n [] = go (leb n most_declared) refl
   where
-    go : (t : Bool) → leb n most_declared ≡ t → Counted n [] (pick t (Decimal.Value n) Decimal.Bad)
+    go : (t : Bool) → leb n most_declared ≡ t → Counted n [] (pick t (Some n) None)
     go true e = (refl, refl, leb-true n most_declared e)
     go false e = tt
 digits_count n (b ∷ later) = go (between zero_digit nine_digit b) refl (digits_count (n * 10 + (b - zero_digit)) later)
   where
-    by : (r : Decimal) → between zero_digit nine_digit b ≡ true → Counted (n * 10 + (b - zero_digit)) later r → Counted n (b ∷ later) r
-    by Decimal.Bad e h = tt
-    by (Decimal.Value m) e h = (h.0, rw (e, h.1), h.2)
+    by : (r : Option ℕ) → between zero_digit nine_digit b ≡ true → Counted (n * 10 + (b - zero_digit)) later r → Counted n (b ∷ later) r
+    by None e h = tt
+    by (Some m) e h = (h.0, rw (e, h.1), h.2)
 
     go : (t : Bool) → between zero_digit nine_digit b ≡ t → Counted (n * 10 + (b - zero_digit)) later (digits (n * 10 + (b - zero_digit)) later)
-        → Counted n (b ∷ later) (pick t (digits (n * 10 + (b - zero_digit)) later) Decimal.Bad)
+        → Counted n (b ∷ later) (pick t (digits (n * 10 + (b - zero_digit)) later) None)
     go true e h = by (digits (n * 10 + (b - zero_digit)) later) e h
     go false e h = tt
 
@@ -74,7 +74,7 @@ decimal_counts : (bytes : List ℕ) → Counted 0 bytes (decimal_of bytes)
 unfolding decimal_of
 decimal_counts bytes = go (between 1 10 (length bytes))
   where
-    go : (t : Bool) → Counted 0 bytes (pick t (digits 0 bytes) Decimal.Bad)
+    go : (t : Bool) → Counted 0 bytes (pick t (digits 0 bytes) None)
     go true = digits_count 0 bytes
     go false = tt
 
@@ -140,24 +140,24 @@ spelled_names bytes fine = by_token (is_token bytes) fine
     by_token false q = absurd (omega arith)
 
 -- what a header makes of what was declared before it, by whether its name is content-length: nothing, or its value is the first one
-abbrev Makes : Declared → Declared → Text → Bool → Type 0
+abbrev Makes : Option ℕ → Option ℕ → Text → Bool → Type 0
 Makes before after value false = after ≡ before
-Makes Declared.Absent after null true = ⊥
-Makes Declared.Absent after (text bytes) true = (n : ℕ) × (decimal_of bytes ≡ Decimal.Value n) × (after ≡ Declared.Known n)
-Makes (Declared.Known n) after value true = ⊥
+Makes None after null true = ⊥
+Makes None after (text bytes) true = (n : ℕ) × (decimal_of bytes ≡ Some n) × (after ≡ Some n)
+Makes (Some n) after value true = ⊥
 
 -- reading lets it declare just that
-declared_makes : (before : Declared) (value : Text) (t : Bool) (after : Declared)
+declared_makes : (before : Option ℕ) (value : Text) (t : Bool) (after : Option ℕ)
     → declared_after t before (is_null value) (content_of value) ≡ LengthRead.Now after → Makes before after value t
 unfolding declared_after
 declared_makes before value false after e = cc
-declared_makes Declared.Absent null true after e = absurd (let z : ◌≡◌ {A = ℕ} 0 1 = cc in omega arith)
-declared_makes Declared.Absent (text bytes) true after e = go (decimal_of bytes) refl e
+declared_makes None null true after e = absurd (let z : ◌≡◌ {A = ℕ} 0 1 = cc in omega arith)
+declared_makes None (text bytes) true after e = go (decimal_of bytes) refl e
   where
-    go : (r : Decimal) → decimal_of bytes ≡ r → decimal_declared r ≡ LengthRead.Now after → Makes Declared.Absent after (text bytes) true
-    go Decimal.Bad q h = absurd (let z : ◌≡◌ {A = ℕ} 0 1 = cc in omega arith)
-    go (Decimal.Value n) q h = let known : after ≡ Declared.Known n = cc in (n, q, known)
-declared_makes (Declared.Known n) value true after e = absurd (let z : ◌≡◌ {A = ℕ} 0 1 = cc in omega arith)
+    go : (r : Option ℕ) → decimal_of bytes ≡ r → decimal_declared r ≡ LengthRead.Now after → Makes None after (text bytes) true
+    go None q h = absurd (let z : ◌≡◌ {A = ℕ} 0 1 = cc in omega arith)
+    go (Some n) q h = let known : after ≡ Some n = cc in (n, q, known)
+declared_makes (Some n) value true after e = absurd (let z : ◌≡◌ {A = ℕ} 0 1 = cc in omega arith)
 
 -- a name that was read is shown as content-length exactly where reading takes its value for the length
 name_declares : (s : List ℕ) (at end : ℕ) → NameEnds end (name_at Direction.ToContainer s at)
@@ -176,28 +176,28 @@ name_declares s at end = go (name_at Direction.ToContainer s at) refl (name_fine
         sym (ap names_length shown ∙ spelled_names (part s start len) fine.2)
 
 -- what headers make of what was declared before them, by the values of those that are content-length: at most one, and none behind one
-abbrev MakeAll : Declared → Declared → List Text → Type 0
-MakeAll Declared.Absent after [] = after ≡ Declared.Absent
-MakeAll Declared.Absent after (null ∷ later) = ⊥
-MakeAll Declared.Absent after (text bytes ∷ later) =
-    (n : ℕ) × (decimal_of bytes ≡ Decimal.Value n) × (after ≡ Declared.Known n) × (later ≡ [])
-MakeAll (Declared.Known n) after values = (after ≡ Declared.Known n) × (values ≡ [])
+abbrev MakeAll : Option ℕ → Option ℕ → List Text → Type 0
+MakeAll None after [] = after ≡ None
+MakeAll None after (null ∷ later) = ⊥
+MakeAll None after (text bytes ∷ later) =
+    (n : ℕ) × (decimal_of bytes ≡ Some n) × (after ≡ Some n) × (later ≡ [])
+MakeAll (Some n) after values = (after ≡ Some n) × (values ≡ [])
 
 -- a header in front of others
-make_more : (before middle after : Declared) (value : Text) (t : Bool) (values : List Text) → Makes before middle value t
+make_more : (before middle after : Option ℕ) (value : Text) (t : Bool) (values : List Text) → Makes before middle value t
     → MakeAll middle after values → MakeAll before after (pick t (value ∷ values) values)
-make_more before middle after value false values h later = subst (λ (d : Declared). MakeAll d after values) h later
-make_more Declared.Absent middle after null true values h later = absurd h
-make_more Declared.Absent middle after (text bytes) true values h later =
-    let known = subst (λ (d : Declared). MakeAll d after values) h.2 later in
+make_more before middle after value false values h later = subst (λ (d : Option ℕ). MakeAll d after values) h later
+make_more None middle after null true values h later = absurd h
+make_more None middle after (text bytes) true values h later =
+    let known = subst (λ (d : Option ℕ). MakeAll d after values) h.2 later in
     (h.0, h.1, known.0, known.1)
-make_more (Declared.Known n) middle after value true values h later = absurd h
+make_more (Some n) middle after value true values h later = absurd h
 
 -- headers that were read make all that of what was declared before them
-headers_make : (s : List ℕ) (at : ℕ) (before : Declared) (places : List ℕ) (end : ℕ) (after : Declared)
+headers_make : (s : List ℕ) (at : ℕ) (before : Option ℕ) (places : List ℕ) (end : ℕ) (after : Option ℕ)
     → HeadersHanded Direction.ToContainer s at before places end after → MakeAll before after (length_values (headers_shown s places))
-headers_make s at Declared.Absent [] end after h = sym h.1
-headers_make s at (Declared.Known n) [] end after h = (sym h.1, refl)
+headers_make s at None [] end after h = sym h.1
+headers_make s at (Some n) [] end after h = (sym h.1, refl)
 headers_make s at before (p ∷ []) end after h = absurd h
 headers_make s at before (p ∷ q ∷ rest) end after (next, place, named, there, declared, now, later) =
     let is : Bool = declares_read Direction.ToContainer (name_at Direction.ToContainer s p) in
@@ -208,13 +208,13 @@ headers_make s at before (p ∷ q ∷ rest) end after (next, place, named, there
     (headers_make s next declared rest end after later)
 
 -- from none on they declare the decimal value of the one
-all_declared : (after : Declared) (values : List Text) → MakeAll Declared.Absent after values → LengthDeclared (declared_length after) values
+all_declared : (after : Option ℕ) (values : List Text) → MakeAll None after values → LengthDeclared (declared_length after) values
 all_declared after [] h = rw h
 all_declared after (null ∷ later) h = absurd h
 all_declared after (text bytes ∷ later) h =
     let n : ℕ = h.0 in
-    let value : Counted 0 bytes (Decimal.Value n) = subst (Counted 0 bytes) h.1 (decimal_counts bytes) in
-    subst (λ (d : Declared). LengthDeclared (declared_length d) (text bytes ∷ later)) (sym h.2)
+    let value : Counted 0 bytes (Some n) = subst (Counted 0 bytes) h.1 (decimal_counts bytes) in
+    subst (λ (d : Option ℕ). LengthDeclared (declared_length d) (text bytes ∷ later)) (sym h.2)
     (subst (λ (l : List Text). LengthDeclared n (text bytes ∷ l)) (sym h.3) value)
 
 -- a Forward declares what the headers at its places in the table do
@@ -224,7 +224,7 @@ forward_declares s table f e =
     let handed = forward_handed s f e in
     let lists = handed.lists in
     let shown : List Text = length_values (headers_shown s lists.of_headers) in
-    let made = headers_make s handed.lists_place Declared.Absent lists.of_headers lists.middle lists.of_length lists.headers_there in
+    let made = headers_make s handed.lists_place None lists.of_headers lists.middle lists.of_length lists.headers_there in
     subst (λ (l : List ℕ). LengthDeclared f.declared.0 (length_values (headers_shown s l))) (sym (forward_table s table f e).0)
     (subst (λ (n : ℕ). LengthDeclared n shown) (sym lists.declared_is) (all_declared lists.of_length shown made))
 

@@ -23,10 +23,10 @@ use Rattle.wire.proofs.Parts.{rest_part, part_join}
 use Rattle.names.specs.Header.{code_fault, spelled_fault}
 use Rattle.names.specs.Attribute.{attribute_kind}
 use Rattle.packet.specs.declared.AttributeKind.{AttributeKind}
-use Rattle.headers.specs.declared.length.Declared.{Declared}
-use Rattle.headers.specs.declared.length.LengthRead.{LengthRead}
+use Rattle.std.specs.Prelude.{Option, Some, None}
+use Rattle.headers.specs.Read.{LengthRead}
 use Rattle.headers.specs.Headers.{name_at, declares, declared_after}
-use Rattle.headers.specs.declared.NameRead.{NameRead}
+use Rattle.headers.specs.Read.{NameRead}
 use Rattle.attributes.specs.Attributes.{last_mark}
 use Rattle.payload.specs.Handed.{StringEnds, NumberEnds, NameEnds, StringThere, read_null, read_bytes, DeclaresThen, HeadersHanded, ValueThere, AttributesHanded}
 use Rattle.payload.proofs.Handed.{NameFine, name_fine, number_found}
@@ -200,13 +200,13 @@ spelled_held d s at start len next bytes e fine =
     record { held = k.held; fine = ap (λ (f : ℕ). or_else f (spelled_fault d (text_view s at))) k.fine ∙ listed }
 
 -- a value that may come behind others may come first: it declares nothing, or nothing was declared before it
-declares_first : (is_length : Bool) (before : Declared) (t : Text) (declared : Declared)
+declares_first : (is_length : Bool) (before : Option ℕ) (t : Text) (declared : Option ℕ)
     → declared_after is_length before (is_null t) (content_of t) ≡ LengthRead.Now declared
-    → length_fault (declared_after is_length Declared.Absent (is_null t) (content_of t)) ≡ 0
+    → length_fault (declared_after is_length None (is_null t) (content_of t)) ≡ 0
 unfolding declared_after
 declares_first false before t declared e = refl
-declares_first true Declared.Absent t declared e = ap length_fault e
-declares_first true (Declared.Known n) t declared e = absurd (let z : ◌≡◌ {A = ℕ} 0 1 = cc in omega arith)
+declares_first true None t declared e = ap length_fault e
+declares_first true (Some n) t declared e = absurd (let z : ◌≡◌ {A = ℕ} 0 1 = cc in omega arith)
 
 -- a field that holds a header's value as it is shown
 abbrev value_field : Bool → Text → Field
@@ -214,11 +214,11 @@ value_field is_length t = header_value is_length (is_null t) (content_of t)
 
 -- it has no fault where its string has none and it may come first
 value_fine : (s : List ℕ) (at end : ℕ) (is_length : Bool) (t : Text) → FieldKept s at end (text_field StringField.HeaderValue t)
-    → length_fault (declared_after is_length Declared.Absent (is_null t) (content_of t)) ≡ 0 → FieldKept s at end (value_field is_length t)
+    → length_fault (declared_after is_length None (is_null t) (content_of t)) ≡ 0 → FieldKept s at end (value_field is_length t)
 unfolding value_fault
 value_fine s at end is_length t k first = record {
   held = k.held;
-  fine = ap (λ (f : ℕ). or_else f (length_fault (declared_after is_length Declared.Absent (is_null t) (content_of t)))) k.fine ∙ first;
+  fine = ap (λ (f : ℕ). or_else f (length_fault (declared_after is_length None (is_null t) (content_of t)))) k.fine ∙ first;
 }
 
 -- a header with this name, and its value at a place
@@ -226,7 +226,7 @@ abbrev NamedKept : Direction → List ℕ → ℕ → ℕ → ℕ → MessageNam
 NamedKept d s at value end name = FieldsKept s at end (fields_by d (text_shown s value) name) × NameFits name
 
 -- a header that was read, by where its value is and where it ends
-header_kept : (d : Direction) (s : List ℕ) (at value end : ℕ) (before after : Declared) → Bytes s → NameEnds value (name_at d s at)
+header_kept : (d : Direction) (s : List ℕ) (at value end : ℕ) (before after : Option ℕ) → Bytes s → NameEnds value (name_at d s at)
     → StringThere s StringField.HeaderValue value end
     → DeclaresThen d s before (name_at d s at) (string_at s value (is_optional StringField.HeaderValue)) after
     → NamedKept d s at value end (name_shown s at)
@@ -262,7 +262,7 @@ pub record HeadersKept (d : Direction) (s : List ℕ) (at : ℕ) (places : List 
   pub fit : HeadersFit (headers_shown s places)
 
 -- headers that were read from a place to another
-pub headers_kept : (d : Direction) (s : List ℕ) (at : ℕ) (before : Declared) (places : List ℕ) (end : ℕ) (after : Declared) → Bytes s
+pub headers_kept : (d : Direction) (s : List ℕ) (at : ℕ) (before : Option ℕ) (places : List ℕ) (end : ℕ) (after : Option ℕ) → Bytes s
     → end ≤ length s → HeadersHanded d s at before places end after → HeadersKept d s at places end
 headers_kept d s at before [] end after bytes inside h = record {
   held = subst (λ (i : ℕ). Held s i end []) (sym h.0) (held_none s end inside);

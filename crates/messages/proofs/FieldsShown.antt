@@ -23,8 +23,8 @@ use Rattle.names.specs.Attribute.{attribute_kind}
 use Rattle.packet.specs.declared.AttributeKind.{AttributeKind}
 use Rattle.connection.specs.Connection.{max_packet}
 use Rattle.headers.specs.Headers.{declares, name_at}
-use Rattle.headers.specs.declared.NameRead.{NameRead}
-use Rattle.headers.specs.declared.length.Declared.{Declared}
+use Rattle.headers.specs.Read.{NameRead}
+use Rattle.std.specs.Prelude.{Option}
 use Rattle.attributes.specs.Attributes.{last_mark}
 use Rattle.payload.specs.Handed.{StringThere, NameEnds, HeadersHanded, ValueThere, AttributesHanded}
 use Rattle.building.specs.Fault.{unless, string_fault}
@@ -187,7 +187,7 @@ module _ {s : List ℕ} (short : length s ≤ max_packet) where
   -- headers are shown as they were written, where as many were read, and where they end stand the bytes behind them
   pub headers_show : {at : ℕ} (rest : List ℕ) (d : Direction) (headers : List Header) → HeadersFine d headers
       → Ahead s at (headers_bytes d headers ++ rest) → (places : List ℕ) → length places ≡ length headers + length headers → (next : ℕ)
-      → (before after : Declared) → HeadersHanded d s at before places next after → (headers_shown s places ≡ headers) × Ahead s next rest
+      → (before after : Option ℕ) → HeadersHanded d s at before places next after → (headers_shown s places ≡ headers) × Ahead s next rest
   headers_show rest d [] fine r [] many next before after handed = (refl, rw handed.0 at r)
   headers_show rest d [] fine r (p ∷ places) many next before after handed = absurd (omega arith)
   headers_show rest d (header ∷ later) fine r [] many next before after handed = absurd (omega arith)

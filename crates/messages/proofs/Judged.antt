@@ -27,14 +27,14 @@ use Rattle.names.specs.Header.{begins_code, code_fault, spelled_fault}
 use Rattle.headers.specs.Length.{decimal_of, decimal_declared}
 use Rattle.names.specs.Attribute.{attribute_kind, may_repeat, is_served, attribute_fault}
 use Rattle.packet.specs.declared.AttributeKind.{AttributeKind}
-use Rattle.headers.specs.declared.length.Decimal.{Decimal}
-use Rattle.headers.specs.declared.length.Declared.{Declared}
-use Rattle.headers.specs.declared.length.LengthRead.{LengthRead}
+use Rattle.std.specs.Prelude.{Option, Some, None}
+use Rattle.std.specs.Prelude.{Option, Some, None}
+use Rattle.headers.specs.Read.{LengthRead}
 use Rattle.names.specs.declared.NameList.{NameList}
 use Rattle.connection.specs.Connection.{max_packet}
 use Rattle.headers.specs.Headers.{declares, declared_after, header_valued, header_value_of, header_value_at, spelled_of, name_at, header_of, header_at, name_unless}
-use Rattle.headers.specs.declared.NameRead.{NameRead}
-use Rattle.headers.specs.declared.HeaderRead.{HeaderRead}
+use Rattle.headers.specs.Read.{NameRead}
+use Rattle.headers.specs.Read.{HeaderRead}
 use Rattle.headers.proofs.Laws.{code_is, spelled_is, name_is, value_is, header_is}
 use Rattle.attributes.specs.Attributes.{text_value_of, text_value_at, pair_value_of, pair_value_at, with_value, attribute_at, last_mark}
 use Rattle.attributes.specs.Attributes as attributes
@@ -85,18 +85,18 @@ string_stood a b field null text h = string_judged a b field null text (omega ar
         rw end
 
 -- what null declares does not go by a text
-null_declares : (is_length : Bool) (before : Declared) (text : List ℕ) → declared_after is_length before true [] ≡ declared_after is_length before true text
+null_declares : (is_length : Bool) (before : Option ℕ) (text : List ℕ) → declared_after is_length before true [] ≡ declared_after is_length before true text
 unfolding declared_after
 null_declares false before text = refl
-null_declares true Declared.Absent text = refl
-null_declares true (Declared.Known n) text = refl
+null_declares true None text = refl
+null_declares true (Some n) text = refl
 
 -- a header's value, unless its string has a fault
 abbrev pub valued_unless : ℕ → ℕ → ℕ → LengthRead → HeaderRead
 valued_unless fault place next is_length = pick (eqb fault 0) (header_valued place next is_length) (HeaderRead.Refused fault)
 
 -- what reading answers where a header's value was written
-value_judged : (a b : List ℕ) (is_length : Bool) (before : Declared) (null : Bool) (text : List ℕ) → length text ≤ max_packet
+value_judged : (a b : List ℕ) (is_length : Bool) (before : Option ℕ) (null : Bool) (text : List ℕ) → length text ≤ max_packet
     → header_value_at (a ++ (string_bytes null text ++ b)) (length a) is_length before
     ≡ valued_unless (string_fault StringField.HeaderValue null text) (length a) (length a + length (string_bytes null text))
     (declared_after is_length before null text)
@@ -181,7 +181,7 @@ second_holds a x y b P h =
     rw (row, ← place, ← end) (h (a ++ x))
 
 -- the value behind a name, by its string's fault
-value_behind : (a x b : List ℕ) (is_length : Bool) (before : Declared) (null : Bool) (text : List ℕ) → length text ≤ max_packet
+value_behind : (a x b : List ℕ) (is_length : Bool) (before : Option ℕ) (null : Bool) (text : List ℕ) → length text ≤ max_packet
     → header_value_at (a ++ ((x ++ (string_bytes null text ++ [])) ++ b)) (length a + length x) is_length before
     ≡ valued_unless (string_fault StringField.HeaderValue null text) (length a + length x) (length a + length (x ++ (string_bytes null text ++ [])))
     (declared_after is_length before null text)
@@ -193,7 +193,7 @@ value_behind a x b is_length before null text h =
     (λ front. value_judged front b is_length before null text h)
 
 -- a header, by what its name reads as where it has no fault
-header_by : (d : Direction) (s : List ℕ) (at : ℕ) (before : Declared) (f : ℕ) (name : NameRead) {r : HeaderRead}
+header_by : (d : Direction) (s : List ℕ) (at : ℕ) (before : Option ℕ) (f : ℕ) (name : NameRead) {r : HeaderRead}
     → name_at d s at ≡ name_unless f name → header_of d s before name ≡ r
     → header_at d s at before ≡ pick (eqb f 0) r (HeaderRead.Refused f)
 header_by d s at before f name {r} e q =
@@ -255,38 +255,38 @@ code_begins d code h = go d h
         (omega arith, omega arith)
 
 -- what is declared by a value without fault
-abbrev pub declared_in : LengthRead → Declared
-declared_in (LengthRead.Refused n) = Declared.Absent
+abbrev pub declared_in : LengthRead → Option ℕ
+declared_in (LengthRead.Refused n) = None
 declared_in (LengthRead.Now declared) = declared
 
 -- a value is refused with 10, if at all
-declares_ten : (is_length : Bool) (before : Declared) (null : Bool) (text : List ℕ) → length_fault (declared_after is_length before null text) ≡ 0
+declares_ten : (is_length : Bool) (before : Option ℕ) (null : Bool) (text : List ℕ) → length_fault (declared_after is_length before null text) ≡ 0
     → declared_after is_length before null text ≡ LengthRead.Now (declared_in (declared_after is_length before null text))
 unfolding declared_after
 declares_ten false before null text h = refl
-declares_ten true (Declared.Known n) null text h = absurd (omega (arith, h))
-declares_ten true Declared.Absent true text h = absurd (omega (arith, h))
-declares_ten true Declared.Absent false text h = go (decimal_of text) h
+declares_ten true (Some n) null text h = absurd (omega (arith, h))
+declares_ten true None true text h = absurd (omega (arith, h))
+declares_ten true None false text h = go (decimal_of text) h
   where
-    go : (r : Decimal) → length_fault (decimal_declared r) ≡ 0 → decimal_declared r ≡ LengthRead.Now (declared_in (decimal_declared r))
-    go (Decimal.Value n) h = refl
-    go Decimal.Bad h = absurd (omega (arith, h))
+    go : (r : Option ℕ) → length_fault (decimal_declared r) ≡ 0 → decimal_declared r ≡ LengthRead.Now (declared_in (decimal_declared r))
+    go (Some n) h = refl
+    go None h = absurd (omega (arith, h))
 
 -- what it says that a header has no fault: its name has none, its value's string has none, and its value declares something
 pub header_faultless : (f : ℕ) (is_length null : Bool) (value : List ℕ) → first_fault (f ∷ value_fault is_length null value ∷ []) ≡ 0
     → (f ≡ 0) × ((string_fault StringField.HeaderValue null value ≡ 0)
-    × (declared_after is_length Declared.Absent null value ≡ LengthRead.Now (declared_in (declared_after is_length Declared.Absent null value))))
+    × (declared_after is_length None null value ≡ LengthRead.Now (declared_in (declared_after is_length None null value))))
 unfolding value_fault
 header_faultless f is_length null value h =
     let v : ℕ = string_fault StringField.HeaderValue null value in
-    let w : ℕ = length_fault (declared_after is_length Declared.Absent null value) in
+    let w : ℕ = length_fault (declared_after is_length None null value) in
     let later : or_else v w ≡ 0 = or_second f (or_else v w) h in
-    (or_first f (or_else v w) h, (or_first v w later, declares_ten is_length Declared.Absent null value (or_second v w later)))
+    (or_first f (or_else v w) h, (or_first v w later, declares_ten is_length None null value (or_second v w later)))
 
 -- a header with a code for its name, which begins with A0
 module _ (a b : List ℕ) (d : Direction) (code : ℕ) (null : Bool) (value : List ℕ) (low : 40960 ≤ code) (high : code < 41216) (short : length value ≤ max_packet) where
   -- what reading answers, whatever was declared before
-  pub coded_header : (before : Declared)
+  pub coded_header : (before : Option ℕ)
       → header_at d (among a (coded_fields d code null value) b) (length a) before
       ≡ headed (code_fault d code) (string_fault StringField.HeaderValue null value) (length a + 2) (end_of a (coded_fields d code null value))
       (declared_after (declares d code) before null value)
@@ -296,16 +296,16 @@ module _ (a b : List ℕ) (d : Direction) (code : ℕ) (null : Bool) (value : Li
       (value_behind a (integer_bytes code) b (declares d code) before null value short)
 
   -- it is refused with the first of its faults
-  pub coded_judged : refusal_in (header_at d (among a (coded_fields d code null value) b) (length a) Declared.Absent)
+  pub coded_judged : refusal_in (header_at d (among a (coded_fields d code null value) b) (length a) None)
       ≡ first_fault (faults_of (coded_fields d code null value))
   unfolding value_fault
   coded_judged =
-      ap refusal_in (coded_header Declared.Absent)
+      ap refusal_in (coded_header None)
       ∙ headed_judged (code_fault d code) (string_fault StringField.HeaderValue null value) (length a + 2) (end_of a (coded_fields d code null value))
-      (declared_after (declares d code) Declared.Absent null value)
+      (declared_after (declares d code) None null value)
 
   -- where its name and its value's string have none, it is read
-  pub coded_read : (before : Declared) → code_fault d code ≡ 0 → string_fault StringField.HeaderValue null value ≡ 0
+  pub coded_read : (before : Option ℕ) → code_fault d code ≡ 0 → string_fault StringField.HeaderValue null value ≡ 0
       → header_at d (among a (coded_fields d code null value) b) (length a) before
       ≡ header_valued (length a + 2) (end_of a (coded_fields d code null value)) (declared_after (declares d code) before null value)
   coded_read before e g =
@@ -315,18 +315,18 @@ module _ (a b : List ℕ) (d : Direction) (code : ℕ) (null : Bool) (value : Li
 
   -- and with no fault at all, where nothing was declared before, it gives what its value declares
   pub coded_first : first_fault (faults_of (coded_fields d code null value)) ≡ 0
-      → header_at d (among a (coded_fields d code null value) b) (length a) Declared.Absent
-      ≡ HeaderRead.Header (length a + 2) (declared_in (declared_after (declares d code) Declared.Absent null value)) (end_of a (coded_fields d code null value))
+      → header_at d (among a (coded_fields d code null value) b) (length a) None
+      ≡ HeaderRead.Header (length a + 2) (declared_in (declared_after (declares d code) None null value)) (end_of a (coded_fields d code null value))
   coded_first h =
       let fine = header_faultless (code_fault d code) (declares d code) null value h in
-      coded_read Declared.Absent fine.0 fine.1.0
+      coded_read None fine.0 fine.1.0
       ∙ ap (header_valued (length a + 2) (end_of a (coded_fields d code null value))) fine.1.1
 
 -- a header with a spelled name
 module _ (a b : List ℕ) (d : Direction) (name_null : Bool) (name : List ℕ) (null : Bool) (value : List ℕ)
     (h : length name ≤ max_packet) (short : length value ≤ max_packet) where
   -- what reading answers
-  pub spelled_header : (before : Declared)
+  pub spelled_header : (before : Option ℕ)
       → header_at d (among a (spelled_fields d name_null name null value) b) (length a) before
       ≡ headed (spelled_name d name_null name).fault (string_fault StringField.HeaderValue null value) (length a + length (string_bytes name_null name))
       (end_of a (spelled_fields d name_null name null value))
@@ -340,7 +340,7 @@ module _ (a b : List ℕ) (d : Direction) (name_null : Bool) (name : List ℕ) (
       (value_behind a x b false before null value short)
 
   -- it is refused with the first of its faults
-  pub spelled_judged : (before : Declared) → refusal_in (header_at d (among a (spelled_fields d name_null name null value) b) (length a) before)
+  pub spelled_judged : (before : Option ℕ) → refusal_in (header_at d (among a (spelled_fields d name_null name null value) b) (length a) before)
       ≡ first_fault (faults_of (spelled_fields d name_null name null value))
   unfolding value_fault declared_after
   spelled_judged before =
@@ -349,7 +349,7 @@ module _ (a b : List ℕ) (d : Direction) (name_null : Bool) (name : List ℕ) (
       (end_of a (spelled_fields d name_null name null value)) (LengthRead.Now before)
 
   -- and where it has none it is read, with what was declared before
-  pub spelled_read : (before : Declared) → first_fault (faults_of (spelled_fields d name_null name null value)) ≡ 0
+  pub spelled_read : (before : Option ℕ) → first_fault (faults_of (spelled_fields d name_null name null value)) ≡ 0
       → header_at d (among a (spelled_fields d name_null name null value) b) (length a) before
       ≡ HeaderRead.Header (length a + length (string_bytes name_null name)) before (end_of a (spelled_fields d name_null name null value))
   spelled_read before e =

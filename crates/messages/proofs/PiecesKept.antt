@@ -14,7 +14,7 @@ use Rattle.wire.specs.Packet.{packet, after_code_place}
 use Rattle.packet.specs.declared.Direction.{Direction}
 use Rattle.wire.specs.declared.StringField.{StringField}
 use Rattle.wire.specs.Facts.{Bytes}
-use Rattle.headers.specs.declared.length.Declared.{Declared}
+use Rattle.std.specs.Prelude.{None}
 use Rattle.connection.specs.Cycle.{direction_of}
 use Rattle.places.specs.Entries.{max_headers}
 use Rattle.payload.specs.Code.{code_of}
@@ -110,7 +110,7 @@ forward_kept s f bytes r =
     let ssl = boolean_held s h.ssl_place f.is_ssl h.count_place h.ssl_read in
     let attributes = attributes_kept s lists.middle lists.of_attributes (length s) bytes (omega arith) lists.attributes_there in
     let headers =
-    headers_kept Direction.ToContainer s h.lists_place Declared.Absent lists.of_headers lists.middle lists.of_length bytes attributes.held.forth
+    headers_kept Direction.ToContainer s h.lists_place None lists.of_headers lists.middle lists.of_length bytes attributes.held.forth
     lists.headers_there in
     let fixed =
     fields_front (record { held = byte_held s after_code_place f.method f.protocol.0 h.method_read; fine = in_range })
@@ -136,7 +136,7 @@ send_headers_kept s response bytes r =
     let status = integer_held s after_code_place response.status response.message.0 bytes h.status_read in
     let in_range : range_fault least_status greatest_status response.status ≡ 0 = range_fine least_status greatest_status response.status h.status_range in
     let headers =
-    headers_kept Direction.ToServer s h.headers_place Declared.Absent (send_headers_at s).places (length s) Declared.Absent bytes (omega arith)
+    headers_kept Direction.ToServer s h.headers_place None (send_headers_at s).places (length s) None bytes (omega arith)
     h.headers_there in
     let fixed =
     fields_front (record { held = status.0; fine = in_range })

@@ -14,7 +14,7 @@ use Rattle.wire.specs.declared.StringField.{StringField}
 use Rattle.wire.specs.Read.{NumberRead}
 use Rattle.wire.specs.Read.{BooleanRead}
 use Rattle.wire.proofs.RoundTrip.{byte_written, integer_written, boolean_written}
-use Rattle.headers.specs.declared.length.Declared.{Declared}
+use Rattle.std.specs.Prelude.{None}
 use Rattle.connection.specs.declared.Kind.{Kind}
 use Rattle.connection.specs.Connection.{max_packet}
 use Rattle.places.specs.Entries.{max_headers}
@@ -112,7 +112,7 @@ module _ {s : List ℕ} (short : length s ≤ max_packet) (request : Request) (o
       let many : length lists.of_headers ≡ length request.headers + length request.headers = omega (arith, lists.headers_many, count.0) in
       let headers =
       headers_show short (attributes_bytes request.attributes ++ (last_mark ∷ [])) Direction.ToContainer request.headers headers_fine count.1
-      lists.of_headers many lists.middle Declared.Absent lists.of_length lists.headers_there in
+      lists.of_headers many lists.middle None lists.of_length lists.headers_there in
       let attributes =
       attributes_show short request.attributes attributes_fine fit headers.1 lists.of_attributes (length s) lists.attributes_there in
       rw (headers.0, attributes, r2.0, r3.0, r4.0, r5.0, r6.0, first.0, port.0, ssl.0)
@@ -141,7 +141,7 @@ module _ {s : List ℕ} (short : length s ≤ max_packet) (response : Response) 
       omega (arith, handed.headers_many, count.0) in
       let headers =
       headers_show short [] Direction.ToServer response.headers headers_fine count.1 (send_headers_at s).places many (length s)
-      Declared.Absent Declared.Absent handed.headers_there in
+      None None handed.headers_there in
       rw (headers.0, r2.0, first.0)
 
 -- the bytes of a Forward behind the first five

@@ -9,8 +9,8 @@ use Rattle.wire.specs.Field.{string_at, is_optional, string_bytes}
 use Rattle.wire.specs.declared.StringField.{StringField}
 use Rattle.wire.specs.Read.{StringRead}
 use Rattle.headers.specs.Headers.{declared_after}
-use Rattle.headers.specs.declared.length.Declared.{Declared}
-use Rattle.headers.specs.declared.length.LengthRead.{LengthRead}
+use Rattle.std.specs.Prelude.{Option}
+use Rattle.headers.specs.Read.{LengthRead}
 use Rattle.payload.specs.Handed.{StringEnds, StringThere, read_null, read_bytes}
 use Rattle.building.specs.Field.{Field, string_field}
 use Rattle.views.specs.View.{text_view}
@@ -36,7 +36,7 @@ pub text_told : (s : List ℕ) (at : ℕ) (optional : Bool) (start len next : �
 text_told s at optional start len next e = rw (text_shown_lem s at optional start len next e).0
 
 -- what a header's value that was read declares is what the string that is shown does
-pub declares_shown : (s : List ℕ) (at end : ℕ) (is_length : Bool) (before after : Declared) → StringThere s StringField.HeaderValue at end
+pub declares_shown : (s : List ℕ) (at end : ℕ) (is_length : Bool) (before after : Option ℕ) → StringThere s StringField.HeaderValue at end
     → (let value = string_at s at (is_optional StringField.HeaderValue) in
     declared_after is_length before (read_null value) (read_bytes s value) ≡ LengthRead.Now after)
     → declared_after is_length before (is_null (text_shown s at)) (content_of (text_shown s at)) ≡ LengthRead.Now after

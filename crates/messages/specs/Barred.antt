@@ -11,9 +11,9 @@ use Rattle.wire.specs.Read.{StringRead}
 use Rattle.packet.specs.declared.Direction.{Direction}
 use Rattle.names.specs.Header.{begins_code}
 use Rattle.headers.specs.Headers.{name_at, header_value_at}
-use Rattle.headers.specs.declared.NameRead.{NameRead}
-use Rattle.headers.specs.declared.HeaderRead.{HeaderRead}
-use Rattle.headers.specs.declared.length.Declared.{Declared}
+use Rattle.headers.specs.Read.{NameRead}
+use Rattle.headers.specs.Read.{HeaderRead}
+use Rattle.std.specs.Prelude.{Option}
 use Rattle.building.specs.Fault.{string_fault}
 use Rattle.pieces.specs.Header.{spelled_name, value_fault}
 
@@ -31,7 +31,7 @@ pub record BarredFirst : Type 0 where
   pub read_name : (d : Direction) (s : List ℕ) (at : ℕ) → begins_code (get_or s at 0) ≡ false → BarredAt s at
       → name_at d s at ≡ NameRead.Refused string_wrong
   -- a header's value that is read, also one that would declare a length, whatever was declared before it
-  pub read_value : (s : List ℕ) (at : ℕ) (is_length : Bool) (before : Declared) → BarredAt s at
+  pub read_value : (s : List ℕ) (at : ℕ) (is_length : Bool) (before : Option ℕ) → BarredAt s at
       → header_value_at s at is_length before ≡ HeaderRead.Refused string_wrong
   -- a string that is to be written, in every field
   pub written : (field : StringField) (bytes : List ℕ) → holds_barred bytes ≡ true → string_fault field false bytes ≡ string_wrong

@@ -6,10 +6,10 @@ use Prim.Native.Nat.{ℕ, ◌+◌, ◌≤◌}
 use native.Mathlib.Omega.{arith}
 use lib.ListN.{length}
 use Rattle.packet.specs.declared.Direction.{Direction}
-use Rattle.headers.specs.declared.length.Declared.{Declared}
+use Rattle.std.specs.Prelude.{Option, None}
 use Rattle.places.specs.Entries.{max_attributes}
 use Rattle.headers.specs.Headers.{headers_at}
-use Rattle.headers.specs.declared.HeadersRead.{HeadersRead}
+use Rattle.headers.specs.Read.{HeadersRead}
 use Rattle.headers.proofs.Laws.{headers_inside}
 use Rattle.attributes.specs.Attributes.{attributes_at}
 use Rattle.attributes.specs.declared.AttributesRead.{AttributesRead}
@@ -17,10 +17,10 @@ use Rattle.attributes.proofs.Laws.{attributes_inside}
 use Rattle.attributes.specs.Facts.{AttributesEnd}
 
 -- headers that are all read have two places each
-pub headers_many : (d : Direction) (s : List ℕ) (at count : ℕ) (declared : Declared) (next : ℕ)
-    → (headers_at d s at count Declared.Absent).end ≡ HeadersRead.Headers declared next
-    → length (headers_at d s at count Declared.Absent).places ≡ count + count
-headers_many d s at count declared next e = (headers_inside d s at count Declared.Absent (HeadersRead.Headers declared next) e).0
+pub headers_many : (d : Direction) (s : List ℕ) (at count : ℕ) (declared : Option ℕ) (next : ℕ)
+    → (headers_at d s at count None).end ≡ HeadersRead.Headers declared next
+    → length (headers_at d s at count None).places ≡ count + count
+headers_many d s at count declared next e = (headers_inside d s at count None (HeadersRead.Headers declared next) e).0
 
 -- how attributes that are all read end
 attributes_end : (s : List ℕ) (at count next : ℕ) → (attributes_at s at max_attributes []).end ≡ AttributesRead.Attributes count next

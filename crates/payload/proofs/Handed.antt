@@ -26,13 +26,13 @@ use Rattle.names.specs.Method.{is_head_method}
 use Rattle.names.specs.Header.{begins_code, code_fault, spelled_fault}
 use Rattle.names.specs.Attribute.{attribute_kind, attribute_fault}
 use Rattle.packet.specs.declared.AttributeKind.{AttributeKind}
-use Rattle.headers.specs.declared.length.Declared.{Declared}
-use Rattle.headers.specs.declared.length.LengthRead.{LengthRead}
+use Rattle.std.specs.Prelude.{Option, None}
+use Rattle.headers.specs.Read.{LengthRead}
 use Rattle.places.specs.Entries.{Entries, ended, max_headers, max_attributes}
 use Rattle.headers.specs.Headers.{name_unless, code_name_of, spelled_at, spelled_of, name_at, declared_after, header_valued, header_value_of, header_value_at, header_of, header_at, header_then, headers_at}
-use Rattle.headers.specs.declared.NameRead.{NameRead}
-use Rattle.headers.specs.declared.HeaderRead.{HeaderRead}
-use Rattle.headers.specs.declared.HeadersRead.{HeadersRead}
+use Rattle.headers.specs.Read.{NameRead}
+use Rattle.headers.specs.Read.{HeaderRead}
+use Rattle.headers.specs.Read.{HeadersRead}
 use Rattle.attributes.specs.Attributes.{last_mark, text_value_of, text_value_at, integer_value_of, integer_value_at, pair_value_of, pair_value_at, attribute_value_at, with_value, coded_at, attribute_at, attribute_then, attributes_at}
 use Rattle.attributes.specs.declared.ValueRead.{ValueRead}
 use Rattle.attributes.specs.declared.AttributeRead.{AttributeRead}
@@ -64,14 +64,14 @@ use Rattle.payload.proofs.Parsed.{parsed_kind}
 use Rattle.wire.specs.Packet.{payload_place, after_code_place}
 
 -- a header that is read with a name: the name up to its value, the value up to its end, and what is declared after it
-abbrev HeaderThere : Direction → List ℕ → NameRead → Declared → HeaderRead → Type 0
+abbrev HeaderThere : Direction → List ℕ → NameRead → Option ℕ → HeaderRead → Type 0
 HeaderThere d s name before (HeaderRead.Refused n) = Unit
 HeaderThere d s name before (HeaderRead.Header value after next) =
     NameEnds value name × StringThere s StringField.HeaderValue value next
     × DeclaresThen d s before name (string_at s value (is_optional StringField.HeaderValue)) after
 
 -- a header whose name ends where its value is read
-value_there : (d : Direction) (s : List ℕ) (name : NameRead) (value : ℕ) (before : Declared) → NameEnds value name
+value_there : (d : Direction) (s : List ℕ) (name : NameRead) (value : ℕ) (before : Option ℕ) → NameEnds value name
     → HeaderThere d s name before (header_value_at s value (declares_read d name) before)
 unfolding header_value_at
 value_there d s name value before named = go (string_at s value (is_optional StringField.HeaderValue)) refl
@@ -91,7 +91,7 @@ value_there d s name value before named = go (string_at s value (is_optional Str
         by next (StringRead.Text start len next) e refl (declared_after (declares_read d name) before false (part s start len)) refl
 
 -- a header, where it is read at a place
-header_there : (d : Direction) (s : List ℕ) (at : ℕ) (before : Declared) → HeaderThere d s (name_at d s at) before (header_at d s at before)
+header_there : (d : Direction) (s : List ℕ) (at : ℕ) (before : Option ℕ) → HeaderThere d s (name_at d s at) before (header_at d s at before)
 unfolding header_at
 header_there d s at before = go (name_at d s at)
   where
@@ -101,19 +101,19 @@ header_there d s at before = go (name_at d s at)
     go (NameRead.Spelled start len next) = value_there d s (NameRead.Spelled start len next) next before refl
 
 -- headers with these places, where none is refused
-abbrev HeadersTo : Direction → List ℕ → ℕ → Declared → List ℕ → HeadersRead → Type 0
+abbrev HeadersTo : Direction → List ℕ → ℕ → Option ℕ → List ℕ → HeadersRead → Type 0
 HeadersTo d s at before places (HeadersRead.Refused n) = Unit
 HeadersTo d s at before places (HeadersRead.Headers after end) = HeadersHanded d s at before places end after
 
 -- a header in front of others
-header_front : (d : Direction) (s : List ℕ) (at value next : ℕ) (before declared : Declared) (places : List ℕ) (r : HeadersRead)
+header_front : (d : Direction) (s : List ℕ) (at value next : ℕ) (before declared : Option ℕ) (places : List ℕ) (r : HeadersRead)
     → HeaderThere d s (name_at d s at) before (HeaderRead.Header value declared next) → HeadersTo d s next declared places r
     → HeadersTo d s at before (at ∷ value ∷ places) r
 header_front d s at value next before declared places (HeadersRead.Refused n) h later = tt
 header_front d s at value next before declared places (HeadersRead.Headers after end) h later = (next, refl, h.0, h.1, declared, h.2, later)
 
 -- so many headers from a place on: their places are those of their names and values
-headers_to : (d : Direction) (s : List ℕ) (at count : ℕ) (before : Declared)
+headers_to : (d : Direction) (s : List ℕ) (at count : ℕ) (before : Option ℕ)
     → HeadersTo d s at before (headers_at d s at count before).places (headers_at d s at count before).end
 unfolding headers_at
 headers_to d s at zero before = (refl, refl)
@@ -121,14 +121,14 @@ headers_to d s at (suc count) before =
     go (header_at d s at before) (header_there d s at before) (λ after next. headers_to d s next count after)
   where
     go : (r : HeaderRead) → HeaderThere d s (name_at d s at) before r
-        → ((after : Declared) (next : ℕ) → HeadersTo d s next after (headers_at d s next count after).places (headers_at d s next count after).end)
+        → ((after : Option ℕ) (next : ℕ) → HeadersTo d s next after (headers_at d s next count after).places (headers_at d s next count after).end)
         → HeadersTo d s at before (header_then at r (λ after next. headers_at d s next count after)).places (header_then at r (λ after next. headers_at d s next count after)).end
     go (HeaderRead.Refused n) h later = tt
     go (HeaderRead.Header value after next) h later =
         header_front d s at value next before after (headers_at d s next count after).places (headers_at d s next count after).end h (later after next)
 
 -- a header to the server declares nothing
-header_declares : (s : List ℕ) (before : Declared) (name : NameRead) (value : StringRead) (after : Declared)
+header_declares : (s : List ℕ) (before : Option ℕ) (name : NameRead) (value : StringRead) (after : Option ℕ)
     → DeclaresThen Direction.ToServer s before name value after → before ≡ after
 unfolding declared_after
 header_declares s before (NameRead.Refused n) value after e = cc
@@ -136,7 +136,7 @@ header_declares s before (NameRead.Code code next) value after e = cc
 header_declares s before (NameRead.Spelled start len next) value after e = cc
 
 -- nor do several
-headers_declare : (s : List ℕ) (at : ℕ) (before : Declared) (places : List ℕ) (end : ℕ) (after : Declared)
+headers_declare : (s : List ℕ) (at : ℕ) (before : Option ℕ) (places : List ℕ) (end : ℕ) (after : Option ℕ)
     → HeadersHanded Direction.ToServer s at before places end after → before ≡ after
 headers_declare s at before [] end after h = h.1
 headers_declare s at before (p ∷ []) end after h = absurd h
@@ -358,17 +358,17 @@ boolean_behind s (FieldRead.Field from value at) end h = go (boolean_at s at) re
 abbrev HeadersBehind : Direction → List ℕ → FieldRead → List ℕ → HeadersRead → Type 0
 HeadersBehind d s count places (HeadersRead.Refused n) = Unit
 HeadersBehind d s count places (HeadersRead.Headers after end) =
-    (at : ℕ) × FieldEnds at count × HeadersHanded d s at Declared.Absent places end after
+    (at : ℕ) × FieldEnds at count × HeadersHanded d s at None places end after
 
 -- they are read from where the count ends
 headers_behind : (d : Direction) (s : List ℕ) (count : FieldRead)
     → HeadersBehind d s count (headers_after d s count).places (headers_after d s count).end
 unfolding headers_after
 headers_behind d s (FieldRead.Refused n) = tt
-headers_behind d s (FieldRead.Field from count at) = go (headers_at d s at count Declared.Absent).end (headers_to d s at count Declared.Absent)
+headers_behind d s (FieldRead.Field from count at) = go (headers_at d s at count None).end (headers_to d s at count None)
   where
-    go : (r : HeadersRead) → HeadersTo d s at Declared.Absent (headers_at d s at count Declared.Absent).places r
-        → HeadersBehind d s (FieldRead.Field from count at) (headers_at d s at count Declared.Absent).places r
+    go : (r : HeadersRead) → HeadersTo d s at None (headers_at d s at count None).places r
+        → HeadersBehind d s (FieldRead.Field from count at) (headers_at d s at count None).places r
     go (HeadersRead.Refused n) h = tt
     go (HeadersRead.Headers after end) h = (at, refl, h)
 
@@ -508,8 +508,8 @@ send_headers_found s h places (HeadersRead.Refused n) b many e = let z : ◌≡�
 send_headers_found s h places (HeadersRead.Headers after end) b many e =
     let reads = send_headers_reads s in
     let found = finished_is (length s) end _ (Packet.SendHeaders h) e in
-    let nothing : HeadersHanded Direction.ToServer s b.0 Declared.Absent places end Declared.Absent =
-    subst (HeadersHanded Direction.ToServer s b.0 Declared.Absent places end) (sym (headers_declare s b.0 Declared.Absent places end after b.2)) b.2 in
+    let nothing : HeadersHanded Direction.ToServer s b.0 None places end None =
+    subst (HeadersHanded Direction.ToServer s b.0 None places end) (sym (headers_declare s b.0 None places end after b.2)) b.2 in
     let count = number_behind (integer_at s) 0 max_headers too_many reads.message b.0 b.1 in
     let message = string_behind s StringField.Message reads.status (field_place reads.headers).0 count.0 in
     let status = number_behind (integer_at s) least_status greatest_status out_of_range after_code (field_place reads.message).0 message.0 in
@@ -523,7 +523,7 @@ send_headers_found s h places (HeadersRead.Headers after end) b many e =
       count_read = count.1;
       headers_most = range_most max_headers (field_number reads.headers) count.2;
       headers_many = many;
-      headers_there = subst (λ (i : ℕ). HeadersHanded Direction.ToServer s b.0 Declared.Absent places i Declared.Absent) found.0 nothing;
+      headers_there = subst (λ (i : ℕ). HeadersHanded Direction.ToServer s b.0 None places i None) found.0 nothing;
     })
 
 -- what a Send Headers that was read hands out was read in it

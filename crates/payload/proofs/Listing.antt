@@ -14,10 +14,10 @@ use Rattle.packet.specs.declared.Direction.{Direction}
 use Rattle.wire.specs.declared.StringField.{StringField}
 use Rattle.wire.proofs.Bytes.{over_none, over_over}
 use Rattle.headers.specs.Length.{declared_length}
-use Rattle.headers.specs.declared.length.Declared.{Declared}
+use Rattle.std.specs.Prelude.{Option, None}
 use Rattle.places.specs.Entries.{max_headers, max_attributes}
 use Rattle.headers.specs.Headers.{headers_at}
-use Rattle.headers.specs.declared.HeadersRead.{HeadersRead}
+use Rattle.headers.specs.Read.{HeadersRead}
 use Rattle.attributes.specs.Attributes.{attributes_at}
 use Rattle.attributes.specs.declared.AttributesRead.{AttributesRead}
 use Rattle.payload.specs.declared.field.FieldRead.{FieldRead}
@@ -38,7 +38,7 @@ module _ (direction : Direction) (s : List ℕ) (count : FieldRead) (entry : Lis
 
   -- the count is read
   pub headers_read : (at value next : ℕ) (r : HeadersRead) (exit : List ℕ) → count ≡ FieldRead.Field at value next
-      → r ≡ (headers_at direction s next value Declared.Absent).end → exit ≡ over entry 0 (headers_at direction s next value Declared.Absent).places
+      → r ≡ (headers_at direction s next value None).end → exit ≡ over entry 0 (headers_at direction s next value None).places
       → (r ≡ (headers_after direction s count).end) × (exit ≡ over entry 0 (headers_after direction s count).places)
   unfolding headers_after
   headers_read at value next r exit e p q = rw e (p, q)
@@ -57,7 +57,7 @@ headers_places direction s (FieldRead.Field at value next) (HeadersRead.Refused 
 headers_places direction s (FieldRead.Field at value next) (HeadersRead.Headers declared end) e = headers_many direction s next value declared end e
 
 -- attributes behind the headers
-module _ (s : List ℕ) (declared : Declared) (at : ℕ) (entry exit : List ℕ) (from : ℕ)
+module _ (s : List ℕ) (declared : Option ℕ) (at : ℕ) (entry exit : List ℕ) (from : ℕ)
     (holds : exit ≡ over entry from (attributes_at s at max_attributes []).places) where
   -- they are refused
   pub attributes_refused : (n : ℕ) → AttributesRead.Refused n ≡ (attributes_at s at max_attributes []).end
@@ -87,7 +87,7 @@ module _ (s : List ℕ) (count : FieldRead) (entry middle : List ℕ)
       (ap (λ (h : HeadersRead). (behind_headers s h).end) e, holds ∙ ap (over entry 0) q)
 
   -- the headers are read, and the attributes follow
-  pub lists_read : (declared : Declared) (next many : ℕ) (r : ListsRead) (exit : List ℕ)
+  pub lists_read : (declared : Option ℕ) (next many : ℕ) (r : ListsRead) (exit : List ℕ)
       → HeadersRead.Headers declared next ≡ (headers_after Direction.ToContainer s count).end
       → many ≡ field_number count → many + many ≤ length entry
       → r ≡ (attributes_behind s declared next).end → exit ≡ over middle (many + many) (attributes_behind s declared next).places

@@ -15,7 +15,7 @@ use Rattle.wire.specs.Read.{NumberRead}
 use Rattle.wire.specs.Read.{BooleanRead}
 use Rattle.connection.specs.declared.Kind.{Kind}
 use Rattle.connection.specs.Cycle.{move_kind}
-use Rattle.headers.specs.declared.HeadersRead.{HeadersRead}
+use Rattle.headers.specs.Read.{HeadersRead}
 use Rattle.packet.specs.declared.Packet.{Packet}
 use Rattle.payload.specs.declared.lists.ListsRead.{ListsRead}
 use Rattle.payload.specs.declared.Context.{Context}

@@ -17,10 +17,10 @@ use Rattle.wire.proofs.Refusals.{NumberRefusal, byte_refusal, integer_refusal, B
 use Rattle.packet.specs.declared.Direction.{Direction}
 use Rattle.packet.specs.declared.Packet.{Packet}
 use Rattle.headers.specs.Length.{declared_length}
-use Rattle.headers.specs.declared.length.Declared.{Declared}
+use Rattle.std.specs.Prelude.{Option, None}
 use Rattle.connection.specs.declared.Kind.{Kind}
 use Rattle.places.specs.Entries.{max_headers, max_attributes}
-use Rattle.headers.specs.declared.HeadersRead.{HeadersRead}
+use Rattle.headers.specs.Read.{HeadersRead}
 use Rattle.headers.proofs.Refusals.{HeadersRefusal, headers_refusal}
 use Rattle.attributes.specs.Attributes.{attributes_at}
 use Rattle.attributes.specs.declared.AttributesRead.{AttributesRead}
@@ -129,14 +129,14 @@ integer_after_refusal s low high fault before f =
 headers_after_refusal : (d : Direction) (s : List ℕ) (count : FieldRead) → FieldRefusal count → HeadersRefusal (headers_after d s count).end
 unfolding headers_after
 headers_after_refusal d s (FieldRead.Refused n) h = h
-headers_after_refusal d s (FieldRead.Field at value next) h = headers_refusal d s next value Declared.Absent
+headers_after_refusal d s (FieldRead.Field at value next) h = headers_refusal d s next value None
 
 -- a Forward's lists, where they are refused
 abbrev ListsRefusal : ListsRead → Type 0
 ListsRefusal (ListsRead.Refused n) = is_refusal n ≡ true
 ListsRefusal (ListsRead.Lists declared attributes) = Unit
 
-lists_of_refusal : (size : ℕ) (declared : Declared) (r : AttributesRead) → AttributesRefusal r → ListsRefusal (lists_of size declared r)
+lists_of_refusal : (size : ℕ) (declared : Option ℕ) (r : AttributesRead) → AttributesRefusal r → ListsRefusal (lists_of size declared r)
 lists_of_refusal size declared (AttributesRead.Refused n) h = h
 lists_of_refusal size declared (AttributesRead.Attributes count next) h = go (eqb next size)
   where

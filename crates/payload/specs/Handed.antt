@@ -17,9 +17,9 @@ use Rattle.packet.specs.declared.AttributeKind.{AttributeKind}
 use Rattle.places.specs.Entries.{max_headers, max_attributes}
 use Rattle.headers.specs.Length.{declared_length}
 use Rattle.headers.specs.Headers.{name_at, declares, declared_after}
-use Rattle.headers.specs.declared.length.Declared.{Declared}
-use Rattle.headers.specs.declared.length.LengthRead.{LengthRead}
-use Rattle.headers.specs.declared.NameRead.{NameRead}
+use Rattle.std.specs.Prelude.{Option, None}
+use Rattle.headers.specs.Read.{LengthRead}
+use Rattle.headers.specs.Read.{NameRead}
 use Rattle.attributes.specs.Attributes.{last_mark}
 use Rattle.packet.specs.declared.Forward.{Forward}
 use Rattle.packet.specs.declared.SendHeaders.{SendHeaders}
@@ -68,16 +68,16 @@ read_bytes s (StringRead.Null next) = []
 read_bytes s (StringRead.Text start len next) = part s start len
 
 -- after a header with this name and this value that much is declared
-abbrev pub DeclaresThen : Direction → List ℕ → Declared → NameRead → StringRead → Declared → Type 0
+abbrev pub DeclaresThen : Direction → List ℕ → Option ℕ → NameRead → StringRead → Option ℕ → Type 0
 DeclaresThen d s before name value after = declared_after (declares_read d name) before (read_null value) (read_bytes s value) ≡ LengthRead.Now after
 
 -- headers are read from a place to another, with these places for their names and values: the name at the first, the value where the name
 -- ends, the next header where the value ends; and what is declared before them becomes, header by header, what is declared after them
-abbrev pub HeadersHanded : Direction → List ℕ → ℕ → Declared → List ℕ → ℕ → Declared → Type 0
+abbrev pub HeadersHanded : Direction → List ℕ → ℕ → Option ℕ → List ℕ → ℕ → Option ℕ → Type 0
 HeadersHanded d s at before [] end after = (at ≡ end) × (before ≡ after)
 HeadersHanded d s at before (p ∷ []) end after = ⊥
 HeadersHanded d s at before (p ∷ q ∷ rest) end after =
-    (next : ℕ) × (p ≡ at) × NameEnds q (name_at d s p) × StringThere s StringField.HeaderValue q next × (declared : Declared)
+    (next : ℕ) × (p ≡ at) × NameEnds q (name_at d s p) × StringThere s StringField.HeaderValue q next × (declared : Option ℕ)
     × DeclaresThen d s before (name_at d s p) (string_at s q (is_optional StringField.HeaderValue)) declared × HeadersHanded d s next declared rest end after
 
 -- a value of a kind is read behind a code: from a place on, with the value at another, up to its end. A pair has its name in front
@@ -105,8 +105,8 @@ pub record ListsHanded (s : List ℕ) (at headers attributes declared : ℕ) (pl
   pub attributes_many : length of_attributes ≡ attributes + attributes
   pub attributes_most : attributes ≤ max_attributes
   pub middle : ℕ
-  pub of_length : Declared
-  pub headers_there : HeadersHanded Direction.ToContainer s at Declared.Absent of_headers middle of_length
+  pub of_length : Option ℕ
+  pub headers_there : HeadersHanded Direction.ToContainer s at None of_headers middle of_length
   pub declared_is : declared ≡ declared_length of_length
   pub attributes_there : AttributesHanded s middle of_attributes (length s)
 
@@ -141,7 +141,7 @@ pub record SendHeadersHanded (s : List ℕ) (h : SendHeaders) (places : List ℕ
   pub count_read : integer_at s count_place ≡ NumberRead.Number h.headers headers_place
   pub headers_most : h.headers ≤ max_headers
   pub headers_many : length places ≡ h.headers + h.headers
-  pub headers_there : HeadersHanded Direction.ToServer s headers_place Declared.Absent places (length s) Declared.Absent
+  pub headers_there : HeadersHanded Direction.ToServer s headers_place None places (length s) None
 
 -- the size that a body packet tells: none where it has no payload, else the payload's first integer
 abbrev pub body_size_read : List ℕ → NumberRead

@@ -6,10 +6,10 @@ use Rattle.wire.specs.Pick.{pick}
 use Rattle.wire.specs.Refusal.{left_over}
 use Rattle.packet.specs.declared.Direction.{Direction}
 use Rattle.headers.specs.Length.{declared_length}
-use Rattle.headers.specs.declared.length.Declared.{Declared}
+use Rattle.std.specs.Prelude.{Option, None}
 use Rattle.places.specs.Entries.{Entries, ended, followed, ending, max_attributes}
 use Rattle.headers.specs.Headers.{headers_at}
-use Rattle.headers.specs.declared.HeadersRead.{HeadersRead}
+use Rattle.headers.specs.Read.{HeadersRead}
 use Rattle.attributes.specs.Attributes.{attributes_at}
 use Rattle.attributes.specs.declared.AttributesRead.{AttributesRead}
 use Rattle.payload.specs.declared.field.FieldRead.{FieldRead}
@@ -18,16 +18,16 @@ use Rattle.payload.specs.declared.lists.ListsRead.{ListsRead}
 -- the headers behind their count
 unfoldable pub headers_after : Direction → List ℕ → FieldRead → Entries HeadersRead
 headers_after direction s (FieldRead.Refused n) = ended (HeadersRead.Refused n)
-headers_after direction s (FieldRead.Field at count next) = headers_at direction s next count Declared.Absent
+headers_after direction s (FieldRead.Field at count next) = headers_at direction s next count None
 
 -- how a Forward ends: with its attributes, behind which nothing may stand (12)
-abbrev pub lists_of : ℕ → Declared → AttributesRead → ListsRead
+abbrev pub lists_of : ℕ → Option ℕ → AttributesRead → ListsRead
 lists_of size declared (AttributesRead.Refused n) = ListsRead.Refused n
 lists_of size declared (AttributesRead.Attributes count next) =
     pick (eqb next size) (ListsRead.Lists (record { 0 = declared_length declared }) count) (ListsRead.Refused left_over)
 
 -- the attributes behind the headers, where it is known what length the headers declare
-unfoldable pub attributes_behind : List ℕ → Declared → ℕ → Entries ListsRead
+unfoldable pub attributes_behind : List ℕ → Option ℕ → ℕ → Entries ListsRead
 attributes_behind s declared at = ending (lists_of (length s) declared) (attributes_at s at max_attributes [])
 
 -- what stands behind the headers, by how they end

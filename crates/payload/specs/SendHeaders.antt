@@ -6,7 +6,7 @@ use Rattle.wire.specs.Refusal.{out_of_range, too_many}
 use Rattle.packet.specs.declared.Direction.{Direction}
 use Rattle.wire.specs.declared.StringField.{StringField}
 use Rattle.places.specs.Entries.{Entries, ending, max_headers}
-use Rattle.headers.specs.declared.HeadersRead.{HeadersRead}
+use Rattle.headers.specs.Read.{HeadersRead}
 use Rattle.payload.specs.declared.field.FieldRead.{FieldRead}
 use Rattle.packet.specs.declared.Packet.{Packet}
 use Rattle.payload.specs.declared.found.PacketRead.{PacketRead}

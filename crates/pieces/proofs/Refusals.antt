@@ -14,8 +14,8 @@ use Rattle.names.specs.Header.{header_names, spelled_fault}
 use Rattle.names.specs.Names.{code_in}
 use Rattle.headers.specs.Length.{length_after}
 use Rattle.std.specs.Prelude.{Option, Some, None}
-use Rattle.headers.specs.declared.length.Declared.{Declared}
-use Rattle.headers.specs.declared.length.LengthRead.{LengthRead}
+use Rattle.std.specs.Prelude.{None}
+use Rattle.headers.specs.Read.{LengthRead}
 use Rattle.names.proofs.Refusals.{code_fault_lem, spelled_fault_lem}
 use Rattle.headers.proofs.ContentLength.{LengthRefusal, length_refusal}
 use Rattle.headers.specs.Headers.{declares, declared_after}
@@ -43,9 +43,9 @@ refusal_fault n h = go (eqb n none) (is_refusal n) h
     go false u h = h
 
 -- what a value declares
-declared_fault : (is_length null : Bool) (text : List ℕ) → is_fault (length_fault (declared_after is_length Declared.Absent null text)) ≡ true
+declared_fault : (is_length null : Bool) (text : List ℕ) → is_fault (length_fault (declared_after is_length None null text)) ≡ true
 unfolding declared_after
-declared_fault true null text = by (length_after Declared.Absent null text) (length_refusal Declared.Absent null text)
+declared_fault true null text = by (length_after None null text) (length_refusal None null text)
   where
     by : (d : LengthRead) → LengthRefusal d → is_fault (length_fault d) ≡ true
     by (LengthRead.Refused n) h = refusal_fault n h
@@ -56,7 +56,7 @@ declared_fault false null text = refl
 value_fault_lem : (is_length null : Bool) (text : List ℕ) → is_fault (value_fault is_length null text) ≡ true
 unfolding value_fault
 value_fault_lem is_length null text =
-    or_fault (string_fault StringField.HeaderValue null text) (length_fault (declared_after is_length Declared.Absent null text))
+    or_fault (string_fault StringField.HeaderValue null text) (length_fault (declared_after is_length None null text))
     (string_fault_lem StringField.HeaderValue null text) (declared_fault is_length null text)
 
 name_fault_lem : (direction : Direction) (null : Bool) (text : List ℕ) → is_fault (spelled_name direction null text).fault ≡ true

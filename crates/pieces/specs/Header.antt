@@ -10,8 +10,8 @@ use Rattle.wire.specs.declared.StringField.{StringField}
 use Rattle.names.specs.Header.{header_names, code_fault, spelled_fault}
 use Rattle.names.specs.Names.{code_in}
 use Rattle.std.specs.Prelude.{Option, Some, None}
-use Rattle.headers.specs.declared.length.Declared.{Declared}
-use Rattle.headers.specs.declared.length.LengthRead.{LengthRead}
+use Rattle.std.specs.Prelude.{None}
+use Rattle.headers.specs.Read.{LengthRead}
 use Rattle.headers.specs.Headers.{declares, declared_after}
 use Rattle.building.specs.Fault.{or_else, string_fault}
 use Rattle.building.specs.Field.{Field, faults_of, fields_bytes, needed_at}
@@ -38,7 +38,7 @@ length_fault (LengthRead.Now declared) = none
 -- a value: the string's own rule (6), then, where it declares a length, that it is one (10)
 unfoldable pub value_fault : Bool → Bool → List ℕ → ℕ
 value_fault is_length null text =
-    or_else (string_fault StringField.HeaderValue null text) (length_fault (declared_after is_length Declared.Absent null text))
+    or_else (string_fault StringField.HeaderValue null text) (length_fault (declared_after is_length None null text))
 
 -- a value
 abbrev pub header_value : Bool → Bool → List ℕ → Field

@@ -17,9 +17,9 @@ use Rattle.wire.specs.Field.{string_at, is_optional}
 use Rattle.wire.specs.Read.{StringRead}
 use Rattle.wire.proofs.Field.{string_inside}
 use Rattle.wire.proofs.Tests.{both_first, both_second}
-use Rattle.headers.specs.declared.length.Declared.{Declared}
+use Rattle.std.specs.Prelude.{None}
 use Rattle.places.specs.Entries.{max_attributes}
-use Rattle.headers.specs.declared.HeadersRead.{HeadersRead}
+use Rattle.headers.specs.Read.{HeadersRead}
 use Rattle.headers.proofs.Laws.{headers_within}
 use Rattle.attributes.proofs.Laws.{attributes_inside}
 use Rattle.connection.specs.declared.Kind.{Kind}
@@ -64,7 +64,7 @@ headers_below d s (FieldRead.Refused n) = none_below (length s)
 headers_below d s (FieldRead.Field at value next) =
     all_weaker (λ (p : ℕ). leb (p + 2) (length s)) (λ (p : ℕ). ltb p (length s))
     (λ p h. lt-ltb p (length s) (omega (arith, leb-true (p + 2) (length s) h)))
-    _ (headers_within d s next value Declared.Absent)
+    _ (headers_within d s next value None)
 
 -- the places of the attributes behind the headers
 attributes_below : (s : List ℕ) (r : HeadersRead) → AllBelow (length s) (behind_headers s r).places

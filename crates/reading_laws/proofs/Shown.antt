@@ -21,7 +21,7 @@ use Rattle.wire.specs.Facts.{TextRead, NullRead}
 use Rattle.wire.proofs.Field.{integer_inside, text_read, null_read}
 use Rattle.names.specs.Attribute.{attribute_kind}
 use Rattle.headers.specs.Headers.{name_at}
-use Rattle.headers.specs.declared.NameRead.{NameRead}
+use Rattle.headers.specs.Read.{NameRead}
 use Rattle.payload.proofs.Handed.{NameFine, name_fine}
 use Rattle.headers.proofs.Laws.{part_none}
 use Rattle.packet.specs.declared.HeaderName.{HeaderName}

@@ -1,29 +1,25 @@
 -- `headers::header_at` meets its contract, by what its name reads as.
 -- Assumes nothing.
-use mathlib.Core.Path.{◌≡◌, sym, ap, ◌∙◌}
+use mathlib.Core.Path.{sym, ap, ◌∙◌}
 use mathlib.Core.Bool.{Bool}
-use Rattle.headers.specs.declared.NameRead.{NameRead}
-use Rattle.headers.specs.Headers.{header_value_at, header_of, header_at}
+use Rattle.wire.proofs.Exits.{exits}
+use Rattle.headers.specs.Read.{NameRead, header_meaning, named}
+use Rattle.headers.specs.declared.ReadName.{ReadName}
+use Rattle.headers.specs.Headers.{header_value_at}
 use Rattle.headers.proofs.Laws.{header_is}
 use Rattle.headers.proofs.header_at.Goals as goal
 
-pub returns-in-Refused : goal.returns-in-Refused
-returns-in-Refused c =
-    let named : (r : NameRead) → c.name_at.result ≡ r → let a = c.args in header_of a.direction a.packet.now a.before r ≡ header_at a.direction a.packet.now a.at a.before =
-    λ r e. header_is _ _ _ _ r (sym c.name_at.ensures ∙ e) in
-    named (NameRead.Refused _) c.in-Refused.is
+pub returns-in_err-value : goal.returns-in_err-value
+returns-in_err-value c = exits header_meaning _ _ c.from_residual.ensures.1 ∙ header_is _ _ _ _ _ (sym c.in_err-value.ensures)
 
 pub returns-in-Code : goal.returns-in-Code
 returns-in-Code c =
-    let named : (r : NameRead) → c.name_at.result ≡ r → let a = c.args in header_of a.direction a.packet.now a.before r ≡ header_at a.direction a.packet.now a.at a.before =
-    λ r e. header_is _ _ _ _ r (sym c.name_at.ensures ∙ e) in
     let a = c.args in
     c.value_at.ensures
-    ∙ ap (λ (t : Bool). header_value_at a.packet.now c.in-Code.next t a.before) c.declares_length.ensures
-    ∙ named (NameRead.Code _ _) c.in-Code.is
+    ∙ ap (λ (t : Bool). header_value_at a.packet.now c.in_ok-value.field-0.next t a.before) c.declares_length.ensures
+    ∙ header_is _ _ _ _ (NameRead.Code _ _) (sym c.in_ok-value.ensures ∙ ap (λ (n : ReadName). named n c.in_ok-value.field-0.next) c.in-Code.is)
 
 pub returns-in-Spelled : goal.returns-in-Spelled
 returns-in-Spelled c =
-    let named : (r : NameRead) → c.name_at.result ≡ r → let a = c.args in header_of a.direction a.packet.now a.before r ≡ header_at a.direction a.packet.now a.at a.before =
-    λ r e. header_is _ _ _ _ r (sym c.name_at.ensures ∙ e) in
-    c.value_at-in-Spelled.ensures ∙ named (NameRead.Spelled _ _ _) c.in-Spelled.is
+    c.value_at-in-Spelled.ensures
+    ∙ header_is _ _ _ _ (NameRead.Spelled _ _ _) (sym c.in_ok-value.ensures ∙ ap (λ (n : ReadName). named n c.in_ok-value.field-0.next) c.in-Spelled.is)

@@ -7,7 +7,6 @@ use Prim.Native.Nat.{◌+◌, ◌≤◌}
 use borrow.Author.Tests.{le-leb}
 use lib.ListN.{length}
 use Rattle.wire.proofs.Bytes.{room_in}
-use Rattle.headers.specs.Headers.{code_name_of}
 use Rattle.headers.proofs.Laws.{name_is}
 use Rattle.std.proofs.Common.{not}
 use Rattle.headers.proofs.name_at.Goals as goal
@@ -27,7 +26,6 @@ returns-then-begins_code c =
     room_in _ _ _ c.has_room.ensures (ap not c.if-not-has_room.false) in
     let a = c.args in
     c.code_name.ensures
-    ∙ ap (code_name_of a.direction) c.integer.ensures
     ∙ name_is a.direction a.packet.now a.at true true false _ (le-leb _ _ (fits))
     (sym c.begins_code.ensures ∙ c.if-begins_code.true) refl refl
 

@@ -2,24 +2,33 @@
 -- Assumes nothing.
 use native.Mathlib.Omega.{arith}
 use mathlib.Core.Path.{◌≡◌, refl, sym, ap, ◌∙◌}
-use mathlib.Core.Bool.{Bool, true, false}
+use mathlib.Core.Bool.{true, false}
 use mathlib.Core.List.{List}
 use Prim.Native.Nat.{ℕ, ◌+◌, ◌-◌, ◌≤◌}
 use borrow.Author.Tests.{eq-eqb, ne_eqb, le-leb}
-use lib.Dec.{eqb}
 use lib.ListN.{length, take, drop}
 use Rattle.wire.specs.Pick.{pick}
-use Rattle.wire.specs.Refusal.{none, string_wrong}
+use Rattle.wire.specs.Refusal.{string_wrong}
 use Rattle.wire.specs.Bytes.{part}
-use Rattle.wire.specs.Field.{is_optional, holds_barred, after_length}
-use Rattle.wire.specs.declared.StringField.{StringField}
+use Rattle.wire.specs.Field.{holds_barred}
+use Rattle.packet.specs.declared.Direction.{Direction}
 use Rattle.wire.proofs.Bytes.{room_in}
 use Rattle.names.specs.Header.{spelled_fault}
-use Rattle.headers.specs.declared.NameRead.{NameRead}
-use Rattle.headers.specs.Headers.{spelled_of}
+use Rattle.wire.proofs.Exits.{exits, refused_some}
+use Rattle.headers.specs.Read.{name_meaning}
 use Rattle.headers.proofs.Laws.{text_is}
 use Rattle.std.proofs.Common.{not}
 use Rattle.headers.proofs.name_text.Goals as goal
+
+-- the fault of the name's bytes, whose end is told
+judged : (d : Direction) (s : List ℕ) (start size : ℕ)
+    → let text = take (start + size - start) (drop start s) in
+    pick (holds_barred text) string_wrong (spelled_fault d text)
+    ≡ pick (holds_barred (part s start size)) string_wrong (spelled_fault d (part s start size))
+unfolding part
+judged d s start size =
+    let n : start + size - start ≡ size = omega arith in
+    ap (λ (k : ℕ). let text = take k (drop start s) in pick (holds_barred text) string_wrong (spelled_fault d text)) n
 
 pub returns-then-size-eq-NULL_LENGTH : goal.returns-then-size-eq-NULL_LENGTH
 returns-then-size-eq-NULL_LENGTH c = text_is _ _ _ _ true _ _ _ _ _ (eq-eqb _ _ c.if-size-eq-NULL_LENGTH.true) refl refl refl refl refl
@@ -57,21 +66,14 @@ slice_bounds-text_fault-end c =
     room_in _ _ _ c.has_room.ensures (ap not c.if-not-has_room.false) in
     omega (arith, fits)
 
-pub returns-then-fault-ne-NONE : goal.returns-then-fault-ne-NONE
+pub returns-in_err-text_fault : goal.returns-in_err-text_fault
 unfolding part
-returns-then-fault-ne-NONE c =
-    let fits : let a = c.args in a.start + (a.size + 1) ≤ length a.packet.now =
-    room_in _ _ _ c.has_room.ensures (ap not c.if-not-has_room.false) in
-    let judged : let a = c.args in let text = part a.packet.now a.start a.size in c.text_fault-fault.result ≡ pick (holds_barred text) string_wrong (spelled_fault a.direction text) =
+returns-in_err-text_fault c =
     let a = c.args in
-    let n : a.start + a.size - a.start ≡ a.size = omega arith in
-    c.text_fault-fault.ensures
-    ∙ ap (λ (text : List ℕ). pick (holds_barred text) string_wrong (spelled_fault a.direction text))
-    (ap (λ (k : ℕ). take k (drop a.start a.packet.now)) n) in
-    let named : (t : Bool) → eqb c.text_fault-fault.result none ≡ t → let a = c.args in pick t (NameRead.Spelled a.start a.size (a.start + a.size + 1)) (NameRead.Refused c.text_fault-fault.result) ≡ spelled_of a.direction a.packet.now (after_length a.packet.now (is_optional StringField.HeaderName) a.size a.start) =
-    λ t e. text_is _ _ _ _ false false true true _ t (ne_eqb _ _ c.if-size-eq-NULL_LENGTH.false) (ne_eqb _ _ c.if-size-eq0.false) (le-leb _ _ (fits))
-    (eq-eqb _ _ c.if-packet-end-ne0.false) (judged) e in
-    named false (ne_eqb _ _ c.if-fault-ne-NONE.true)
+    let fits : a.start + (a.size + 1) ≤ length a.packet.now = room_in _ _ _ c.has_room.ensures (ap not c.if-not-has_room.false) in
+    exits name_meaning _ _ c.from_residual.ensures.1
+    ∙ text_is _ _ _ _ false false true true _ false (ne_eqb _ _ c.if-size-eq-NULL_LENGTH.false) (ne_eqb _ _ c.if-size-eq0.false) (le-leb _ _ fits)
+    (eq-eqb _ _ c.if-packet-end-ne0.false) (c.in_err-text_fault.ensures ∙ judged a.direction a.packet.now a.start a.size) (refused_some _)
 
 pub overflow_add-result : goal.overflow_add-result
 overflow_add-result c =
@@ -82,15 +84,7 @@ overflow_add-result c =
 pub returns : goal.returns
 unfolding part
 returns c =
-    let fits : let a = c.args in a.start + (a.size + 1) ≤ length a.packet.now =
-    room_in _ _ _ c.has_room.ensures (ap not c.if-not-has_room.false) in
-    let judged : let a = c.args in let text = part a.packet.now a.start a.size in c.text_fault-fault.result ≡ pick (holds_barred text) string_wrong (spelled_fault a.direction text) =
     let a = c.args in
-    let n : a.start + a.size - a.start ≡ a.size = omega arith in
-    c.text_fault-fault.ensures
-    ∙ ap (λ (text : List ℕ). pick (holds_barred text) string_wrong (spelled_fault a.direction text))
-    (ap (λ (k : ℕ). take k (drop a.start a.packet.now)) n) in
-    let named : (t : Bool) → eqb c.text_fault-fault.result none ≡ t → let a = c.args in pick t (NameRead.Spelled a.start a.size (a.start + a.size + 1)) (NameRead.Refused c.text_fault-fault.result) ≡ spelled_of a.direction a.packet.now (after_length a.packet.now (is_optional StringField.HeaderName) a.size a.start) =
-    λ t e. text_is _ _ _ _ false false true true _ t (ne_eqb _ _ c.if-size-eq-NULL_LENGTH.false) (ne_eqb _ _ c.if-size-eq0.false) (le-leb _ _ (fits))
-    (eq-eqb _ _ c.if-packet-end-ne0.false) (judged) e in
-    named true (eq-eqb _ _ c.if-fault-ne-NONE.false)
+    let fits : a.start + (a.size + 1) ≤ length a.packet.now = room_in _ _ _ c.has_room.ensures (ap not c.if-not-has_room.false) in
+    text_is _ _ _ _ false false true true _ true (ne_eqb _ _ c.if-size-eq-NULL_LENGTH.false) (ne_eqb _ _ c.if-size-eq0.false) (le-leb _ _ fits)
+    (eq-eqb _ _ c.if-packet-end-ne0.false) (c.in_ok-text_fault.ensures ∙ judged a.direction a.packet.now a.start a.size) refl

@@ -4,7 +4,7 @@ use native.Mathlib.Omega.{arith}
 use mathlib.Core.Path.{◌≡◌}
 use lib.ListN.{length}
 use Rattle.wire.specs.Bytes.{over}
-use Rattle.headers.specs.declared.HeadersRead.{HeadersRead}
+use Rattle.headers.specs.Read.{HeadersRead}
 use Rattle.payload.specs.SendHeaders.{SendHeadersReads, send_headers_of, send_headers_at}
 use Rattle.payload.proofs.Fields.{string_within, integer_counts}
 use Rattle.payload.proofs.Listing.{send_headers_is}
