@@ -17,10 +17,7 @@ use Rattle.names.specs.Attribute.{attribute_kind, attribute_fault}
 use Rattle.names.proofs.Refusals.{attribute_fault_lem}
 use Rattle.packet.specs.declared.AttributeKind.{AttributeKind}
 use Rattle.places.specs.Entries.{Entries, ended}
-use Rattle.attributes.specs.declared.ValueRead.{ValueRead}
-use Rattle.attributes.specs.declared.AttributeRead.{AttributeRead}
-use Rattle.attributes.specs.declared.AttributesRead.{AttributesRead}
-use Rattle.attributes.specs.Attributes.{last_mark, text_value_of, text_value_at, integer_value_of, integer_value_at, pair_value_of, pair_value_at, attribute_value_at, with_value, coded_at, attribute_at, attribute_then, attributes_at}
+use Rattle.attributes.specs.Attributes.{ValueRead, AttributeRead, AttributesRead, last_mark, text_value_of, text_value_at, integer_value_of, integer_value_at, pair_value_of, pair_value_at, attribute_value_at, with_value, coded_at, attribute_at, attribute_then, attributes_at}
 
 -- a value, where it is refused
 abbrev ValueRefusal : ValueRead → Type 0

@@ -1,9 +1,9 @@
 -- An attribute is a code and then a value; attributes stand one after the other, up to FF.
 -- Document 01, 'Server to container', Attribute codes, and 'Refusal numbers': where their faults are told.
 -- Assumes nothing.
-use Rattle.std.specs.Prelude.{Bool, true, false, List, ◌∷◌, ℕ, zero, suc, ◌+◌, leb, eqb, length, get_or}
+use Rattle.std.specs.Prelude.{Bool, true, false, List, ◌∷◌, ℕ, zero, suc, ◌+◌, leb, eqb, length, get_or, Result, Ok, Err, Option, Some, None}
 use Rattle.wire.specs.Pick.{pick, one_of}
-use Rattle.wire.specs.Refusal.{none, cut_short, string_wrong, attribute_wrong, too_many}
+use Rattle.wire.specs.Refusal.{none, cut_short, string_wrong, attribute_wrong, too_many, number_of}
 use Rattle.wire.specs.Field.{integer_at, string_at, is_optional}
 use Rattle.wire.specs.declared.StringField.{StringField}
 use Rattle.wire.specs.Read.{NumberRead}
@@ -11,9 +11,45 @@ use Rattle.wire.specs.Read.{StringRead}
 use Rattle.names.specs.Attribute.{attribute_kind, attribute_fault}
 use Rattle.packet.specs.declared.AttributeKind.{AttributeKind}
 use Rattle.places.specs.Entries.{Entries, ended, front}
-use Rattle.attributes.specs.declared.ValueRead.{ValueRead}
-use Rattle.attributes.specs.declared.AttributeRead.{AttributeRead}
-use Rattle.attributes.specs.declared.AttributesRead.{AttributesRead}
+use Rattle.wire.specs.declared.read.Field.{Field}
+use Rattle.wire.specs.declared.refusal.Refusal.{Refusal}
+use Rattle.attributes.specs.declared.ReadAttribute.{ReadAttribute}
+
+-- an attribute's value: refused, or its place and the place after it
+pub data ValueRead : Type 0 where
+  Refused : ℕ → ValueRead
+  Value : ℕ → ℕ → ValueRead
+
+-- an attribute: refused; the byte behind the last one, with the place after it; or its code, its value's place and the place after it
+pub data AttributeRead : Type 0 where
+  Refused : ℕ → AttributeRead
+  Last : ℕ → AttributeRead
+  Attribute : ℕ → ℕ → ℕ → AttributeRead
+
+-- the attributes: refused, or how many they are and the place after the byte behind the last one
+pub data AttributesRead : Type 0 where
+  Refused : ℕ → AttributesRead
+  Attributes : ℕ → ℕ → AttributesRead
+
+-- what the answer of a call that reads a value says
+abbrev pub value_meaning : Result (Field ℕ) Refusal → ValueRead
+value_meaning (Err refusal) = ValueRead.Refused (number_of refusal)
+value_meaning (Ok field) = ValueRead.Value field.value field.next
+
+-- an attribute, None for the byte behind the last one, and the place after it
+abbrev pub found_meaning : Option ReadAttribute → ℕ → AttributeRead
+found_meaning None next = AttributeRead.Last next
+found_meaning (Some found) next = AttributeRead.Attribute found.code found.value next
+
+-- of one that reads an attribute
+abbrev pub attribute_meaning : Result (Field (Option ReadAttribute)) Refusal → AttributeRead
+attribute_meaning (Err refusal) = AttributeRead.Refused (number_of refusal)
+attribute_meaning (Ok field) = found_meaning field.value field.next
+
+-- of one that reads all of them
+abbrev pub attributes_meaning : Result (Field ℕ) Refusal → AttributesRead
+attributes_meaning (Err refusal) = AttributesRead.Refused (number_of refusal)
+attributes_meaning (Ok field) = AttributesRead.Attributes field.value field.next
 
 -- the byte behind the last attribute
 abbrev pub last_mark : ℕ

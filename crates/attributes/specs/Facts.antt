@@ -4,8 +4,7 @@ use Rattle.std.specs.Prelude.{◌≡◌, true, ℕ, ◌+◌, ◌≤◌, ◌<◌,
 use Rattle.wire.specs.Pick.{all}
 use Rattle.places.specs.Entries.{Entries}
 use Rattle.attributes.specs.Private.{set_room}
-use Rattle.attributes.specs.declared.AttributeRead.{AttributeRead}
-use Rattle.attributes.specs.declared.AttributesRead.{AttributesRead}
+use Rattle.attributes.specs.Attributes.{AttributeRead, AttributesRead}
 
 -- an attribute that is answered: a set of codes can hold its code; its value lies behind its code, and its end inside a packet of n bytes
 abbrev pub AttributeInside : ℕ → ℕ → AttributeRead → Type 0

@@ -38,8 +38,8 @@ use Rattle.headers.specs.Read.{HeaderRead}
 use Rattle.headers.proofs.Laws.{code_is, spelled_is, name_is, value_is, header_is}
 use Rattle.attributes.specs.Attributes.{text_value_of, text_value_at, pair_value_of, pair_value_at, with_value, attribute_at, last_mark}
 use Rattle.attributes.specs.Attributes as attributes
-use Rattle.attributes.specs.declared.ValueRead.{ValueRead}
-use Rattle.attributes.specs.declared.AttributeRead.{AttributeRead}
+use Rattle.attributes.specs.Attributes.{ValueRead}
+use Rattle.attributes.specs.Attributes.{AttributeRead}
 use Rattle.attributes.proofs.Laws.{text_value, integer_value, pair_value, coded_by, attribute_by}
 use Rattle.building.specs.Fault.{unless, or_else, first_fault, string_fault}
 use Rattle.building.specs.Field.{Field, faults_of, fields_bytes}

@@ -12,7 +12,7 @@ use Rattle.headers.specs.Headers.{headers_at}
 use Rattle.headers.specs.Read.{HeadersRead}
 use Rattle.headers.proofs.Laws.{headers_inside}
 use Rattle.attributes.specs.Attributes.{attributes_at}
-use Rattle.attributes.specs.declared.AttributesRead.{AttributesRead}
+use Rattle.attributes.specs.Attributes.{AttributesRead}
 use Rattle.attributes.proofs.Laws.{attributes_inside}
 use Rattle.attributes.specs.Facts.{AttributesEnd}
 

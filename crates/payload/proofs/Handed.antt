@@ -34,9 +34,9 @@ use Rattle.headers.specs.Read.{NameRead}
 use Rattle.headers.specs.Read.{HeaderRead}
 use Rattle.headers.specs.Read.{HeadersRead}
 use Rattle.attributes.specs.Attributes.{last_mark, text_value_of, text_value_at, integer_value_of, integer_value_at, pair_value_of, pair_value_at, attribute_value_at, with_value, coded_at, attribute_at, attribute_then, attributes_at}
-use Rattle.attributes.specs.declared.ValueRead.{ValueRead}
-use Rattle.attributes.specs.declared.AttributeRead.{AttributeRead}
-use Rattle.attributes.specs.declared.AttributesRead.{AttributesRead}
+use Rattle.attributes.specs.Attributes.{ValueRead}
+use Rattle.attributes.specs.Attributes.{AttributeRead}
+use Rattle.attributes.specs.Attributes.{AttributesRead}
 use Rattle.connection.specs.declared.Kind.{Kind}
 use Rattle.packet.specs.declared.Forward.{Forward}
 use Rattle.packet.specs.declared.SendHeaders.{SendHeaders}

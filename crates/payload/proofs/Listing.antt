@@ -19,7 +19,7 @@ use Rattle.places.specs.Entries.{max_headers, max_attributes}
 use Rattle.headers.specs.Headers.{headers_at}
 use Rattle.headers.specs.Read.{HeadersRead}
 use Rattle.attributes.specs.Attributes.{attributes_at}
-use Rattle.attributes.specs.declared.AttributesRead.{AttributesRead}
+use Rattle.attributes.specs.Attributes.{AttributesRead}
 use Rattle.payload.specs.declared.field.FieldRead.{FieldRead}
 use Rattle.payload.specs.declared.lists.ListsRead.{ListsRead}
 use Rattle.payload.specs.Sequence.{after_code, string_after, boolean_after, byte_after, any_integer_after, integer_after, field_number}

@@ -23,7 +23,7 @@ use Rattle.places.specs.Entries.{max_headers, max_attributes}
 use Rattle.headers.specs.Read.{HeadersRead}
 use Rattle.headers.proofs.Refusals.{HeadersRefusal, headers_refusal}
 use Rattle.attributes.specs.Attributes.{attributes_at}
-use Rattle.attributes.specs.declared.AttributesRead.{AttributesRead}
+use Rattle.attributes.specs.Attributes.{AttributesRead}
 use Rattle.attributes.proofs.Refusals.{AttributesRefusal, attributes_refusal}
 use Rattle.payload.specs.declared.KindRead.{KindRead}
 use Rattle.payload.specs.declared.field.FieldRead.{FieldRead}

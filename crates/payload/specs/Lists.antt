@@ -11,7 +11,7 @@ use Rattle.places.specs.Entries.{Entries, ended, followed, ending, max_attribute
 use Rattle.headers.specs.Headers.{headers_at}
 use Rattle.headers.specs.Read.{HeadersRead}
 use Rattle.attributes.specs.Attributes.{attributes_at}
-use Rattle.attributes.specs.declared.AttributesRead.{AttributesRead}
+use Rattle.attributes.specs.Attributes.{AttributesRead}
 use Rattle.payload.specs.declared.field.FieldRead.{FieldRead}
 use Rattle.payload.specs.declared.lists.ListsRead.{ListsRead}
 
