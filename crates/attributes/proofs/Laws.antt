@@ -14,9 +14,8 @@ use Rattle.wire.specs.Bytes.{over}
 use Rattle.wire.specs.Refusal.{none, cut_short, too_many}
 use Rattle.wire.specs.Field.{integer_at, string_at, is_optional}
 use Rattle.wire.specs.declared.StringField.{StringField}
-use Rattle.std.specs.Prelude.{Option, Some, None}
-use Rattle.wire.specs.declared.read.Span.{Span}
-use Rattle.wire.specs.Read.{NumberRead, StringRead, text_meaning}
+use Rattle.std.specs.Prelude.{Option}
+use Rattle.wire.specs.Read.{NumberRead, StringRead}
 use Rattle.wire.specs.Facts.{StringInside, NumberInside}
 use Rattle.wire.proofs.Field.{string_inside, integer_inside}
 use Rattle.names.specs.Attribute.{attribute_kind, attribute_fault}
@@ -27,7 +26,8 @@ use Rattle.wire.specs.Bits.{bit}
 use Rattle.wire.proofs.Bits.{bit_none}
 use Rattle.attributes.specs.Private.{set_room, with_bit}
 use Rattle.attributes.specs.Facts.{AttributeInside, AttributesEnd, AttributesInside}
-use Rattle.attributes.specs.Attributes.{ValueRead, AttributeRead, AttributesRead, last_mark, text_value_of, text_value_at, integer_value_of, integer_value_at, pair_value_of, pair_value_at, attribute_value_at, with_value, coded_at, attribute_at, attribute_then, attributes_at}
+use Rattle.attributes.specs.Attributes.{ValueRead, AttributeRead, AttributesRead, found_meaning, last_mark, text_value_of, text_value_at, integer_value_of, integer_value_at, pair_value_of, pair_value_at, attribute_value_at, with_value, coded_at, attribute_at, attribute_then, attributes_at}
+use Rattle.attributes.specs.declared.ReadAttribute.{ReadAttribute}
 use Rattle.attributes.proofs.Bits.{bit_with}
 
 -- a value, by what is read at the place
@@ -47,10 +47,10 @@ module _ (s : List ℕ) (at : ℕ) where
   unfolding pair_value_at
   pair_value r e = ap (pair_value_of s) e
 
--- a value that is a string lies at the string's place, null or not
-pub text_taken : (at next : ℕ) (text : Option Span) → text_value_of at (text_meaning text next) ≡ ValueRead.Value at next
-text_taken at next None = refl
-text_taken at next (Some span) = refl
+-- what is found, where it is known what that is
+pub found_is : (found known : Option ReadAttribute) (next : ℕ) (r : AttributeRead) → found_meaning found next ≡ r → found ≡ known
+    → r ≡ found_meaning known next
+found_is found known next r e f = sym e ∙ ap (λ v. found_meaning v next) f
 
 -- an attribute with a code, by the code's fault and by its value; a proof that does not reach the value says `refl`
 pub coded_by : (s : List ℕ) (at code : ℕ) (again : Bool) (fault : ℕ) (fine : Bool) (r : ValueRead)

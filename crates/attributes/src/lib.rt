@@ -14,9 +14,11 @@ use packet::AttributeKind;
 use places::{MAX_ATTRIBUTES, put_pair};
 use wire::read::Field;
 use wire::refusal::Refusal;
-use wire::{StringField, has_room, read};
+use wire::{StringField, read};
 
 pub mod seen;
+
+use seen::Seen;
 
 // The byte behind the last attribute.
 pub const LAST_MARK: u8 = 0xFF;
@@ -29,6 +31,7 @@ pub struct ReadAttribute {
 }
 
 // A value that is a string: its place, and the place after it.
+#[tactic(auto, unfolding(crate::specs::Attributes::text_value_at))]
 fn text_value(packet: &[u8], at: usize) -> Result<Field<usize>, Refusal>
     ensures { value_meaning result ≡ text_value_at packet.now at }
 {
@@ -39,7 +42,8 @@ fn text_value(packet: &[u8], at: usize) -> Result<Field<usize>, Refusal>
     })
 }
 
-// A value that is an integer.
+// A value that is an integer. Apart from `text_value`: one function of both would take the call that reads as a closure, which is longer.
+#[tactic(auto, unfolding(crate::specs::Attributes::integer_value_at))]
 fn integer_value(packet: &[u8], at: usize) -> Result<Field<usize>, Refusal>
     ensures { value_meaning result ≡ integer_value_at packet.now at }
 {
@@ -51,14 +55,15 @@ fn integer_value(packet: &[u8], at: usize) -> Result<Field<usize>, Refusal>
 }
 
 // A name and then a value, both strings; the value's place is the second string's.
+#[tactic(auto, unfolding(crate::specs::Attributes::pair_value_at))]
 fn pair_value(packet: &[u8], at: usize) -> Result<Field<usize>, Refusal>
     ensures { value_meaning result ≡ pair_value_at packet.now at }
 {
     let name = read::string(packet, at, StringField::AttributeName)?;
-    match name.value {
-        None => Err(Refusal::StringWrong),
-        Some(_) => text_value(packet, name.next),
+    if name.value.is_none() {
+        return Err(Refusal::StringWrong);
     }
+    text_value(packet, name.next)
 }
 
 // The value at a place, of an attribute whose code stands before it.
@@ -74,6 +79,7 @@ fn value_at(packet: &[u8], at: usize, kind: AttributeKind) -> Result<Field<usize
 }
 
 // The attribute with this code, whose value begins at a place; `again` says that the code came before.
+#[tactic(auto, unfolding(crate::specs::Attributes::coded_at))]
 fn coded(
     packet: &[u8],
     at: usize,
@@ -90,19 +96,20 @@ fn coded(
     })
 }
 
-// The attribute at a place, None for the byte behind the last one. The codes of the set came before; `full` says that no more may come.
+// The attribute at a place, None for the byte behind the last one. `seen` has the codes that came before; `full` says that no more may
+// come.
+#[tactic(auto, unfolding(crate::specs::Attributes::attribute_at))]
 pub fn attribute_at(
     packet: &[u8],
     at: usize,
     full: bool,
-    set: u16,
+    seen: Seen,
 ) -> Result<Field<Option<ReadAttribute>>, Refusal>
-    ensures { attribute_meaning result ≡ attribute_at packet.now at full (bit set) }
+    ensures { attribute_meaning result ≡ attribute_at packet.now at full (bit seen.bits) }
 {
-    if !has_room(packet.len(), at, 1) {
+    let Some(&code) = packet.get(at) else {
         return Err(Refusal::CutShort);
-    }
-    let code = packet[at];
+    };
     if code == LAST_MARK {
         return Ok(Field {
             value: None,
@@ -112,7 +119,7 @@ pub fn attribute_at(
     if full {
         return Err(Refusal::TooMany);
     }
-    coded(packet, at + 1, code, seen::has(set, code))
+    coded(packet, at + 1, code, seen.contains(code))
 }
 
 // Reads the attributes from a place on, and puts the places of each one's code and value into a table, from an index on. Says how many
@@ -127,22 +134,24 @@ pub fn attributes(
     ensures value { attributes_meaning result ≡ (attributes_at packet.now at max_attributes []).end }
     ensures table_after { table.new ≡ over table.old from (attributes_at packet.now at max_attributes []).places }
 {
-    let mut set: u16 = 0;
+    let mut seen = Seen::EMPTY;
     let mut place = at;
-    let mut count = 0;
-    while count < MAX_ATTRIBUTES {
-        let Field { value: read, next } = attribute_at(packet, place, false, set)?;
+    for count in 0..MAX_ATTRIBUTES {
+        let Field { value: read, next } = attribute_at(packet, place, false, seen)?;
         let Some(ReadAttribute { code, value }) = read else {
             return Ok(Field { value: count, next });
         };
+        // By index: an early return answers the count, which an iterator over pairs of places would need to enumerate as well.
         put_pair(table, from + (count + count), place as u16, value as u16);
-        set = seen::with(set, code);
+        seen.insert(code);
         place = next;
-        count += 1;
     }
-    let Field { value: more, next } = attribute_at(packet, place, true, set)?;
+    let Field { value: more, next } = attribute_at(packet, place, true, seen)?;
     match more {
-        None => Ok(Field { value: count, next }),
+        None => Ok(Field {
+            value: MAX_ATTRIBUTES,
+            next,
+        }),
         Some(_) => Err(Refusal::TooMany),
     }
 }

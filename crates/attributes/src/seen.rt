@@ -1,27 +1,35 @@
-// The attribute codes that came before, as the bits of a u16. No served code is above 15.
+// The attribute codes that came before. No served code is above 15.
 ghost use Rattle.std.specs.Prelude.{◌≡◌};
 ghost use Rattle.wire.specs.Bits.{bit};
 ghost use Rattle.attributes.specs.Private.{with_bit};
 
-// The codes that have a bit.
-const BITS: u8 = 16;
-
-// Whether a code is in the set.
-pub fn has(set: u16, code: u8) -> bool
-    ensures { result ≡ bit set code }
-{
-    if BITS <= code {
-        return false;
-    }
-    (set >> code) & 1 == 1
+// A set of codes, each as a bit: one word holds it, with no heap.
+#[derive(Clone, Copy)]
+pub struct Seen {
+    pub bits: u16,
 }
 
-// The set with a code in it.
-pub fn with(set: u16, code: u8) -> u16
-    ensures { result ≡ with_bit set code }
-{
-    if BITS <= code {
-        return set;
+// The codes that have a bit.
+const BITS: u8 = u16::BITS as u8;
+
+impl Seen {
+    // The set with no codes.
+    pub const EMPTY: Seen = Seen { bits: 0 };
+
+    // Whether a code is in the set.
+    pub fn contains(self, code: u8) -> bool
+        ensures { result ≡ bit self.bits code }
+    {
+        code < BITS && (self.bits >> code) & 1 == 1
     }
-    set | (1 << code)
+
+    // Puts a code into the set; one that has no bit is left out.
+    #[tactic(auto, using(crate::proofs::Bits::with_high, crate::proofs::Bits::with_low, crate::proofs::Bits::shifted))]
+    pub fn insert(&mut self, code: u8)
+        ensures { self.new.bits ≡ with_bit self.old.bits code }
+    {
+        if code < BITS {
+            self.bits |= 1 << code;
+        }
+    }
 }
