@@ -2,10 +2,10 @@
 -- Assumes nothing.
 use mathlib.Core.Path.{◌≡◌, refl, sym, ap, ◌∙◌}
 use mathlib.Core.Bool.{Bool, true, false}
-use mathlib.Core.List.{List}
+use mathlib.Core.List.{List, []}
 use Prim.Native.Nat.{ℕ, ◌+◌, ◌<◌}
 use native.Mathlib.Omega.{arith}
-use borrow.Author.Tests.{leb-false, lt-leb}
+use borrow.Author.Tests.{leb-false, le-leb}
 use lib.Dec.{leb, eqb}
 use lib.ListN.{length, get_or, get_or-eq_default}
 use Rattle.wire.specs.Pick.{pick, both}
@@ -53,17 +53,38 @@ pub text_null : (s : List ℕ) (at n : ℕ) → n ≡ integer_view s at → eqb 
 unfolding text_view part
 text_null s at n e q = rw (sym (null_is s at n e) ∙ q)
 
--- where the length is not there, no bytes are shown
-pub text_gone : (s : List ℕ) (at : ℕ) → length s < at + 2 → part s 0 0 ≡ text_view s at
-unfolding text_view null_view integer_view part
-text_gone s at h = rw (lt-leb (at + 2) (length s) h)
-
 pub text_is : (s : List ℕ) (at n : ℕ) → n ≡ integer_view s at → eqb n null_length ≡ false → part s (at + 2) n ≡ text_view s at
 unfolding text_view
 text_is s at n e q = rw (sym (null_is s at n e) ∙ q, e)
+
+-- the text, by what is read at the place as its length: none where it is null or not there
+abbrev pub text_of : List ℕ → NumberRead → List ℕ
+text_of s (NumberRead.Refused n) = []
+text_of s (NumberRead.Number value next) = pick (eqb value null_length) [] (part s next value)
+
+pub text_by : (s : List ℕ) (at : ℕ) (r : NumberRead) → integer_at s at ≡ r → text_of s r ≡ text_view s at
+unfolding integer_at integer_view null_view text_view part
+text_by s at r e = ap (text_of s) (sym e) ∙ go (leb (at + 2) (length s))
+  where
+    go : (there : Bool)
+        → text_of s (pick there (NumberRead.Number (integer_in s at) (at + 2)) (NumberRead.Refused cut_short))
+        ≡ pick (eqb (pick there (integer_in s at) 0) null_length) [] (part s (at + 2) (pick there (integer_in s at) 0))
+    go true = refl
+    go false = refl
+
+-- and so by whether it is null
+pub text_shown : (s : List ℕ) (at value next : ℕ) (null : Bool) → integer_at s at ≡ NumberRead.Number value next → eqb value null_length ≡ null
+    → pick null [] (part s next value) ≡ text_view s at
+text_shown s at value next null e q =
+    ap (λ (t : Bool). pick t [] (part s next value)) (sym q) ∙ text_by s at (NumberRead.Number value next) e
 
 -- a header's name, by its first byte
 pub name_is : (s : List ℕ) (at n : ℕ) (there code : Bool) → leb (at + 1) (length s) ≡ there → begins_code (get_or s at 0) ≡ code → n ≡ integer_view s at
     → pick (both there code) (HeaderName.Code n) HeaderName.Spelled ≡ name_view s at
 unfolding name_view
 name_is s at n there code p q e = rw (p, q, e)
+
+-- and so where the byte is there
+pub name_there : (s : List ℕ) (at byte n : ℕ) (code : Bool) → at < length s → byte ≡ get_or s at 0 → begins_code byte ≡ code → n ≡ integer_view s at
+    → pick code (HeaderName.Code n) HeaderName.Spelled ≡ name_view s at
+name_there s at byte n code h e q r = name_is s at n true code (le-leb (at + 1) (length s) (omega arith)) (ap begins_code (sym e) ∙ q) r

@@ -13,16 +13,22 @@ ghost use Rattle.names.specs.Row.{padded};
 use names::attribute::kind_of;
 use names::{NameList, header, table};
 use packet::{AttributeKind, Direction, HeaderName, Name, Part, Place};
-use wire::read::NumberRead;
-use wire::{NULL_LENGTH, has_room, part_of, read};
+use wire::{NULL_LENGTH, part_of, read};
+
+// The byte at an index, 0 where it is not there.
+fn byte_from(packet: &[u8], at: usize) -> u8
+    ensures { result ≡ get_or packet.now at 0 }
+{
+    packet.get(at).copied().unwrap_or(0)
+}
 
 // The integer at an index, 0 where it is not there.
 fn integer_from(packet: &[u8], at: usize) -> u16
     ensures { result ≡ integer_view packet.now at }
 {
     match read::integer(packet, at) {
-        NumberRead::Refused(n) => 0,
-        NumberRead::Number { value, next } => value,
+        Ok(integer) => integer.value,
+        Err(_) => 0,
     }
 }
 
@@ -30,14 +36,12 @@ fn integer_from(packet: &[u8], at: usize) -> u16
 fn text_from(packet: &[u8], at: usize) -> &[u8]
     ensures { result.now ≡ text_view packet.now at }
 {
-    if !has_room(packet.len(), at, 2) {
-        return part_of(packet, 0, 0);
+    match read::integer(packet, at) {
+        Ok(length) if length.value != NULL_LENGTH => {
+            part_of(packet, length.next, length.value as usize)
+        }
+        _ => &[],
     }
-    let n = integer_from(packet, at);
-    if n == NULL_LENGTH {
-        return part_of(packet, 0, 0);
-    }
-    part_of(packet, at + 2, n as usize)
 }
 
 // The integer at a place: an integer attribute's value, a string's length. 0 where it is not there.
@@ -65,22 +69,17 @@ pub fn text_at(packet: &[u8], place: Place) -> &[u8]
 pub fn name_at(packet: &[u8], place: Place) -> HeaderName
     ensures { result ≡ name_view packet.now place.0 }
 {
-    if has_room(packet.len(), place.index(), 1) {
-        if header::begins_code(packet[place.index()]) {
-            return HeaderName::Code(integer_at(packet, place));
-        }
+    match packet.get(place.index()) {
+        Some(first) if header::begins_code(*first) => HeaderName::Code(integer_at(packet, place)),
+        _ => HeaderName::Spelled,
     }
-    HeaderName::Spelled
 }
 
 // The attribute's code at a place, 0 where nothing is there.
 pub fn attribute_code_at(packet: &[u8], place: Place) -> u16
     ensures { result ≡ get_or packet.now place.0 0 }
 {
-    match read::byte(packet, place.index()) {
-        NumberRead::Refused(n) => 0,
-        NumberRead::Number { value, next } => value,
-    }
+    u16::from(byte_from(packet, place.index()))
 }
 
 // The name that an attribute with code 0A brings with it, by the code's place.
@@ -94,11 +93,7 @@ pub fn attribute_name_at(packet: &[u8], place: Place) -> &[u8]
 pub fn attribute_kind_at(packet: &[u8], place: Place) -> AttributeKind
     ensures { result ≡ attribute_kind (get_or packet.now place.0 0) }
 {
-    let at = place.index();
-    if at < packet.len() {
-        return kind_of(packet[at]);
-    }
-    kind_of(0)
+    kind_of(byte_from(packet, place.index()))
 }
 
 // A part of the packet: a delivered body or chunk.
@@ -114,10 +109,7 @@ pub fn bytes_of(packet: &[u8], of: Part) -> &[u8]
 pub fn place_at(list: &[u16], index: usize) -> Place
     ensures { result.0 ≡ get_or list.now index 0 }
 {
-    if index < list.len() {
-        return Place(list[index]);
-    }
-    Place(0)
+    Place(list.get(index).copied().unwrap_or(0))
 }
 
 // The name of a header by its code; none where the direction has no such code.

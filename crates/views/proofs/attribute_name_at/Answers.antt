@@ -1,4 +1,4 @@
--- `reader::view::attribute_name_at` meets its contract, by the index behind the code's.
+-- `views::attribute_name_at` meets its contract, by the index behind the code's.
 -- Assumes nothing.
 use mathlib.Core.Path.{ap, ◌∙◌}
 use Prim.Native.Nat.{ℕ, ◌+◌}

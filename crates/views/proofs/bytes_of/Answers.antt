@@ -1,4 +1,4 @@
--- `reader::view::bytes_of` meets its contract, by the part's start.
+-- `views::bytes_of` meets its contract, by the part's start.
 -- Assumes nothing.
 use mathlib.Core.Path.{ap, ◌∙◌}
 use Prim.Native.Nat.{ℕ}

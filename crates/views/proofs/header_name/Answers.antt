@@ -1,4 +1,4 @@
--- `reader::view::header_name` meets its contract, by the direction's list.
+-- `views::header_name` meets its contract, by the direction's list.
 -- Assumes nothing.
 use mathlib.Core.Path.{ap, ◌∙◌}
 use Rattle.names.specs.Names.{name_for}

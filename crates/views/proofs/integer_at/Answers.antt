@@ -1,4 +1,4 @@
--- `reader::view::integer_at` meets its contract, by the place's index.
+-- `views::integer_at` meets its contract, by the place's index.
 -- Assumes nothing.
 use mathlib.Core.Path.{ap, ◌∙◌}
 use Rattle.views.specs.View.{integer_view}

@@ -1,43 +1,28 @@
--- `reader::view::name_at` meets its contract, by the name's first byte.
+-- `views::name_at` meets its contract, by the name's first byte.
 -- Assumes nothing.
 use native.Mathlib.Omega.{arith}
-use mathlib.Core.Path.{◌≡◌, refl, sym, ◌∙◌}
+use Prim.Native.Nat.{◌≤◌}
+use lib.ListN.{length}
+use mathlib.Core.Path.{refl, sym, ap, ◌∙◌}
 use mathlib.Core.Bool.{true, false}
-use Prim.Native.Nat.{◌+◌, ◌≤◌}
-use lib.Dec.{leb}
-use lib.ListN.{length, get_or}
-use Rattle.wire.proofs.Bytes.{room_yes}
-use Rattle.names.specs.Header.{begins_code}
-use Rattle.views.proofs.Laws.{name_is}
+use borrow.Author.Tests.{lt-leb}
+use Rattle.views.specs.View.{integer_view, name_view}
+use Rattle.views.proofs.Laws.{name_is, name_there}
 use Rattle.views.proofs.name_at.Goals as goal
 
-pub bounds-packet-index : goal.bounds-packet-index
-bounds-packet-index c =
-    let a = c.args in
-    let h : c.index.result + 1 ≤ length a.packet.now = room_yes _ _ _ c.has_room.ensures c.if-has_room.true in
-    omega (arith, h, c.index.ensures, c.index-then-has_room.ensures)
+pub returns-in-Some : goal.returns-in-Some
+returns-in-Some c =
+    let there = c.in-Some.ensures.lookup.3 in
+    name_there _ _ _ _ true there.0 (there.1 0) (sym c.begins_code.ensures ∙ c.if-begins_code.true)
+    (c.integer_at.ensures ∙ ap (integer_view _) (sym c.index.ensures))
+    ∙ ap (name_view _) c.index.ensures
 
-pub returns-then-begins_code : goal.returns-then-begins_code
-returns-then-begins_code c =
-    let a = c.args in
-    let there : leb (a.place.0 + 1) (length a.packet.now) ≡ true =
-    rw c.index.ensures at (sym c.has_room.ensures ∙ c.if-has_room.true) in
-    let code : begins_code (get_or a.packet.now a.place.0 0) ≡ true =
-    rw c.index-then-has_room.ensures at (sym c.begins_code.ensures ∙ c.if-begins_code.true) in
-    name_is a.packet.now a.place.0 _ true true there code c.integer_at.ensures
+pub returns-in_default : goal.returns-in_default
+returns-in_default c =
+    let there = c.in-Some.ensures.lookup.3 in
+    name_there _ _ _ _ false there.0 (there.1 0) (sym c.begins_code.ensures ∙ c.if-begins_code.false) refl ∙ ap (name_view _) c.index.ensures
 
-pub returns-else-begins_code : goal.returns-else-begins_code
-returns-else-begins_code c =
-    let a = c.args in
-    let there : leb (a.place.0 + 1) (length a.packet.now) ≡ true =
-    rw c.index.ensures at (sym c.has_room.ensures ∙ c.if-has_room.true) in
-    let code : begins_code (get_or a.packet.now a.place.0 0) ≡ false =
-    rw c.index-then-has_room.ensures at (sym c.begins_code.ensures ∙ c.if-begins_code.false) in
-    name_is a.packet.now a.place.0 _ true false there code refl
-
-pub returns-else-has_room : goal.returns-else-has_room
-returns-else-has_room c =
-    let a = c.args in
-    let there : leb (a.place.0 + 1) (length a.packet.now) ≡ false =
-    rw c.index.ensures at (sym c.has_room.ensures ∙ c.if-has_room.false) in
-    name_is a.packet.now a.place.0 _ false _ there refl refl
+pub returns-in_default-2 : goal.returns-in_default-2
+returns-in_default-2 c =
+    let past : length c.args.packet.now ≤ c.index.result = rw c.in_default.is at c.get.ensures.lookup.3 in
+    name_is _ _ _ false _ (lt-leb _ _ (omega (arith, past))) refl refl ∙ ap (name_view _) c.index.ensures
