@@ -27,8 +27,8 @@ use Rattle.places.specs.Entries.{max_headers, max_places}
 use Rattle.payload.specs.Code.{code_of, code_kind, kind_at}
 use Rattle.payload.specs.Kinds.{packet_at, packet_kind}
 use Rattle.payload.specs.declared.Context.{Context}
-use Rattle.payload.specs.declared.KindRead.{KindRead}
-use Rattle.payload.specs.declared.found.PacketRead.{PacketRead}
+use Rattle.payload.specs.Read.{KindRead}
+use Rattle.payload.specs.Read.{PacketRead}
 use Rattle.payload.proofs.Laws.{kind_is}
 use Rattle.payload.proofs.Parsed.{parsed_kind}
 use Rattle.building.specs.Fault.{unless, or_else, fit_fault}

@@ -36,7 +36,7 @@ use Rattle.places.specs.Entries.{max_places}
 use Rattle.payload.specs.Forward.{forward_at}
 use Rattle.payload.specs.SendHeaders.{send_headers_at}
 use Rattle.payload.specs.Kinds.{packet_at, packet_kind}
-use Rattle.payload.specs.declared.found.PacketRead.{PacketRead}
+use Rattle.payload.specs.Read.{PacketRead}
 use Rattle.payload.specs.Handed.{StringEnds, NameEnds, StringThere, HeadersHanded, ValueThere, AttributesHanded}
 use Rattle.payload.proofs.Handed.{NameFine, name_fine, forward_handed, send_headers_handed}
 use Rattle.building.specs.Fault.{string_fault, first_fault}

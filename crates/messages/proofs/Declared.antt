@@ -32,7 +32,7 @@ use Rattle.packet.specs.declared.Forward.{Forward}
 use Rattle.packet.specs.declared.Packet.{Packet}
 use Rattle.payload.specs.Forward.{forward_at}
 use Rattle.payload.specs.Kinds.{packet_at, packet_kind}
-use Rattle.payload.specs.declared.found.PacketRead.{PacketRead}
+use Rattle.payload.specs.Read.{PacketRead}
 use Rattle.payload.specs.Handed.{NameEnds, declares_read, HeadersHanded}
 use Rattle.payload.proofs.Handed.{NameFine, name_fine, forward_handed}
 use Rattle.reader.specs.Meaning.{accepted, body_declared}

@@ -24,8 +24,8 @@ use Rattle.payload.specs.Sequence.{after_code, behind, string_as_field, string_f
 use Rattle.payload.specs.Lists.{headers_after, lists_at}
 use Rattle.payload.specs.Forward.{first_method, last_method, ForwardReads, forward_reads, forward_of, forward_at}
 use Rattle.payload.specs.SendHeaders.{least_status, greatest_status, SendHeadersReads, send_headers_reads, send_headers_of, send_headers_at}
-use Rattle.payload.specs.declared.field.FieldRead.{FieldRead}
-use Rattle.payload.specs.declared.found.PacketRead.{PacketRead}
+use Rattle.payload.specs.Read.{FieldRead}
+use Rattle.payload.specs.Read.{PacketRead}
 use Rattle.building.specs.Fault.{unless, or_else, first_fault, string_fault, range_fault}
 use Rattle.building.specs.Field.{opening, faults_of}
 use Rattle.building.proofs.Sizes.{boolean_one}

@@ -24,7 +24,7 @@ use Rattle.connection.specs.declared.Kind.{Kind}
 use Rattle.connection.specs.declared.Move.{Move}
 use Rattle.payload.specs.Code.{kind_of_code, kind_at}
 use Rattle.payload.specs.Kinds.{packet_kind}
-use Rattle.payload.specs.declared.KindRead.{KindRead}
+use Rattle.payload.specs.Read.{KindRead}
 use Rattle.payload.proofs.Handed.{forward_head}
 use Rattle.building.specs.Call.{refusal_of, outcome}
 use Rattle.building.proofs.Calls.{fits_done}

@@ -20,7 +20,7 @@ use Rattle.places.specs.Entries.{max_places}
 use Rattle.payload.specs.Code.{code_of, kind_at}
 use Rattle.payload.specs.Kinds.{packet_kind, packet_move}
 use Rattle.payload.specs.declared.Context.{Context}
-use Rattle.payload.specs.declared.KindRead.{KindRead}
+use Rattle.payload.specs.Read.{KindRead}
 use Rattle.packet.specs.declared.Part.{Part}
 use Rattle.packet.specs.declared.Forward.{Forward}
 use Rattle.packet.specs.declared.SendHeaders.{SendHeaders}

@@ -36,7 +36,7 @@ use Rattle.payload.specs.Body.{body_start, body_of_size, body_at}
 use Rattle.payload.specs.BodyChunk.{chunk_start}
 use Rattle.packet.specs.declared.Part.{Part}
 use Rattle.packet.specs.declared.Packet.{Packet}
-use Rattle.payload.specs.declared.found.PacketRead.{PacketRead}
+use Rattle.payload.specs.Read.{PacketRead}
 use Rattle.payload.proofs.Laws.{get_is, chunk_is, chunk_closed, body_is, body_sized, sized_by}
 use Rattle.payload.specs.Handed.{BareHanded}
 use Rattle.payload.proofs.Handed.{bare_handed, get_handed, end_handed, body_handed_lem, chunk_handed}

@@ -35,9 +35,9 @@ use Rattle.places.specs.Entries.{max_places}
 use Rattle.payload.specs.Code.{code_of, code_kind, kind_of_code, kind_at, ping_code, shutdown_code}
 use Rattle.payload.specs.Kinds.{packet_at, packet_kind, packet_move}
 use Rattle.payload.specs.declared.Context.{Context}
-use Rattle.payload.specs.declared.KindRead.{KindRead}
+use Rattle.payload.specs.Read.{KindRead}
 use Rattle.packet.specs.declared.Packet.{Packet}
-use Rattle.payload.specs.declared.found.PacketRead.{PacketRead}
+use Rattle.payload.specs.Read.{PacketRead}
 use Rattle.payload.proofs.Laws.{kind_is, code_found, kind_direction}
 use Rattle.payload.proofs.Parsed.{parsed_kind, move_kind_lem}
 use Rattle.building_record.specs.Record as building

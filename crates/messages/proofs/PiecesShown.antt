@@ -24,7 +24,7 @@ use Rattle.payload.specs.SendHeaders.{send_headers_at, greatest_status, least_st
 use Rattle.packet.specs.declared.Forward.{Forward}
 use Rattle.packet.specs.declared.SendHeaders.{SendHeaders}
 use Rattle.packet.specs.declared.Packet.{Packet}
-use Rattle.payload.specs.declared.found.PacketRead.{PacketRead}
+use Rattle.payload.specs.Read.{PacketRead}
 use Rattle.payload.proofs.Handed.{forward_handed, send_headers_handed}
 use Rattle.building.specs.Field.{opening, faults_of, fields_bytes}
 use Rattle.building.proofs.Sizes.{boolean_one}

@@ -18,7 +18,7 @@ use Rattle.packet.specs.declared.Forward.{Forward}
 use Rattle.packet.specs.declared.SendHeaders.{SendHeaders}
 use Rattle.packet.specs.declared.Packet.{Packet}
 use Rattle.payload.specs.declared.Context.{Context}
-use Rattle.payload.specs.declared.found.PacketRead.{PacketRead}
+use Rattle.payload.specs.Read.{PacketRead}
 use Rattle.payload.proofs.Parsed.{parsed_kind}
 use Rattle.payload.proofs.Handed.{forward_handed, send_headers_handed}
 use Rattle.reader.specs.Meaning.{accepted, headers_in, attributes_in}

@@ -30,8 +30,8 @@ use Rattle.connection.specs.declared.Move.{Move}
 use Rattle.payload.specs.Code.{code_of, code_kind, kind_of_code, kind_at}
 use Rattle.payload.specs.Kinds.{packet_kind, packet_move}
 use Rattle.payload.specs.Body.{body_start, body_of_size, body_at}
-use Rattle.payload.specs.declared.KindRead.{KindRead}
-use Rattle.payload.specs.declared.found.PacketRead.{PacketRead}
+use Rattle.payload.specs.Read.{KindRead}
+use Rattle.payload.specs.Read.{PacketRead}
 use Rattle.payload.proofs.Laws.{body_sized, sized_by}
 use Rattle.reader.specs.Frame.{frame_at}
 use Rattle.reader.specs.Meaning.{refused, accepted}

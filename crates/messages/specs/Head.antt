@@ -19,8 +19,8 @@ use Rattle.connection.specs.declared.Move.{Move}
 use Rattle.payload.specs.BodyChunk.{chunk_start, chunk_at}
 use Rattle.payload.specs.Code.{kind_of_code}
 use Rattle.payload.specs.Packet.{part_from}
-use Rattle.payload.specs.declared.KindRead.{KindRead}
-use Rattle.payload.specs.declared.found.PacketRead.{PacketRead}
+use Rattle.payload.specs.Read.{KindRead}
+use Rattle.payload.specs.Read.{PacketRead}
 use Rattle.building.specs.Call.{refused, done, outcome}
 use Rattle.building.specs.Sent.{Written}
 use Rattle.building_record.specs.declared.Building.{Building}

@@ -17,7 +17,7 @@ use Rattle.wire.proofs.Tests.{both_second}
 use Rattle.wire.specs.Facts.{StringInside}
 use Rattle.wire.proofs.Field.{string_inside}
 use Rattle.connection.specs.Connection.{max_packet}
-use Rattle.payload.specs.declared.field.FieldRead.{FieldRead}
+use Rattle.payload.specs.Read.{FieldRead}
 use Rattle.payload.specs.Sequence.{behind, string_as_field, string_field_at, string_after, bounded, integer_after, field_number}
 use Rattle.payload.specs.Facts.{FieldInside}
 use Rattle.payload.specs.Private.{Within, Counts}

@@ -17,17 +17,19 @@ use Rattle.packet.specs.declared.Direction.{Direction}
 use Rattle.wire.specs.declared.StringField.{StringField}
 use Rattle.wire.specs.Read.{NumberRead}
 use Rattle.wire.specs.Read.{BooleanRead}
-use Rattle.wire.specs.Read.{StringRead}
+use Rattle.wire.specs.Read.{StringRead, text_meaning}
+use Rattle.wire.specs.declared.read.Span.{Span}
+use Rattle.std.specs.Prelude.{Option, Some, None}
 use Rattle.wire.proofs.Field.{number_short}
 use Rattle.connection.specs.declared.Kind.{Kind}
 use Rattle.connection.specs.Cycle.{direction_of}
 use Rattle.payload.specs.declared.Context.{Context}
-use Rattle.payload.specs.declared.KindRead.{KindRead}
+use Rattle.payload.specs.Read.{KindRead}
 use Rattle.packet.specs.declared.Packet.{Packet}
-use Rattle.payload.specs.declared.found.PacketRead.{PacketRead}
-use Rattle.payload.specs.declared.field.FieldRead.{FieldRead}
+use Rattle.payload.specs.Read.{PacketRead}
+use Rattle.payload.specs.Read.{FieldRead}
 use Rattle.payload.specs.Code.{code_of, shutdown_code, ping_code, code_kind, kind_of_code, kind_at}
-use Rattle.payload.specs.Sequence.{number_as_field, any_integer_after, bounded, byte_after, integer_after, string_as_field, string_field_at, boolean_as_field, boolean_field_at}
+use Rattle.payload.specs.Sequence.{string_after, boolean_after, number_as_field, any_integer_after, bounded, byte_after, integer_after, string_as_field, string_field_at, boolean_as_field, boolean_field_at}
 use Rattle.payload.specs.Packet.{part_from, finished}
 use Rattle.payload.specs.End.{end_of, end_at}
 use Rattle.payload.specs.GetBody.{get_of, get_at}
@@ -46,6 +48,13 @@ pub string_field_is : (s : List ℕ) (field : StringField) (at : ℕ) (optional 
     → string_at s at optional ≡ r → string_field_at s field at ≡ string_as_field at r
 unfolding string_field_at
 string_field_is s field at optional r p q = ap (string_as_field at) (ap (string_at s at) (sym p) ∙ q)
+
+-- and a string that was read, null or not, is a field without a number
+pub string_field_read : (s : List ℕ) (field : StringField) (at : ℕ) (value : Option Span) (next : ℕ) → string_at s at (is_optional field) ≡ text_meaning value next
+    → FieldRead.Field at 0 next ≡ string_field_at s field at
+unfolding string_field_at
+string_field_read s field at None next e = sym (ap (string_as_field at) e)
+string_field_read s field at (Some span) next e = sym (ap (string_as_field at) e)
 
 -- a boolean as a field, by what it reads as
 pub boolean_field_is : (s : List ℕ) (at : ℕ) (r : BooleanRead) → boolean_at s at ≡ r → boolean_field_at s at ≡ boolean_as_field at r
@@ -199,3 +208,21 @@ pub kind_direction : (context : Context) (s : List ℕ) (k : Kind) → kind_at c
     → direction_of k ≡ context.direction
 kind_direction context s k e f =
     subst (Goes context.direction) (sym (kind_is context false s (byte_at s code_place) f refl) ∙ e) (code_read_goes context.direction (byte_at s code_place))
+
+-- behind a refused field every field is refused with the same number
+module _ (s : List ℕ) (n : ℕ) where
+  pub string_stays : (field : StringField) → FieldRead.Refused n ≡ string_after s field (FieldRead.Refused n)
+  unfolding string_after
+  string_stays field = refl
+
+  pub boolean_stays : FieldRead.Refused n ≡ boolean_after s (FieldRead.Refused n)
+  unfolding boolean_after
+  boolean_stays = refl
+
+  pub any_integer_stays : FieldRead.Refused n ≡ any_integer_after s (FieldRead.Refused n)
+  unfolding any_integer_after
+  any_integer_stays = refl
+
+  pub integer_stays : (low high fault : ℕ) → FieldRead.Refused n ≡ integer_after s low high fault (FieldRead.Refused n)
+  unfolding integer_after
+  integer_stays low high fault = refl

@@ -20,8 +20,9 @@ use Rattle.headers.specs.Headers.{headers_at}
 use Rattle.headers.specs.Read.{HeadersRead}
 use Rattle.attributes.specs.Attributes.{attributes_at}
 use Rattle.attributes.specs.Attributes.{AttributesRead}
-use Rattle.payload.specs.declared.field.FieldRead.{FieldRead}
-use Rattle.payload.specs.declared.lists.ListsRead.{ListsRead}
+use Rattle.payload.specs.Read.{FieldRead}
+use Rattle.payload.specs.Read.{ListsRead}
+use Rattle.payload.specs.Read.{PacketRead}
 use Rattle.payload.specs.Sequence.{after_code, string_after, boolean_after, byte_after, any_integer_after, integer_after, field_number}
 use Rattle.payload.specs.Lists.{headers_after, lists_of, attributes_behind, behind_headers, lists_at}
 use Rattle.payload.specs.Forward.{first_method, last_method, ForwardReads, forward_reads, forward_of, forward_at}
@@ -135,3 +136,46 @@ pub send_headers_is : (s entry exit : List ℕ) {code : FieldRead} {reads : Send
     → (send_headers_of (length s) reads found ≡ (send_headers_at s).end) × (exit ≡ over entry 0 (send_headers_at s).places)
 unfolding send_headers_at send_headers_reads
 send_headers_is s entry exit e0 e1 e2 e3 e holds so = (rw (← so, e, e3, e2, e1, e0), rw (e3, e2, e1, e0) at holds)
+
+-- a Forward one of whose fixed fields is refused, and so the count of its headers
+pub forward_stops : (s entry : List ℕ) (n : ℕ) {code method protocol uri addr host name port ssl headers : FieldRead}
+    → code ≡ after_code
+    → method ≡ byte_after s first_method last_method out_of_range code
+    → protocol ≡ string_after s StringField.Protocol method
+    → uri ≡ string_after s StringField.ReqUri protocol
+    → addr ≡ string_after s StringField.RemoteAddr uri
+    → host ≡ string_after s StringField.RemoteHost addr
+    → name ≡ string_after s StringField.ServerName host
+    → port ≡ any_integer_after s name
+    → ssl ≡ boolean_after s port
+    → headers ≡ integer_after s 0 max_headers too_many ssl
+    → headers ≡ FieldRead.Refused n
+    → (PacketRead.Refused n ≡ (forward_at s).end) × (entry ≡ over entry 0 (forward_at s).places)
+forward_stops s entry n {code} {method} {protocol} {uri} {addr} {host} {name} {port} {ssl} {headers} e0 e1 e2 e3 e4 e5 e6 e7 e8 e9 so =
+    let none = headers_refused Direction.ToContainer s headers entry n so in
+    let lists = lists_refused s headers entry entry none.1 n none.0 in
+    let reads : ForwardReads = record {
+      method = method;
+      protocol = protocol;
+      uri = uri;
+      addr = addr;
+      host = host;
+      name = name;
+      port = port;
+      ssl = ssl;
+      headers = headers;
+    } in
+    forward_is s entry entry {reads = reads} e0 e1 e2 e3 e4 e5 e6 e7 e8 e9 lists.0 lists.1 refl
+
+-- a Send Headers one of whose fixed fields is refused
+pub send_headers_stop : (s entry : List ℕ) (n : ℕ) {code status message headers : FieldRead}
+    → code ≡ after_code
+    → status ≡ integer_after s least_status greatest_status out_of_range code
+    → message ≡ string_after s StringField.Message status
+    → headers ≡ integer_after s 0 max_headers too_many message
+    → headers ≡ FieldRead.Refused n
+    → (PacketRead.Refused n ≡ (send_headers_at s).end) × (entry ≡ over entry 0 (send_headers_at s).places)
+send_headers_stop s entry n {code} {status} {message} {headers} e0 e1 e2 e3 so =
+    let none = headers_refused Direction.ToServer s headers entry n so in
+    let reads : SendHeadersReads = record { status = status; message = message; headers = headers } in
+    send_headers_is s entry entry {reads = reads} e0 e1 e2 e3 none.0 none.1 refl

@@ -17,9 +17,9 @@ use Rattle.connection.specs.declared.Kind.{Kind}
 use Rattle.connection.specs.Cycle.{move_kind}
 use Rattle.headers.specs.Read.{HeadersRead}
 use Rattle.packet.specs.declared.Packet.{Packet}
-use Rattle.payload.specs.declared.lists.ListsRead.{ListsRead}
+use Rattle.payload.specs.Read.{ListsRead}
 use Rattle.payload.specs.declared.Context.{Context}
-use Rattle.payload.specs.declared.found.PacketRead.{PacketRead}
+use Rattle.payload.specs.Read.{PacketRead}
 use Rattle.payload.specs.Packet.{part_from, finished}
 use Rattle.payload.specs.End.{end_of, end_at}
 use Rattle.payload.specs.GetBody.{get_of, get_at}

@@ -25,11 +25,11 @@ use Rattle.headers.proofs.Refusals.{HeadersRefusal, headers_refusal}
 use Rattle.attributes.specs.Attributes.{attributes_at}
 use Rattle.attributes.specs.Attributes.{AttributesRead}
 use Rattle.attributes.proofs.Refusals.{AttributesRefusal, attributes_refusal}
-use Rattle.payload.specs.declared.KindRead.{KindRead}
-use Rattle.payload.specs.declared.field.FieldRead.{FieldRead}
-use Rattle.payload.specs.declared.lists.ListsRead.{ListsRead}
+use Rattle.payload.specs.Read.{KindRead}
+use Rattle.payload.specs.Read.{FieldRead}
+use Rattle.payload.specs.Read.{ListsRead}
 use Rattle.payload.specs.declared.Context.{Context}
-use Rattle.payload.specs.declared.found.PacketRead.{PacketRead}
+use Rattle.payload.specs.Read.{PacketRead}
 use Rattle.payload.specs.Code.{kind_of_code, kind_at}
 use Rattle.payload.specs.Sequence.{after_code, behind, string_as_field, string_field_at, string_after, boolean_as_field, boolean_field_at, boolean_after, number_as_field, any_integer_after, bounded, byte_after, integer_after}
 use Rattle.payload.specs.Packet.{part_from, finished}

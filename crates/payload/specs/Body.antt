@@ -9,7 +9,7 @@ use Rattle.wire.specs.Field.{integer_at}
 use Rattle.wire.specs.Read.{NumberRead}
 use Rattle.packet.specs.declared.Part.{Part}
 use Rattle.packet.specs.declared.Packet.{Packet}
-use Rattle.payload.specs.declared.found.PacketRead.{PacketRead}
+use Rattle.payload.specs.Read.{PacketRead}
 use Rattle.payload.specs.Packet.{part_from}
 use Rattle.wire.specs.Packet.{payload_place}
 

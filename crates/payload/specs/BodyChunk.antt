@@ -7,7 +7,7 @@ use Rattle.wire.specs.Refusal.{cut_short, string_wrong}
 use Rattle.wire.specs.Field.{integer_at}
 use Rattle.wire.specs.Read.{NumberRead}
 use Rattle.packet.specs.declared.Packet.{Packet}
-use Rattle.payload.specs.declared.found.PacketRead.{PacketRead}
+use Rattle.payload.specs.Read.{PacketRead}
 use Rattle.payload.specs.Packet.{part_from, finished}
 use Rattle.wire.specs.Packet.{after_code_place}
 

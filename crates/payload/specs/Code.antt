@@ -9,7 +9,7 @@ use Rattle.packet.specs.declared.Direction.{Direction}
 use Rattle.wire.specs.Read.{NumberRead}
 use Rattle.connection.specs.declared.Kind.{Kind}
 use Rattle.payload.specs.declared.Context.{Context}
-use Rattle.payload.specs.declared.KindRead.{KindRead}
+use Rattle.payload.specs.Read.{KindRead}
 use Rattle.wire.specs.Packet.{code_place}
 
 -- the code of a kind; a body packet has none, and 0, which is no kind's code, stands for that

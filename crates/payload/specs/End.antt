@@ -5,7 +5,7 @@ use Rattle.std.specs.Prelude.{List, ℕ, length}
 use Rattle.wire.specs.Field.{boolean_at}
 use Rattle.wire.specs.Read.{BooleanRead}
 use Rattle.packet.specs.declared.Packet.{Packet}
-use Rattle.payload.specs.declared.found.PacketRead.{PacketRead}
+use Rattle.payload.specs.Read.{PacketRead}
 use Rattle.payload.specs.Packet.{finished}
 use Rattle.wire.specs.Packet.{after_code_place}
 

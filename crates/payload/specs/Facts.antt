@@ -4,7 +4,7 @@ use Rattle.std.specs.Prelude.{◌≡◌, List, ℕ, ◌+◌, ◌≤◌, ◌<◌,
 use Rattle.places.specs.Entries.{max_headers, max_attributes}
 use Rattle.packet.specs.declared.Forward.{Forward}
 use Rattle.packet.specs.declared.SendHeaders.{SendHeaders}
-use Rattle.payload.specs.declared.field.FieldRead.{FieldRead}
+use Rattle.payload.specs.Read.{FieldRead}
 
 -- a field that lies inside a packet of `size` bytes: its place is before the end, and the place after it is the end or before it
 abbrev pub FieldInside : ℕ → FieldRead → Type 0

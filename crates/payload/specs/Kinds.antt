@@ -10,7 +10,7 @@ use Rattle.connection.specs.declared.ForwardMove.{ForwardMove}
 use Rattle.packet.specs.declared.Forward.{Forward}
 use Rattle.packet.specs.declared.Packet.{Packet}
 use Rattle.payload.specs.declared.Context.{Context}
-use Rattle.payload.specs.declared.found.PacketRead.{PacketRead}
+use Rattle.payload.specs.Read.{PacketRead}
 use Rattle.payload.specs.Bare.{bare_at}
 use Rattle.payload.specs.End.{end_at}
 use Rattle.payload.specs.GetBody.{get_at}

@@ -1,3 +1,4 @@
+pub mod Read
 pub mod Code
 pub mod Sequence
 pub mod Packet

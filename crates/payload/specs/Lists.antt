@@ -12,8 +12,8 @@ use Rattle.headers.specs.Headers.{headers_at}
 use Rattle.headers.specs.Read.{HeadersRead}
 use Rattle.attributes.specs.Attributes.{attributes_at}
 use Rattle.attributes.specs.Attributes.{AttributesRead}
-use Rattle.payload.specs.declared.field.FieldRead.{FieldRead}
-use Rattle.payload.specs.declared.lists.ListsRead.{ListsRead}
+use Rattle.payload.specs.Read.{FieldRead}
+use Rattle.payload.specs.Read.{ListsRead}
 
 -- the headers behind their count
 unfoldable pub headers_after : Direction → List ℕ → FieldRead → Entries HeadersRead

@@ -6,7 +6,7 @@ use Rattle.wire.specs.Pick.{pick}
 use Rattle.wire.specs.Refusal.{left_over}
 use Rattle.packet.specs.declared.Part.{Part}
 use Rattle.packet.specs.declared.Packet.{Packet}
-use Rattle.payload.specs.declared.found.PacketRead.{PacketRead}
+use Rattle.payload.specs.Read.{PacketRead}
 
 -- a part of a packet, by where it starts and how many bytes it has
 abbrev pub part_from : ℕ → ℕ → Part

@@ -1,7 +1,7 @@
 -- What the functions that read fixed fields ask of one another. Whoever reads the promises of the public calls needs none of these.
 -- Assumes nothing.
 use Rattle.std.specs.Prelude.{ℕ, ◌≤◌}
-use Rattle.payload.specs.declared.field.FieldRead.{FieldRead}
+use Rattle.payload.specs.Read.{FieldRead}
 
 -- a field whose place is at most this, or refused
 abbrev pub Within : ℕ → FieldRead → Type 0

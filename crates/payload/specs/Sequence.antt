@@ -9,7 +9,7 @@ use Rattle.wire.specs.Read.{NumberRead}
 use Rattle.wire.specs.Read.{BooleanRead}
 use Rattle.wire.specs.Read.{StringRead}
 use Rattle.packet.specs.declared.Place.{Place}
-use Rattle.payload.specs.declared.field.FieldRead.{FieldRead}
+use Rattle.payload.specs.Read.{FieldRead}
 use Rattle.wire.specs.Packet.{code_place, after_code_place}
 
 -- the code, which was judged before: the first field is behind it

@@ -1,18 +1,18 @@
 // End: whether the connection is used again.
 ghost use Rattle.std.specs.Prelude.{◌≡◌};
+ghost use Rattle.payload.specs.Read.{packet_meaning};
 ghost use Rattle.payload.specs.End.{end_at};
 
-use crate::found::{PacketRead, finished};
+use crate::found::finished;
 use packet::Packet;
 use wire::AFTER_CODE_PLACE;
-use wire::read::{BooleanRead, boolean};
+use wire::read::boolean;
+use wire::refusal::Refusal;
 
 // Reads an End.
-pub fn read(packet: &[u8]) -> PacketRead
-    ensures { result ≡ end_at packet.now }
+pub fn read(packet: &[u8]) -> Result<Packet, Refusal>
+    ensures { packet_meaning result ≡ end_at packet.now }
 {
-    match boolean(packet, AFTER_CODE_PLACE) {
-        BooleanRead::Refused(n) => PacketRead::Refused(n),
-        BooleanRead::Boolean { value, next } => finished(packet.len(), next, Packet::End(value)),
-    }
+    let reuse = boolean(packet, AFTER_CODE_PLACE)?;
+    finished(packet.len(), reuse.next, Packet::End(reuse.value))
 }

@@ -1,25 +1,39 @@
-// The fixed fields of a packet, one after the other: each is read where the one before it ends, and a refusal stays.
-ghost use Rattle.std.specs.Prelude.{◌≡◌};
+// The fixed fields of a packet, one after the other: each is read where the one before it ends.
+ghost use Rattle.std.specs.Prelude.{◌≡◌, ◌≤◌};
+ghost use Rattle.wire.specs.Refusal.{number_of};
+ghost use Rattle.wire.specs.Read.{NumberRead};
 ghost use Rattle.connection.specs.Connection.{max_packet};
-ghost use Rattle.payload.specs.Sequence.{after_code, bounded, string_field_at, string_after, boolean_field_at, boolean_after, byte_after, number_as_field, any_integer_after, integer_after, field_place, field_number};
-ghost use Rattle.payload.specs.Private.{Within};
+ghost use Rattle.payload.specs.Read.{placed, field_meaning};
+ghost use Rattle.payload.specs.Sequence.{after_code, bounded, string_after, boolean_after, byte_after, any_integer_after, integer_after};
 
 use packet::Place;
-use wire::read::{BooleanRead, NumberRead, StringRead};
+use wire::read::Field;
+use wire::refusal::Refusal;
 use wire::{AFTER_CODE_PLACE, CODE_PLACE, StringField, read};
 
-// A field: refused, or its place, its number (0 for a string) and the place after it.
+// A field as read: its place, its number, 0 for a string, and the place after it.
 #[derive(Clone, Copy)]
-pub enum FieldRead {
-    Refused(u8),
-    Field { at: usize, value: u16, next: usize },
+pub struct Placed {
+    pub at: usize,
+    pub value: u16,
+    pub next: usize,
+}
+
+impl Placed {
+    // The field's place in its packet.
+    pub fn place(self) -> Place
+        requires { self.at ≤ max_packet }
+        ensures { result.0 ≡ self.at }
+    {
+        Place(self.at as u16)
+    }
 }
 
 // The code, which was judged before: the first field is behind it.
-pub fn after_code() -> FieldRead
-    ensures { result ≡ after_code }
+pub fn after_code() -> Placed
+    ensures { placed result ≡ after_code }
 {
-    FieldRead::Field {
+    Placed {
         at: CODE_PLACE,
         value: 0,
         next: AFTER_CODE_PLACE,
@@ -27,137 +41,84 @@ pub fn after_code() -> FieldRead
 }
 
 // The string behind a field.
-pub fn string_after(packet: &[u8], field: StringField, before: FieldRead) -> FieldRead
-    ensures { result ≡ string_after packet.now field before }
+pub fn string_after(packet: &[u8], field: StringField, before: Placed) -> Result<Placed, Refusal>
+    ensures { field_meaning result ≡ string_after packet.now field (placed before) }
 {
-    match before {
-        FieldRead::Refused(n) => FieldRead::Refused(n),
-        FieldRead::Field { at, value, next } => string_at(packet, field, next),
-    }
-}
-
-// The string at a place, as a field.
-fn string_at(packet: &[u8], field: StringField, place: usize) -> FieldRead
-    ensures { result ≡ string_field_at packet.now field place }
-{
-    match read::string(packet, place, field) {
-        StringRead::Refused(n) => FieldRead::Refused(n),
-        StringRead::Null { next } => FieldRead::Field {
-            at: place,
-            value: 0,
-            next,
-        },
-        StringRead::Text { start, len, next } => FieldRead::Field {
-            at: place,
-            value: 0,
-            next,
-        },
-    }
+    let at = before.next;
+    let string = read::string(packet, at, field)?;
+    Ok(Placed {
+        at,
+        value: 0,
+        next: string.next,
+    })
 }
 
 // The boolean behind a field; its number is 1 for true.
-pub fn boolean_after(packet: &[u8], before: FieldRead) -> FieldRead
-    ensures { result ≡ boolean_after packet.now before }
+pub fn boolean_after(packet: &[u8], before: Placed) -> Result<Placed, Refusal>
+    ensures { field_meaning result ≡ boolean_after packet.now (placed before) }
 {
-    match before {
-        FieldRead::Refused(n) => FieldRead::Refused(n),
-        FieldRead::Field { at, value, next } => boolean_at(packet, next),
-    }
-}
-
-// The boolean at a place, as a field.
-fn boolean_at(packet: &[u8], place: usize) -> FieldRead
-    ensures { result ≡ boolean_field_at packet.now place }
-{
-    match read::boolean(packet, place) {
-        BooleanRead::Refused(n) => FieldRead::Refused(n),
-        BooleanRead::Boolean { value, next } => FieldRead::Field {
-            at: place,
-            value: value as u16,
-            next,
-        },
-    }
+    let at = before.next;
+    let Field { value, next } = read::boolean(packet, at)?;
+    Ok(Placed {
+        at,
+        value: value as u16,
+        next,
+    })
 }
 
 // The byte behind a field, which is from `low` to `high`, else it is refused with `fault`.
-pub fn byte_after(packet: &[u8], low: u16, high: u16, fault: u8, before: FieldRead) -> FieldRead
-    ensures { result ≡ byte_after packet.now low high fault before }
+pub fn byte_after(
+    packet: &[u8],
+    low: u16,
+    high: u16,
+    fault: Refusal,
+    before: Placed,
+) -> Result<Placed, Refusal>
+    ensures { field_meaning result ≡ byte_after packet.now low high (number_of fault) (placed before) }
 {
-    match before {
-        FieldRead::Refused(n) => FieldRead::Refused(n),
-        FieldRead::Field { at, value, next } => {
-            bounded(next, low, high, fault, read::byte(packet, next))
-        }
-    }
+    let at = before.next;
+    bounded(at, low, high, fault, read::byte(packet, at)?)
 }
 
 // The integer behind a field, which may be any.
-pub fn any_integer_after(packet: &[u8], before: FieldRead) -> FieldRead
-    ensures { result ≡ any_integer_after packet.now before }
+pub fn any_integer_after(packet: &[u8], before: Placed) -> Result<Placed, Refusal>
+    ensures { field_meaning result ≡ any_integer_after packet.now (placed before) }
 {
-    match before {
-        FieldRead::Refused(n) => FieldRead::Refused(n),
-        FieldRead::Field { at, value, next } => number_field(next, read::integer(packet, next)),
-    }
-}
-
-// A number as read at a place, as a field.
-fn number_field(at: usize, number: NumberRead) -> FieldRead
-    ensures { result ≡ number_as_field at number }
-{
-    match number {
-        NumberRead::Refused(n) => FieldRead::Refused(n),
-        NumberRead::Number { value, next } => FieldRead::Field { at, value, next },
-    }
+    let at = before.next;
+    let Field { value, next } = read::integer(packet, at)?;
+    Ok(Placed { at, value, next })
 }
 
 // The integer behind a field, which is from `low` to `high`, else it is refused with `fault`.
-pub fn integer_after(packet: &[u8], low: u16, high: u16, fault: u8, before: FieldRead) -> FieldRead
-    ensures { result ≡ integer_after packet.now low high fault before }
+pub fn integer_after(
+    packet: &[u8],
+    low: u16,
+    high: u16,
+    fault: Refusal,
+    before: Placed,
+) -> Result<Placed, Refusal>
+    ensures { field_meaning result ≡ integer_after packet.now low high (number_of fault) (placed before) }
 {
-    match before {
-        FieldRead::Refused(n) => FieldRead::Refused(n),
-        FieldRead::Field { at, value, next } => {
-            bounded(next, low, high, fault, read::integer(packet, next))
-        }
-    }
+    let at = before.next;
+    bounded(at, low, high, fault, read::integer(packet, at)?)
 }
 
 // A number as read at a place, which is from `low` to `high`, else it is refused with `fault`.
-fn bounded(at: usize, low: u16, high: u16, fault: u8, number: NumberRead) -> FieldRead
-    ensures { result ≡ bounded at low high fault number }
+fn bounded(
+    at: usize,
+    low: u16,
+    high: u16,
+    fault: Refusal,
+    number: Field<u16>,
+) -> Result<Placed, Refusal>
+    ensures { field_meaning result ≡ bounded at low high (number_of fault) (NumberRead.Number number.value number.next) }
 {
-    match number {
-        NumberRead::Refused(n) => FieldRead::Refused(n),
-        NumberRead::Number { value, next } => {
-            if value < low {
-                return FieldRead::Refused(fault);
-            }
-            if high < value {
-                return FieldRead::Refused(fault);
-            }
-            FieldRead::Field { at, value, next }
-        }
+    let Field { value, next } = number;
+    if value < low {
+        return Err(fault);
     }
-}
-
-// A field's place, 0 for a refused one.
-pub fn place_of(field: FieldRead) -> Place
-    requires { Within max_packet field }
-    ensures { result ≡ field_place field }
-{
-    match field {
-        FieldRead::Refused(n) => Place(0),
-        FieldRead::Field { at, value, next } => Place(at as u16),
+    if high < value {
+        return Err(fault);
     }
-}
-
-// A field's number, 0 for a refused one.
-pub fn value_of(field: FieldRead) -> u16
-    ensures { result ≡ field_number field }
-{
-    match field {
-        FieldRead::Refused(n) => 0,
-        FieldRead::Field { at, value, next } => value,
-    }
+    Ok(Placed { at, value, next })
 }

@@ -1,23 +1,17 @@
-// What reading a packet finds.
+// A packet that was read to its end.
 ghost use Rattle.std.specs.Prelude.{◌≡◌};
+ghost use Rattle.payload.specs.Read.{packet_meaning};
 ghost use Rattle.payload.specs.Packet.{finished};
 
 use packet::Packet;
-use wire::refusal;
-
-// What reading a packet finds: refused, or the packet.
-#[derive(Clone, Copy)]
-pub enum PacketRead {
-    Refused(u8),
-    Packet(Packet),
-}
+use wire::refusal::Refusal;
 
 // A packet of `size` bytes whose last field ends at a place: bytes behind it are refused.
-pub fn finished(size: usize, next: usize, found: Packet) -> PacketRead
-    ensures { result ≡ finished size next found }
+pub fn finished(size: usize, next: usize, found: Packet) -> Result<Packet, Refusal>
+    ensures { packet_meaning result ≡ finished size next found }
 {
     if next != size {
-        return PacketRead::Refused(refusal::LEFT_OVER);
+        return Err(Refusal::LeftOver);
     }
-    PacketRead::Packet(found)
+    Ok(found)
 }

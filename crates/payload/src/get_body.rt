@@ -1,20 +1,18 @@
 // Get Body Chunk: how many bytes are asked for.
 ghost use Rattle.std.specs.Prelude.{◌≡◌};
+ghost use Rattle.payload.specs.Read.{packet_meaning};
 ghost use Rattle.payload.specs.GetBody.{get_at};
 
-use crate::found::{PacketRead, finished};
+use crate::found::finished;
 use packet::Packet;
 use wire::AFTER_CODE_PLACE;
-use wire::read::{NumberRead, integer};
+use wire::read::integer;
+use wire::refusal::Refusal;
 
 // Reads a Get Body Chunk.
-pub fn read(packet: &[u8]) -> PacketRead
-    ensures { result ≡ get_at packet.now }
+pub fn read(packet: &[u8]) -> Result<Packet, Refusal>
+    ensures { packet_meaning result ≡ get_at packet.now }
 {
-    match integer(packet, AFTER_CODE_PLACE) {
-        NumberRead::Refused(n) => PacketRead::Refused(n),
-        NumberRead::Number { value, next } => {
-            finished(packet.len(), next, Packet::GetBody(value))
-        }
-    }
+    let asked = integer(packet, AFTER_CODE_PLACE)?;
+    finished(packet.len(), asked.next, Packet::GetBody(asked.value))
 }

@@ -3,12 +3,13 @@
 #![tactic(auto)]
 
 ghost use Rattle.std.specs.Prelude.{◌≡◌};
-ghost use Rattle.payload.specs.Code.{code_of, code_kind, kind_of_code, kind_at};
+ghost use Rattle.payload.specs.Read.{kind_meaning};
+ghost use Rattle.payload.specs.Code.{code_of, code_kind, kind_at};
 
 use connection::Kind;
 use packet::Direction;
-use wire::read::NumberRead;
-use wire::{CODE_PLACE, read, refusal};
+use wire::refusal::Refusal;
+use wire::{CODE_PLACE, read};
 
 pub mod bare;
 pub mod body;
@@ -41,13 +42,6 @@ pub const CPONG: u16 = 9;
 
 pub const CPING: u16 = 10;
 
-// What kind a packet is: refused, or the kind.
-#[derive(Clone, Copy)]
-pub enum KindRead {
-    Refused(u8),
-    Kind(Kind),
-}
-
 // What is known of a packet beside its bytes: which way it goes, and whether it is read as a body packet.
 #[derive(Clone, Copy)]
 pub struct Context {
@@ -71,53 +65,35 @@ pub fn code_of(kind: Kind) -> u16
     }
 }
 
-// The kind of a packet that goes to the container, by its code.
-fn kind_to_container(code: u16) -> KindRead
-    ensures { result ≡ code_kind Direction.ToContainer code }
-{
-    match code {
-        FORWARD => KindRead::Kind(Kind::Forward),
-        CPING => KindRead::Kind(Kind::CPing),
-        SHUTDOWN => KindRead::Refused(refusal::CODE_NOT_SERVED),
-        PING => KindRead::Refused(refusal::CODE_NOT_SERVED),
-        _ => KindRead::Refused(refusal::CODE_WRONG),
-    }
-}
-
-// The kind of a packet that goes to the server, by its code.
-fn kind_to_server(code: u16) -> KindRead
-    ensures { result ≡ code_kind Direction.ToServer code }
-{
-    match code {
-        BODY_CHUNK => KindRead::Kind(Kind::BodyChunk),
-        SEND_HEADERS => KindRead::Kind(Kind::SendHeaders),
-        END => KindRead::Kind(Kind::End),
-        GET_BODY => KindRead::Kind(Kind::GetBody),
-        CPONG => KindRead::Kind(Kind::CPong),
-        _ => KindRead::Refused(refusal::CODE_WRONG),
-    }
-}
-
 // The kind of a packet, by its code as read.
-fn kind_of_code(direction: Direction, code: NumberRead) -> KindRead
-    ensures { result ≡ kind_of_code direction code }
+fn kind_of_code(direction: Direction, code: u16) -> Result<Kind, Refusal>
+    ensures { kind_meaning result ≡ code_kind direction code }
 {
-    match code {
-        NumberRead::Refused(n) => KindRead::Refused(n),
-        NumberRead::Number { value, next } => match direction {
-            Direction::ToContainer => kind_to_container(value),
-            Direction::ToServer => kind_to_server(value),
+    match direction {
+        Direction::ToContainer => match code {
+            FORWARD => Ok(Kind::Forward),
+            CPING => Ok(Kind::CPing),
+            SHUTDOWN | PING => Err(Refusal::CodeNotServed),
+            _ => Err(Refusal::CodeWrong),
+        },
+        Direction::ToServer => match code {
+            BODY_CHUNK => Ok(Kind::BodyChunk),
+            SEND_HEADERS => Ok(Kind::SendHeaders),
+            END => Ok(Kind::End),
+            GET_BODY => Ok(Kind::GetBody),
+            CPONG => Ok(Kind::CPong),
+            _ => Err(Refusal::CodeWrong),
         },
     }
 }
 
 // The kind of a packet: a body packet where it is read as one, else by its code.
-pub fn kind_of(context: Context, packet: &[u8]) -> KindRead
-    ensures { result ≡ kind_at context packet.now }
+pub fn kind_of(context: Context, packet: &[u8]) -> Result<Kind, Refusal>
+    ensures { kind_meaning result ≡ kind_at context packet.now }
 {
     if context.body {
-        return KindRead::Kind(Kind::Body);
+        return Ok(Kind::Body);
     }
-    let direction = context.direction;
-    kind_of_code(direction, read::byte(packet, CODE_PLACE))
+    let code = read::byte(packet, CODE_PLACE)?;
+    kind_of_code(context.direction, code.value)
 }

@@ -4,79 +4,67 @@ ghost use Rattle.std.specs.Prelude.{◌≡◌, ◌+◌, ◌≤◌, length};
 ghost use Rattle.wire.specs.Bytes.{over};
 ghost use Rattle.connection.specs.Connection.{max_packet};
 ghost use Rattle.places.specs.Entries.{max_headers, max_attributes, max_places};
+ghost use Rattle.headers.specs.Read.{headers_meaning};
+ghost use Rattle.payload.specs.Read.{placed, lists_meaning};
 ghost use Rattle.payload.specs.Private.{Counts};
 ghost use Rattle.payload.specs.Lists.{headers_after, attributes_behind, lists_at};
 
-use crate::field::{FieldRead, value_of};
-use attributes::AttributesRead;
-use headers::HeadersRead;
-use headers::length::{Declared, length_of};
+use crate::field::Placed;
+use headers::length::length_of;
 use packet::{BodyLeft, Direction};
-use wire::refusal;
+use wire::read::Field;
+use wire::refusal::Refusal;
 
-// What follows a Forward's fixed fields: refused, or the declared length of the body and how many attributes there are.
+// What follows a Forward's fixed fields: the declared length of the body, and how many attributes there are.
 #[derive(Clone, Copy)]
-pub enum ListsRead {
-    Refused(u8),
-    Lists { declared: BodyLeft, attributes: u16 },
+pub struct ReadLists {
+    pub declared: BodyLeft,
+    pub attributes: u16,
 }
 
 // The headers behind their count.
 pub fn headers_after(
     direction: Direction,
     packet: &[u8],
-    count: FieldRead,
+    count: Placed,
     table: &mut [u16],
-) -> HeadersRead
-    requires { (length packet.now ≤ max_packet) × (Counts max_headers count × (max_headers + max_headers ≤ length table.old)) }
-    ensures value { result ≡ (headers_after direction packet.now count).end }
-    ensures table_after { table.new ≡ over table.old 0 (headers_after direction packet.now count).places }
+) -> Result<Field<Option<u32>>, Refusal>
+    requires { (length packet.now ≤ max_packet) × (Counts max_headers (placed count) × (max_headers + max_headers ≤ length table.old)) }
+    ensures value { headers_meaning result ≡ (headers_after direction packet.now (placed count)).end }
+    ensures table_after { table.new ≡ over table.old 0 (headers_after direction packet.now (placed count)).places }
 {
-    match count {
-        FieldRead::Refused(n) => HeadersRead::Refused(n),
-        FieldRead::Field { at, value, next } => {
-            headers::headers(direction, packet, next, value, table)
-        }
-    }
+    headers::headers(direction, packet, count.next, count.value, table)
 }
 
 // The attributes behind the headers, which are a Forward's last field.
 fn attributes_behind(
     packet: &[u8],
-    declared: Declared,
+    declared: Option<u32>,
     at: usize,
     table: &mut [u16],
     from: usize,
-) -> ListsRead
+) -> Result<ReadLists, Refusal>
     requires { (length packet.now ≤ max_packet) × (from + (max_attributes + max_attributes) ≤ length table.old) }
-    ensures value { result ≡ (attributes_behind packet.now declared at).end }
+    ensures value { lists_meaning result ≡ (attributes_behind packet.now declared at).end }
     ensures table_after { table.new ≡ over table.old from (attributes_behind packet.now declared at).places }
 {
-    match attributes::attributes(packet, at, table, from) {
-        AttributesRead::Refused(n) => ListsRead::Refused(n),
-        AttributesRead::Attributes { count, next } => {
-            if next != packet.len() {
-                return ListsRead::Refused(refusal::LEFT_OVER);
-            }
-            ListsRead::Lists {
-                declared: BodyLeft(length_of(declared)),
-                attributes: count as u16,
-            }
-        }
+    let Field { value, next } = attributes::attributes(packet, at, table, from)?;
+    if next != packet.len() {
+        return Err(Refusal::LeftOver);
     }
+    Ok(ReadLists {
+        declared: BodyLeft(length_of(declared)),
+        attributes: value as u16,
+    })
 }
 
 // The headers and attributes behind the count of headers.
-pub fn lists(packet: &[u8], count: FieldRead, table: &mut [u16]) -> ListsRead
-    requires { (length packet.now ≤ max_packet) × (Counts max_headers count × (max_places ≤ length table.old)) }
-    ensures value { result ≡ (lists_at packet.now count).end }
-    ensures table_after { table.new ≡ over table.old 0 (lists_at packet.now count).places }
+pub fn lists(packet: &[u8], count: Placed, table: &mut [u16]) -> Result<ReadLists, Refusal>
+    requires { (length packet.now ≤ max_packet) × (Counts max_headers (placed count) × (max_places ≤ length table.old)) }
+    ensures value { lists_meaning result ≡ (lists_at packet.now (placed count)).end }
+    ensures table_after { table.new ≡ over table.old 0 (lists_at packet.now (placed count)).places }
 {
-    match headers_after(Direction::ToContainer, packet, count, table) {
-        HeadersRead::Refused(n) => ListsRead::Refused(n),
-        HeadersRead::Headers { declared, next } => {
-            let many = value_of(count) as usize;
-            attributes_behind(packet, declared, next, table, many + many)
-        }
-    }
+    let headers = headers_after(Direction::ToContainer, packet, count, table)?;
+    let many = count.value as usize;
+    attributes_behind(packet, headers.value, headers.next, table, many + many)
 }

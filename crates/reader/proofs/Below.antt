@@ -10,7 +10,7 @@ use Rattle.connection.specs.declared.Kind.{Kind}
 use Rattle.payload.specs.Kinds.{packet_at, packet_kind}
 use Rattle.packet.specs.declared.Packet.{Packet}
 use Rattle.payload.specs.declared.Context.{Context}
-use Rattle.payload.specs.declared.found.PacketRead.{PacketRead}
+use Rattle.payload.specs.Read.{PacketRead}
 use Rattle.payload.proofs.Handed.{forward_places, send_headers_places}
 use Rattle.payload.proofs.Parsed.{parsed_kind}
 use Rattle.reader.specs.Meaning.{places_needed}

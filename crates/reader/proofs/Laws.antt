@@ -24,9 +24,9 @@ use Rattle.connection.proofs.Laws.{step_now}
 use Rattle.payload.specs.Code.{kind_at}
 use Rattle.payload.specs.Kinds.{packet_at, packet_move}
 use Rattle.payload.specs.declared.Context.{Context}
-use Rattle.payload.specs.declared.KindRead.{KindRead}
+use Rattle.payload.specs.Read.{KindRead}
 use Rattle.packet.specs.declared.Packet.{Packet}
-use Rattle.payload.specs.declared.found.PacketRead.{PacketRead}
+use Rattle.payload.specs.Read.{PacketRead}
 use Rattle.payload.proofs.Parsed.{parsed_kind, move_kind_lem}
 use Rattle.reader.specs.declared.frame.FrameRead.{FrameRead}
 use Rattle.reader.specs.Frame.{frame_at}

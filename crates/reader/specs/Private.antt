@@ -7,7 +7,7 @@ use Rattle.connection.specs.Cycle.{sized_step}
 use Rattle.connection.specs.declared.Kind.{Kind}
 use Rattle.connection.specs.declared.Connection.{Connection}
 use Rattle.payload.specs.declared.Context.{Context}
-use Rattle.payload.specs.declared.found.PacketRead.{PacketRead}
+use Rattle.payload.specs.Read.{PacketRead}
 use Rattle.payload.specs.Kinds.{packet_at, packet_move}
 use Rattle.reader.specs.Meaning.{Meaning, needs, refused, accepted, places_needed}
 use Rattle.reader.specs.Reading.{parse_whole, context_of, stepped, judging, with_room, places_of, filled}

@@ -22,8 +22,8 @@ use Rattle.connection.proofs.Refusals.{step_refusal}
 use Rattle.payload.specs.Code.{kind_at}
 use Rattle.payload.specs.Kinds.{packet_at, packet_move}
 use Rattle.payload.specs.declared.Context.{Context}
-use Rattle.payload.specs.declared.KindRead.{KindRead}
-use Rattle.payload.specs.declared.found.PacketRead.{PacketRead}
+use Rattle.payload.specs.Read.{KindRead}
+use Rattle.payload.specs.Read.{PacketRead}
 use Rattle.payload.proofs.Refusals.{kind_refusal, packet_refusal}
 use Rattle.reader.specs.declared.frame.FrameRead.{FrameRead}
 use Rattle.reader.specs.Frame.{leading_differs, length_at, frame_of, frame_at}

@@ -22,10 +22,10 @@ use Rattle.connection.specs.Step.{Step}
 use Rattle.payload.specs.Code.{code_kind, kind_of_code, kind_at}
 use Rattle.payload.specs.Kinds.{packet_at, packet_kind, packet_move}
 use Rattle.payload.specs.declared.Context.{Context}
-use Rattle.payload.specs.declared.KindRead.{KindRead}
+use Rattle.payload.specs.Read.{KindRead}
 use Rattle.packet.specs.declared.Part.{Part}
 use Rattle.packet.specs.declared.Packet.{Packet}
-use Rattle.payload.specs.declared.found.PacketRead.{PacketRead}
+use Rattle.payload.specs.Read.{PacketRead}
 use Rattle.payload.proofs.Laws.{kind_is}
 use Rattle.payload.proofs.Parsed.{parsed_kind}
 use Rattle.reader.specs.declared.frame.FrameRead.{FrameRead}

@@ -34,7 +34,7 @@ use Rattle.places.specs.Entries.{max_places}
 use Rattle.payload.specs.Code.{code_of, code_kind, kind_of_code, kind_at}
 use Rattle.payload.specs.Kinds.{packet_kind, packet_move}
 use Rattle.payload.specs.Handed.{PacketHanded}
-use Rattle.payload.specs.declared.KindRead.{KindRead}
+use Rattle.payload.specs.Read.{KindRead}
 use Rattle.payload.proofs.Handed.{number_found}
 use Rattle.payload.proofs.Parsed.{parsed_kind, move_kind_lem}
 use Rattle.building.specs.Call.{Outcome, refused, done}

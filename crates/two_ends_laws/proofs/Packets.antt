@@ -22,7 +22,7 @@ use Rattle.payload.specs.Body.{body_start, body_at}
 use Rattle.payload.specs.Packet.{part_from}
 use Rattle.payload.specs.Kinds.{packet_at, packet_kind, packet_move}
 use Rattle.packet.specs.declared.Packet as payload
-use Rattle.payload.specs.declared.found.PacketRead.{PacketRead}
+use Rattle.payload.specs.Read.{PacketRead}
 use Rattle.packet.specs.declared.Part.{Part}
 use Rattle.payload.proofs.Handed as handed
 use Rattle.payload.proofs.Parsed.{move_kind_lem}

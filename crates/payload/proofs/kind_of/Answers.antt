@@ -3,6 +3,8 @@
 use mathlib.Core.Path.{refl, sym, ◌∙◌}
 use mathlib.Core.Bool.{true, false}
 use Rattle.wire.specs.Field.{byte_at}
+use Rattle.wire.proofs.Exits.{exits}
+use Rattle.payload.specs.Read.{kind_meaning}
 use Rattle.payload.proofs.Laws.{kind_is}
 use Rattle.payload.proofs.kind_of.Goals as goal
 
@@ -11,10 +13,9 @@ returns-then-context c =
     let a = c.args in
     sym (kind_is a.context true a.packet.now (byte_at a.packet.now 4) c.if-context.true refl)
 
+pub returns-in_err-code : goal.returns-in_err-code
+returns-in_err-code c =
+    exits kind_meaning _ _ c.from_residual.ensures.1 ∙ sym (kind_is _ false _ _ c.if-context.false (sym c.in_err-code.ensures))
+
 pub returns : goal.returns
-returns c =
-    let a = c.args in
-    c.kind_of_code.ensures
-    ∙ sym
-    (kind_is a.context false a.packet.now c.byte.result
-    c.if-context.false (sym c.byte.ensures))
+returns c = c.kind_of_code.ensures ∙ sym (kind_is _ false _ _ c.if-context.false (sym c.in_ok-code.ensures))

@@ -2,10 +2,11 @@
 -- Assumes nothing.
 use native.Mathlib.Omega.{arith}
 use borrow.Author.Tests.{lt-ltb, le-ltb, eq-eqb, ne_eqb}
-use mathlib.Core.Path.{◌≡◌, refl, ◌∙◌}
+use mathlib.Core.Path.{◌≡◌, refl, ap, ◌∙◌}
 use mathlib.Core.Bool.{true, false}
 use Prim.Native.Nat.{◌+◌, ◌≤◌, ◌<◌}
 use lib.Dec.{ltb}
+use Rattle.payload.specs.Read.{PacketRead}
 use Rattle.payload.specs.Body.{body_start}
 use Rattle.payload.proofs.Laws.{sized_by, sized_whole}
 use Rattle.payload.proofs.body.sized.Goals as goal
@@ -27,7 +28,7 @@ returns-then-len-eq0 c =
     let a = c.args in
     let none : a.len ≡ 0 = omega arith in
     let all : a.size ≤ body_start + a.len = omega (arith, none, c.if-size.false) in
-    c.empty.ensures
+    ap PacketRead.Packet c.empty.ensures
     ∙ sized_whole a.size a.len true (le-ltb _ _ c.if-size-end.false) (le-ltb (body_start + a.len) a.size all)
     (eq-eqb _ _ none)
 

@@ -1,13 +1,13 @@
 -- `end::read` meets its contract: by what its field reads as.
 -- Assumes nothing.
 use mathlib.Core.Path.{sym, ◌∙◌}
+use Rattle.wire.proofs.Exits.{exits}
+use Rattle.payload.specs.Read.{packet_meaning}
 use Rattle.payload.proofs.Laws.{end_is}
 use Rattle.payload.proofs.end.read.Goals as goal
 
-pub returns-in-Refused : goal.returns-in-Refused
-returns-in-Refused c = sym (end_is _ _ (sym c.boolean.ensures ∙ c.in-Refused.is))
+pub returns-in_err-reuse : goal.returns-in_err-reuse
+returns-in_err-reuse c = exits packet_meaning _ _ c.from_residual.ensures.1 ∙ sym (end_is _ _ (sym c.in_err-reuse.ensures))
 
-pub returns-in-Boolean : goal.returns-in-Boolean
-returns-in-Boolean c =
-    c.finished.ensures
-    ∙ sym (end_is _ _ (sym c.boolean.ensures ∙ c.in-Boolean.is))
+pub returns : goal.returns
+returns c = c.finished.ensures ∙ sym (end_is _ _ (sym c.in_ok-reuse.ensures))

@@ -1,13 +1,17 @@
--- `field::boolean_after` meets its contract: by whether the field before was refused.
+-- `field::boolean_after` meets its contract: by what the boolean reads as.
 -- Assumes nothing.
-use mathlib.Core.Path.{sym, ap, ◌∙◌}
+use mathlib.Core.Path.{sym, ◌∙◌}
+use Rattle.wire.proofs.Exits.{exits}
+use Rattle.payload.specs.Read.{field_meaning}
 use Rattle.payload.specs.Sequence.{boolean_after}
+use Rattle.payload.proofs.Laws.{boolean_field_is}
 use Rattle.payload.proofs.field.boolean_after.Goals as goal
 
-pub returns-in-Refused : goal.returns-in-Refused
+pub returns-in_err-value : goal.returns-in_err-value
 unfolding boolean_after
-returns-in-Refused c = sym (ap (boolean_after _) c.in-Refused.is)
+returns-in_err-value c =
+    exits field_meaning _ _ c.from_residual.ensures.1 ∙ sym (boolean_field_is _ _ _ (sym c.in_err-value.ensures))
 
-pub returns-in-Field : goal.returns-in-Field
+pub returns : goal.returns
 unfolding boolean_after
-returns-in-Field c = c.boolean_at.ensures ∙ sym (ap (boolean_after _) c.in-Field.is)
+returns c = sym (boolean_field_is _ _ _ (sym c.in_ok-value.ensures))

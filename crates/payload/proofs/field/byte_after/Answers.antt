@@ -1,15 +1,14 @@
--- `field::byte_after` meets its contract: by whether the field before was refused.
+-- `field::byte_after` meets its contract: by what the number reads as.
 -- Assumes nothing.
-use mathlib.Core.Path.{sym, ap, ◌∙◌}
-use Rattle.payload.specs.Sequence.{byte_after}
+use mathlib.Core.Path.{refl, sym, ◌∙◌}
+use Rattle.wire.proofs.Exits.{exits}
+use Rattle.payload.specs.Read.{field_meaning}
 use Rattle.payload.proofs.Laws.{byte_after_is}
 use Rattle.payload.proofs.field.byte_after.Goals as goal
 
-pub returns-in-Refused : goal.returns-in-Refused
-unfolding byte_after
-returns-in-Refused c = sym (ap (byte_after _ _ _ _) c.in-Refused.is)
+pub returns-in_err-byte : goal.returns-in_err-byte
+returns-in_err-byte c =
+    exits field_meaning _ _ c.from_residual.ensures.1 ∙ sym (byte_after_is _ _ _ _ _ _ _ _ _ refl (sym c.in_err-byte.ensures))
 
-pub returns-in-Field : goal.returns-in-Field
-returns-in-Field c =
-    c.bounded.ensures
-    ∙ sym (byte_after_is _ _ _ _ _ _ _ _ _ c.in-Field.is (sym c.byte.ensures))
+pub returns : goal.returns
+returns c = c.bounded.ensures ∙ sym (byte_after_is _ _ _ _ _ _ _ _ _ refl (sym c.in_ok-byte.ensures))

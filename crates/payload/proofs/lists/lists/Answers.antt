@@ -1,37 +1,26 @@
 -- `lists::lists` meets its contract: the attributes' places stand behind the headers', two for each header that is counted.
 -- Assumes nothing.
-use mathlib.Core.Path.{sym, ◌∙◌}
-use Prim.Native.Nat.{◌≤◌}
-use borrow.Author.Rules.{rules}
-use Rattle.places.specs.Entries.{max_headers}
-use Rattle.payload.proofs.Fields.{counts_value}
+use mathlib.Core.Path.{refl, ◌∙◌}
+use Rattle.std.proofs.Common.{rules}
+use Rattle.wire.proofs.Exits.{exits}
+use Rattle.payload.specs.Read.{lists_meaning}
 use Rattle.payload.proofs.Listing.{lists_refused, lists_read}
 use Rattle.payload.proofs.lists.lists.Goals as goal
 
-pub attributes_behind-requires : goal.attributes_behind-requires
-attributes_behind-requires c =
-    let few : c.value_of-many.result ≤ max_headers =
-    counts_value _ c.args.count c.value_of-many.result c.value_of-many.ensures c.requires.1.0 in
-    let h = few in
-    search rules
+pub returns-in_err-headers-clause-value : goal.returns-in_err-headers-clause-value
+returns-in_err-headers-clause-value c =
+    exits lists_meaning _ _ c.from_residual.ensures.1
+    ∙ (lists_refused _ _ _ _ c.headers_after.ensures.table_after _ c.in_err-headers.ensures.value).0
 
-pub returns-in-Refused : goal.returns-in-Refused
-returns-in-Refused c =
-    let a = c.args in
-    let all = lists_refused a.packet.now a.count a.table.now _ c.headers_after.ensures.table_after _
-    (sym c.in-Refused.is ∙ c.headers_after.ensures.value) in
-    record { value = all.0; table_after = all.1 }
+pub returns-in_err-headers-clause-table_after : goal.returns-in_err-headers-clause-table_after
+returns-in_err-headers-clause-table_after c = (lists_refused _ _ _ _ c.headers_after.ensures.table_after _ c.in_err-headers.ensures.value).1
 
-pub returns-in-Headers : goal.returns-in-Headers
-returns-in-Headers c =
-    let few : c.value_of-many.result ≤ max_headers =
-    counts_value _ c.args.count c.value_of-many.result c.value_of-many.ensures c.requires.1.0 in
-    let a = c.args in
-    let h = few in
-    let all = lists_read a.packet.now a.count a.table.now _ c.headers_after.ensures.table_after _ _ _ _ _
-    (sym c.in-Headers.is ∙ c.headers_after.ensures.value)
-    c.value_of-many.ensures
-    (search rules)
-    c.attributes_behind.ensures.value
-    c.attributes_behind.ensures.table_after in
-    record { value = all.0; table_after = all.1 }
+pub returns-clause-value : goal.returns-clause-value
+returns-clause-value c =
+    (lists_read _ _ _ _ c.headers_after.ensures.table_after _ _ _ _ _ c.in_ok-headers.ensures.value refl (search rules)
+    c.attributes_behind.ensures.value c.attributes_behind.ensures.table_after).0
+
+pub returns-clause-table_after : goal.returns-clause-table_after
+returns-clause-table_after c =
+    (lists_read _ _ _ _ c.headers_after.ensures.table_after _ _ _ _ _ c.in_ok-headers.ensures.value refl (search rules)
+    c.attributes_behind.ensures.value c.attributes_behind.ensures.table_after).1
