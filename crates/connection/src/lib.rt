@@ -3,17 +3,18 @@
 #![tactic(auto)]
 
 ghost use Rattle.std.specs.Prelude.{◌≡◌, ◌-◌, leb};
-ghost use Rattle.connection.specs.Connection.{max_packet, max_payload, fresh, rest, with_left, with_due, with_headers, with_head, busy, is_idle, is_pinged, is_busy, body_due, is_head};
+ghost use Rattle.connection.specs.Connection.{max_packet, max_payload, fresh, rest, with_left, with_due, with_headers, with_head, busy, body_due, is_head};
 ghost use Rattle.connection.specs.Cycle.{move_kind, direction_of, in_state, largest_body, size_allowed, chunk_allowed, forwarded, sized_step, step_of};
-ghost use Rattle.connection.specs.Step.{Step, step_meaning};
-ghost use Rattle.wire.specs.Refusal.{not_now};
+ghost use Rattle.connection.specs.Step.{step_meaning};
+ghost use Rattle.wire.specs.Refusal.{none, not_now};
 ghost use Rattle.wire.specs.Pick.{pick};
+ghost use Rattle.wire.specs.Read.{fault_number};
 
 use packet::{BodyLeft, Direction};
 use wire::refusal::Refusal;
 
 // Where a connection stands.
-#[derive(Clone, Copy)]
+#[derive(Clone, Copy, Debug, PartialEq, Eq)]
 pub enum State {
     Idle,
     Pinged,
@@ -21,7 +22,9 @@ pub enum State {
     Closed,
 }
 
-// A connection. All but the state counts only in Busy, and asked only where a body packet is due.
+// A connection. All but the state counts only in Busy, and asked only where a body packet is due. Yet it is no payload of Busy, and due and
+// asked are no Option: the clauses of with_left, with_due, with_headers and with_head, and the law `ignored`, speak of records that hold
+// anything in what does not count.
 // The short fields come first: the compiler then loads each by itself, and not the state together with what lies behind it.
 #[derive(Clone, Copy)]
 pub struct Connection {
@@ -34,7 +37,7 @@ pub struct Connection {
 }
 
 // The kinds of packet.
-#[derive(Clone, Copy)]
+#[derive(Clone, Copy, Debug, PartialEq, Eq)]
 pub enum Kind {
     CPing,
     CPong,
@@ -71,41 +74,6 @@ pub enum Move {
 pub struct Written {
     pub size: usize,
     pub connection: Connection,
-}
-
-impl State {
-    fn is_idle(self) -> bool
-        ensures { result ≡ is_idle self }
-    {
-        match self {
-            State::Idle => true,
-            State::Pinged => false,
-            State::Busy => false,
-            State::Closed => false,
-        }
-    }
-
-    fn is_pinged(self) -> bool
-        ensures { result ≡ is_pinged self }
-    {
-        match self {
-            State::Idle => false,
-            State::Pinged => true,
-            State::Busy => false,
-            State::Closed => false,
-        }
-    }
-
-    fn is_busy(self) -> bool
-        ensures { result ≡ is_busy self }
-    {
-        match self {
-            State::Idle => false,
-            State::Pinged => false,
-            State::Busy => true,
-            State::Closed => false,
-        }
-    }
 }
 
 impl Kind {
@@ -159,7 +127,7 @@ impl Connection {
         Self::rest(State::Idle)
     }
 
-    // Whether a payload of so many bytes fits a packet, else it is refused with 2.
+    // Whether a payload of so many bytes fits a packet, else it is refused as too long.
     pub fn fits_payload(size: usize) -> bool
         ensures { result ≡ leb size max_payload }
     {
@@ -187,53 +155,33 @@ impl Connection {
         }
     }
 
-    // The record with so many bytes of body left, whether that counts or not; all else stays.
-    pub fn with_left(mut self, left: BodyLeft) -> Connection
+    // The record with so many bytes of body left, whether that counts or not; all else stays. The record is made anew, here and in the next
+    // three: fields of a copy set one by one keep the compiler from putting a step into its callers.
+    pub fn with_left(self, left: BodyLeft) -> Connection
         ensures { result ≡ with_left left.0 self }
     {
-        self.left = left;
-        self
+        Connection { left, ..self }
     }
 
-    // With whether a body packet is due and how many bytes were asked for, in the same way. The record is made anew: two fields of a copy set
-    // one by one keep the compiler from putting a step into its callers.
+    // With whether a body packet is due and how many bytes were asked for.
     pub fn with_due(self, due: bool, asked: u16) -> Connection
         ensures { result ≡ with_due due asked self }
     {
-        let state = self.state;
-        let left = self.left;
-        Connection {
-            state,
-            due,
-            headers: self.headers,
-            head: self.head,
-            asked,
-            left,
-        }
+        Connection { due, asked, ..self }
     }
 
     // With whether the response's headers were sent.
-    pub fn with_headers(mut self, headers: bool) -> Connection
+    pub fn with_headers(self, headers: bool) -> Connection
         ensures { result ≡ with_headers headers self }
     {
-        self.headers = headers;
-        self
+        Connection { headers, ..self }
     }
 
-    // With whether the request is HEAD. The record is made anew here too.
+    // With whether the request is HEAD.
     pub fn with_head(self, head: bool) -> Connection
         ensures { result ≡ with_head head self }
     {
-        let state = self.state;
-        let left = self.left;
-        Connection {
-            state,
-            due: self.due,
-            headers: self.headers,
-            head,
-            asked: self.asked,
-            left,
-        }
+        Connection { head, ..self }
     }
 
     pub fn state(self) -> State
@@ -281,18 +229,11 @@ impl Connection {
     fn busy(self) -> Connection
         ensures { result ≡ busy self }
     {
-        let left = self.left;
-        let mut asked = self.asked;
-        if !self.due {
-            asked = 0;
-        }
+        let asked = if self.due { self.asked } else { 0 };
         Connection {
             state: State::Busy,
-            due: self.due,
-            headers: self.headers,
-            head: self.head,
             asked,
-            left,
+            ..self
         }
     }
 
@@ -300,68 +241,55 @@ impl Connection {
     pub fn is_body_due(self) -> bool
         ensures { result ≡ body_due self }
     {
-        let state = self.state;
-        let due = self.due;
-        if !state.is_busy() {
-            return false;
-        }
-        due
+        self.state == State::Busy && self.due
     }
 
     // Whether the request under way is HEAD: its response has no body.
     pub fn is_head(self) -> bool
         ensures { result ≡ is_head self }
     {
-        let state = self.state;
-        state.is_busy() && self.head
+        self.state == State::Busy && self.head
     }
 
-    // Whether a kind of packet is allowed now, else it is refused with 13.
+    // Whether a kind of packet is allowed now.
     pub fn allows(self, kind: Kind) -> bool
         ensures { result ≡ in_state self kind }
     {
         let state = self.state;
         match kind {
-            Kind::CPing => state.is_idle(),
-            Kind::CPong => state.is_pinged(),
-            Kind::Forward => state.is_idle(),
+            Kind::CPing => state == State::Idle,
+            Kind::CPong => state == State::Pinged,
+            Kind::Forward => state == State::Idle,
             Kind::Body => self.is_body_due(),
-            Kind::GetBody => state.is_busy() && !self.due,
-            Kind::SendHeaders => state.is_busy() && !self.headers,
-            Kind::BodyChunk => state.is_busy() && self.headers,
-            Kind::End => state.is_busy() && (self.headers && !self.due),
+            Kind::GetBody => state == State::Busy && !self.due,
+            Kind::SendHeaders => state == State::Busy && !self.headers,
+            Kind::BodyChunk => state == State::Busy && self.headers,
+            Kind::End => state == State::Busy && (self.headers && !self.due),
         }
     }
 
-    // The most bytes that the next body packet may hold: the least of asked, 8186 and left, 0 where none is due.
+    // The most bytes that the next body packet may hold: the least of asked, MAX_BODY and left, none where no body packet is due.
+    #[tactic(auto, unfolding(crate::specs::Cycle::largest_body))]
     pub fn largest_body(self) -> u16
         ensures { result ≡ largest_body self }
     {
         if !self.is_body_due() {
             return 0;
         }
-        let left = self.left;
-        let mut most = self.asked;
-        if Self::MAX_BODY < most {
-            most = Self::MAX_BODY;
-        }
-        if left.0 < most as u32 {
-            most = left.0 as u16;
-        }
-        most
+        let most = self.asked.min(Self::MAX_BODY);
+        self.left.0.min(most as u32) as u16
     }
 
-    // A move, by the rows of the cycle: refused with 13 or 14, or the connection after it.
+    // A move, by the rows of the cycle: refused as not allowed now or as of a wrong size, or the connection after it.
+    #[tactic(auto, unfolding(crate::specs::Cycle::step_of))]
     pub fn step(self, m: Move) -> Result<Connection, Refusal>
         ensures { step_meaning result ≡ step_of self m }
     {
-        if !self.allows(m.kind()) {
-            return Err(Refusal::NotNow);
-        }
+        self.check_kind(m.kind())?;
         self.step_allowed(m)
     }
 
-    // The same for a caller that asked before whether the kind is allowed: refused with 14, or the connection after it.
+    // The same for a caller that asked before whether the kind is allowed: refused as of a wrong size, or the connection after it.
     pub fn step_allowed(self, m: Move) -> Result<Connection, Refusal>
         ensures { step_meaning result ≡ sized_step self m }
     {
@@ -377,48 +305,50 @@ impl Connection {
         }
     }
 
-    // A body packet of k bytes, for a caller that knows the move: refused with 13 or 14, or the connection after it.
+    // A body packet of k bytes, for a caller that knows the move: refused in the same way, or the connection after it.
+    #[tactic(auto, unfolding(crate::specs::Cycle::step_of))]
     pub fn step_body(self, k: usize) -> Result<Connection, Refusal>
         ensures { step_meaning result ≡ step_of self (Move.Body k) }
     {
-        if !self.is_body_due() {
-            return Err(Refusal::NotNow);
-        }
+        self.check_kind(Kind::Body)?;
         self.sized_body(k)
     }
 
     // A Send Body Chunk of k bytes, in the same way.
+    #[tactic(auto, unfolding(crate::specs::Cycle::step_of))]
     pub fn step_body_chunk(self, k: usize) -> Result<Connection, Refusal>
         ensures { step_meaning result ≡ step_of self (Move.BodyChunk k) }
     {
-        if !self.allows(Kind::BodyChunk) {
-            return Err(Refusal::NotNow);
-        }
+        self.check_kind(Kind::BodyChunk)?;
         self.sized_chunk(k)
     }
 
     // A Get Body Chunk that asks for so many bytes, in the same way.
+    #[tactic(auto, unfolding(crate::specs::Cycle::step_of))]
     pub fn step_get_body(self, asked: u16) -> Result<Connection, Refusal>
         ensures { step_meaning result ≡ step_of self (Move.GetBody asked) }
     {
-        self.step_any_size(Kind::GetBody, self.busy().with_due(true, asked))
+        self.check_kind(Kind::GetBody)?;
+        Ok(self.busy().with_due(true, asked))
     }
 
     // An End, in the same way.
+    #[tactic(auto, unfolding(crate::specs::Cycle::step_of))]
     pub fn step_end(self, reuse: bool) -> Result<Connection, Refusal>
         ensures { step_meaning result ≡ step_of self (Move.End reuse) }
     {
-        self.step_any_size(Kind::End, Self::ended(reuse))
+        self.check_kind(Kind::End)?;
+        Ok(Self::ended(reuse))
     }
 
-    // A packet of a kind that may have any size: refused with 13, or the connection that it makes.
-    fn step_any_size(self, kind: Kind, after: Connection) -> Result<Connection, Refusal>
-        ensures { step_meaning result ≡ pick (in_state self kind) (Step.Next after) (Step.Refused not_now) }
+    // Refused where a kind of packet is not allowed now.
+    fn check_kind(self, kind: Kind) -> Result<(), Refusal>
+        ensures { fault_number result ≡ pick (in_state self kind) none not_now }
     {
         if !self.allows(kind) {
             return Err(Refusal::NotNow);
         }
-        Ok(after)
+        Ok(())
     }
 
     // A body packet of k bytes where one is due: its size, then the connection after it.
@@ -457,10 +387,7 @@ impl Connection {
     fn ended(reuse: bool) -> Connection
         ensures { result ≡ rest (pick reuse State.Idle State.Closed) }
     {
-        if reuse {
-            return Self::rest(State::Idle);
-        }
-        Self::rest(State::Closed)
+        Self::rest(if reuse { State::Idle } else { State::Closed })
     }
 }
 
@@ -478,8 +405,5 @@ fn is_size_allowed(most: u16, k: usize) -> bool
 fn is_chunk_allowed(head: bool, k: usize) -> bool
     ensures { result ≡ chunk_allowed head k }
 {
-    if head {
-        return k == 0;
-    }
-    true
+    !head || k == 0
 }
