@@ -6,7 +6,6 @@ use Rattle.std.specs.Prelude.{Bool, true, false, Result, Ok, Err}
 use Rattle.wire.specs.Refusal.{number_of}
 use Rattle.wire.specs.declared.refusal.Refusal.{Refusal}
 use Rattle.building.specs.Call.{Outcome, refused, done}
-
 -- a packet that stands in the buffer from its first byte on: how long it is, and the connection after it
 pub use Rattle.connection.specs.declared.Written.{Written}
 

@@ -18,13 +18,7 @@ const OVER_PACKET: usize = Connection::MAX_PACKET + 1;
 pub fn plus(size: usize, more: usize) -> usize
     ensures { result ≡ size_told (size + more) }
 {
-    if OVER_PACKET < more {
-        return OVER_PACKET;
-    }
-    if OVER_PACKET - more < size {
-        return OVER_PACKET;
-    }
-    size + more
+    size.saturating_add(more).min(OVER_PACKET)
 }
 
 // A size and a string behind it.

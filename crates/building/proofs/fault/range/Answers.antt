@@ -1,14 +1,10 @@
--- `fields::fault::range` meets its contract, by whether the number is under the least and over the greatest.
+-- `fault::range` meets its contract: the two tests are those of `between`.
 -- Assumes nothing.
-use mathlib.Core.Path.{refl, ◌∙◌}
-use mathlib.Core.Bool.{true, false}
-use borrow.Author.Tests.{le-leb, lt-leb}
-use Rattle.building.proofs.Sizes.{range_by}
-use borrow.Author.Rules.{rules}
+use Rattle.std.proofs.Common.{arith}
+use Rattle.std.proofs.lemmas.Grind.{common_steps}
+use Rattle.building.specs.Fault.{range_fault}
 use Rattle.building.proofs.fault.range.Goals as goal
 
-pub returns-then-value-low : goal.returns-then-value-low
-returns-then-value-low c = let a = c.args in range_by a.low a.high a.value false _ (lt-leb a.low a.value (search rules)) refl
-
 pub returns : goal.returns
-returns c = let a = c.args in c.unless.ensures ∙ range_by a.low a.high a.value true _ (le-leb a.low a.value (search rules)) refl
+unfolding range_fault
+returns c = grind (arith, common_steps)
