@@ -3,6 +3,7 @@
 #![tactic(auto)]
 
 ghost use Rattle.std.specs.Prelude.{◌≡◌};
+ghost use Rattle.wire.specs.Read.{fault_number};
 ghost use Rattle.building_record.specs.Record.{built_kind, is_forward, direction_in, building_fields, is_possible, header_now, attribute_now, count_fault};
 
 use building::fault::unless;
@@ -11,7 +12,8 @@ use connection::{Connection, Kind};
 use packet::{Direction, Place};
 use payload::code_of;
 use places::MAX_HEADERS;
-use wire::{CODE_PLACE, PAYLOAD_PLACE, refusal};
+use wire::refusal::Refusal;
+use wire::{CODE_PLACE, PAYLOAD_PLACE};
 
 // How many bytes the count of headers takes.
 pub const COUNT_SIZE: usize = INTEGER;
@@ -50,10 +52,7 @@ impl BuildingKind {
     pub fn is_forward(self) -> bool
         ensures { result ≡ is_forward self }
     {
-        match self {
-            BuildingKind::Forward => true,
-            BuildingKind::SendHeaders => false,
-        }
+        matches!(self, BuildingKind::Forward)
     }
 }
 
@@ -116,60 +115,47 @@ impl Building {
     pub fn is_possible(self, buffer: &[u8]) -> bool
         ensures { result ≡ is_possible self buffer.now }
     {
-        let kind = self.kind;
         let next = self.next.index();
         let count = self.count.index();
-        if !Connection::fits_packet(next) {
-            return false;
-        }
-        if buffer.len() < next {
-            return false;
-        }
-        if count < PAYLOAD_PLACE {
-            return false;
-        }
-        if next < count + COUNT_SIZE {
-            return false;
-        }
-        if MAX_HEADERS < self.headers {
-            return false;
-        }
-        buffer[CODE_PLACE] as u16 == code_of(kind.kind())
+        Connection::fits_packet(next)
+            && next <= buffer.len()
+            && PAYLOAD_PLACE <= count
+            && count + COUNT_SIZE <= next
+            && self.headers <= MAX_HEADERS
+            && buffer[CODE_PLACE] as u16 == code_of(self.kind.kind())
     }
 
     // Which way the packet goes.
     pub fn direction(self) -> Direction
         ensures { result ≡ direction_in self }
     {
-        let kind = self.kind;
-        kind.kind().direction()
+        self.kind.kind().direction()
     }
 
     // The fault of a header that comes now: the record is impossible, or attributes began.
-    pub fn header_now(self, buffer: &[u8]) -> u8
-        ensures { result ≡ header_now self buffer.now }
+    pub fn header_now(self, buffer: &[u8]) -> Result<(), Refusal>
+        ensures { fault_number result ≡ header_now self buffer.now }
     {
         unless(
-            self.is_possible(buffer) & !self.attributes,
-            refusal::RECORD_WRONG,
+            self.is_possible(buffer) && !self.attributes,
+            Refusal::RecordWrong,
         )
     }
 
     // The fault of an attribute that comes now: the record is impossible, or is not a Forward's.
-    pub fn attribute_now(self, buffer: &[u8]) -> u8
-        ensures { result ≡ attribute_now self buffer.now }
+    pub fn attribute_now(self, buffer: &[u8]) -> Result<(), Refusal>
+        ensures { fault_number result ≡ attribute_now self buffer.now }
     {
-        let kind = self.kind;
         unless(
-            self.is_possible(buffer) & kind.is_forward(),
-            refusal::RECORD_WRONG,
+            self.is_possible(buffer) && self.kind.is_forward(),
+            Refusal::RecordWrong,
         )
     }
 
     // The fault of one more header: a hundred came before.
-    pub fn count_fault(self) -> u8
-        ensures { result ≡ count_fault self }
+    pub fn count_fault(self) -> Result<(), Refusal>
+        ensures { fault_number result ≡ count_fault self }
     {
-        unless(self.headers < MAX_HEADERS, refusal::TOO_MANY)
+        unless(self.headers < MAX_HEADERS, Refusal::TooMany)
     }
 }
