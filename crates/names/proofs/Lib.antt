@@ -3,3 +3,4 @@ pub mod Laws
 pub mod Rows
 pub mod Codes
 pub mod Refusals
+pub mod Tables

@@ -1,28 +1,15 @@
--- What the functions that look names up promise to one another for their own speed: tables of lengths and of first letters, sets of them,
--- and flags of the token bytes. Whoever reads the promises of the public calls needs none of these.
+-- What the functions that look names up promise to one another for their own speed: sets of lengths and of first letters, and flags of the
+-- token bytes. Whoever reads the promises of the public calls needs none of these.
 -- Assumes nothing.
-use Rattle.std.specs.Prelude.{◌≡◌, Bool, false, List, ◌++◌, map, ℕ, ◌-◌, ◌%◌, ◌<◌, length, get_or, replicate}
+use Rattle.std.specs.Prelude.{◌≡◌, Bool, false, List, ℕ, ◌%◌, ◌<◌, get_or}
 use Rattle.wire.specs.Pick.{all}
 use Rattle.wire.specs.Bits.{bit}
-use Rattle.names.specs.declared.NameList.{NameList}
-use Rattle.names.specs.Names.{names_in, ignores_case, letter}
+use Rattle.names.specs.Names.{letter}
 use Rattle.names.specs.Token.{token_byte}
-
--- as many names as the longest list has
-abbrev pub most_names : ℕ
-most_names = 27
-
--- the lengths of a list's names, zeros behind them up to as many
-abbrev pub lengths_in : NameList → List ℕ
-lengths_in list = map length (names_in list) ++ replicate (most_names - length (names_in list)) 0
 
 -- the first letter of a text as it is compared, 0 where it has none
 abbrev pub first_of : Bool → List ℕ → ℕ
 first_of ignoring text = letter ignoring (get_or text 0 0)
-
--- the first letters of a list's names, zeros behind them up to as many
-abbrev pub firsts_in : NameList → List ℕ
-firsts_in list = map (first_of (ignores_case list)) (names_in list) ++ replicate (most_names - length (names_in list)) 0
 
 -- a set, as the bits of a number, that has all of these
 abbrev pub has_all : ℕ → List ℕ → Bool

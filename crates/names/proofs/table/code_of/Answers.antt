@@ -1,42 +1,29 @@
--- `table::code_of` meets its contract: each list has its own tables of lengths and first letters, which antt computes from the names.
+-- `table::code_of` meets its contract: the code of a name is as far from the list's first as the name is.
 -- Assumes nothing.
-use mathlib.Core.Path.{sym, ap}
-use Rattle.names.specs.Names.{method_names, request_names, response_names, attribute_names, letter}
-use Rattle.names.specs.Private.{lengths_in, firsts_in}
+use native.Mathlib.Omega.{arith}
+use Rattle.names.proofs.Laws.{code_room}
+use Rattle.names.proofs.Tables.{place_found, place_none}
 use Rattle.names.proofs.table.code_of.Goals as goal
 
-pub find-requires : goal.find-requires
-unfolding method_names letter
-find-requires c =
-    let list = c.in-Methods.is in
-    record {
-      lengths_value = sym (ap lengths_in list);
-      firsts_value = sym (ap firsts_in list);
-    }
+pub overflow_cast-result : goal.overflow_cast-result
+overflow_cast-result c =
+    let t = c.table_of-table.ensures in
+    let p = place_found c.args.list c.args.text.now _ _ _ t.names t.first t.ignoring c.in-Some.k c.in-Some.ensures in
+    omega (arith, p.0, code_room c.args.list)
 
-pub find-requires-in-RequestHeaders : goal.find-requires-in-RequestHeaders
-unfolding request_names letter
-find-requires-in-RequestHeaders c =
-    let list = c.in-RequestHeaders.is in
-    record {
-      lengths_value = sym (ap lengths_in list);
-      firsts_value = sym (ap firsts_in list);
-    }
+pub overflow_add-result : goal.overflow_add-result
+overflow_add-result c =
+    let t = c.table_of-table.ensures in
+    let p = place_found c.args.list c.args.text.now _ _ _ t.names t.first t.ignoring c.in-Some.k c.in-Some.ensures in
+    omega (arith, p.0, code_room c.args.list, t.first)
 
-pub find-requires-in-ResponseHeaders : goal.find-requires-in-ResponseHeaders
-unfolding response_names letter
-find-requires-in-ResponseHeaders c =
-    let list = c.in-ResponseHeaders.is in
-    record {
-      lengths_value = sym (ap lengths_in list);
-      firsts_value = sym (ap firsts_in list);
-    }
+pub returns-in-Some : goal.returns-in-Some
+returns-in-Some c =
+    let t = c.table_of-table.ensures in
+    let p = place_found c.args.list c.args.text.now _ _ _ t.names t.first t.ignoring c.in-Some.k c.in-Some.ensures in
+    p.1
 
-pub find-requires-in-Attributes : goal.find-requires-in-Attributes
-unfolding attribute_names letter
-find-requires-in-Attributes c =
-    let list = c.in-Attributes.is in
-    record {
-      lengths_value = sym (ap lengths_in list);
-      firsts_value = sym (ap firsts_in list);
-    }
+pub returns-in-None : goal.returns-in-None
+returns-in-None c =
+    let t = c.table_of-table.ensures in
+    place_none c.args.list c.args.text.now _ _ _ t.names t.first t.ignoring c.in-None.ensures

@@ -1,21 +1,38 @@
--- `table::name_of` meets its contract: a code below the first has no name, and any other the one at its distance from the first.
+-- `table::name_of` meets its contract: the name's bytes are copied into zeros.
 -- Assumes nothing.
-use mathlib.Core.Path.{sym, ap, ◌∙◌}
+use mathlib.Core.Path.{◌≡◌, sym, ap, ◌∙◌}
+use mathlib.Core.List.{List, ◌++◌}
+use Prim.Native.Nat.{ℕ, ◌≤◌}
 use native.Mathlib.Omega.{arith}
-use mathlib.Core.List.{[]}
-use Prim.Native.Nat.{◌-◌}
-use lib.ListN.{get_or}
-use Rattle.names.specs.Names.{names_in}
-use Rattle.names.specs.Row.{padded}
-use Rattle.names.proofs.Laws.{name_below, name_from, as_padded}
+use lib.ListN.{length, drop, replicate}
+use lib.Seq.{length-take-le}
+use Rattle.names.specs.declared.NameList.{NameList}
+use Rattle.names.specs.Names.{name_for}
+use Rattle.names.specs.Row.{row_of}
+use Rattle.std.proofs.lemmas.List.{drop-replicate}
+use Rattle.names.proofs.Laws.{as_padded}
+use Rattle.names.proofs.Codes.{name_length}
 use Rattle.names.proofs.table.name_of.Goals as goal
 
-pub returns-then-code-first : goal.returns-then-code-first
-returns-then-code-first c = c.no_name.ensures ∙ ap padded (sym (name_below _ _ (omega (arith, c.first_code-first.ensures))))
+-- the name has room
+fits : (list : NameList) (code : ℕ) (text : List ℕ) → text ≡ name_for list code → length text ≤ 17
+fits list code text e = omega (arith, ap length e, (name_length list code).0)
+
+pub slice_bounds-bytes-end : goal.slice_bounds-bytes-end
+slice_bounds-bytes-end c = fits _ _ _ c.bytes_for-text.ensures
+
+pub slice_bounds-copy_from_slice-end : goal.slice_bounds-copy_from_slice-end
+slice_bounds-copy_from_slice-end c = sym (length-take-le _ (replicate 17 0) (fits _ _ _ c.bytes_for-text.ensures))
+
+pub copy_from_slice-requires : goal.copy_from_slice-requires
+copy_from_slice-requires c = length-take-le _ (replicate 17 0) (fits _ _ _ c.bytes_for-text.ensures)
+
+-- a text over the front of zeros
+over_zeros : (name text copied : List ℕ) → text ≡ name → copied ≡ text → copied ++ drop (length text) (replicate 17 0) ≡ row_of name
+over_zeros name text copied e f = rw (f, e, drop-replicate {X = ℕ} (length name) 17 0)
 
 pub returns : goal.returns
 returns c =
-    let a = c.args in
-    let first = c.first_code-first in
-    as_padded (get_or (names_in a.list) (a.code - first.result) []) _ _ c.row-bytes.ensures c.length_at-len.ensures
-    ∙ ap padded (sym (name_from a.list a.code first.result first.ensures c.if-code-first.false))
+    as_padded (name_for c.args.list c.args.code) _ _
+    (over_zeros _ _ _ c.bytes_for-text.ensures c.copy_from_slice.ensures.after)
+    (ap length c.bytes_for-text.ensures)
