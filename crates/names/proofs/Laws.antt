@@ -1,7 +1,7 @@
 -- Laws of the names: what it is to spell one, and where it stands in its list.
 -- Assumes nothing.
 use borrow.Author.Tests.{le-leb, lt-leb, lt-ltb, le-ltb, ltb-true, ltb-false, ne_eqb}
-use mathlib.Core.Path.{◌≡◌, refl, sym, ap, ◌∙◌}
+use mathlib.Core.Path.{◌≡◌, refl, ap}
 use mathlib.Core.Bool.{Bool, true, false}
 use mathlib.Core.List.{List, [], ◌∷◌}
 use Prim.Native.Nat.{ℕ, suc, ◌+◌, ◌-◌, ◌≤◌, ◌<◌}
@@ -10,9 +10,8 @@ use lib.Dec.{ltb, eqb, lit<}
 use lib.ListN.{length, get_or, replicate}
 use lib.Seq.{take-append_seam}
 use Rattle.wire.specs.Pick.{both}
-use Rattle.packet.specs.declared.Name.{Name}
 use Rattle.names.specs.declared.NameList.{NameList}
-use Rattle.names.specs.Names.{method_names, request_names, response_names, attribute_names, names_in, first_code, ignores_case, is_listed, name_for, letter, same_name}
+use Rattle.names.specs.Names.{method_names, request_names, response_names, attribute_names, names_in, first_code, is_listed, name_for, letter, same_name}
 use Rattle.names.specs.Row.{name_room, row_of, padded, name_bytes}
 use Rattle.names.specs.Private.{first_of}
 

@@ -5,24 +5,24 @@ use borrow.Author.Rules.{rules}
 use mathlib.Core.Path.{◌≡◌, refl, sym, ap, ◌∙◌}
 use mathlib.Core.Bool.{Bool, true, false, not}
 use mathlib.Core.List.{List, [], ◌∷◌, map}
-use Prim.Native.Nat.{ℕ, zero, suc, ◌+◌, ◌-◌, ◌≤◌, ◌<◌}
+use Prim.Native.Nat.{ℕ, suc, ◌+◌, ◌-◌, ◌≤◌, ◌<◌}
 use native.Mathlib.Nat.{add-zero}
 use native.Mathlib.Omega.{arith}
 use lib.Dec.{ltb, eqb}
 use lib.ListN.{length, get_or, get_or-eq_default}
 use denote.Ref.{Bor}
-use Rattle.std.proofs.Common.{cond, Option, Some, None}
-use Rattle.std.specs.Bool.{IsTrue, Decides}
+use Rattle.std.proofs.Common.{cond, Some, None}
+use Rattle.std.specs.Bool.{IsTrue}
 use Rattle.std.specs.Prelude.{◌↔◌}
 use Rattle.std.specs.Char.{to_ascii_lowercase}
 use Rattle.std.specs.Str.{bytes_eq}
 use Rattle.std.specs.Cmp.Lexicographic.{pointwise}
-use Rattle.std.specs.List.{position, position_or_len, prefix_len}
+use Rattle.std.specs.List.{position, position_or_len}
 use Rattle.std.proofs.lemmas.List.{length-map, get_or-map}
 use Rattle.std.proofs.lemmas.Bool.Decides.{nat_tests, same_from_decides}
 use Rattle.std.proofs.lemmas.Slice.Eq.{bytes_eq-Decides}
-use Rattle.wire.specs.Pick.{pick, both, between}
-use Rattle.names.proofs.Laws.{name_from}
+use Rattle.wire.specs.Pick.{pick}
+use Rattle.names.proofs.Laws.{name_from, code_room}
 use Rattle.names.specs.declared.NameList.{NameList}
 use Rattle.std.specs.Prelude.{Some, None}
 use Rattle.names.specs.Names.{names_in, first_code, ignores_case, name_for, letter, same_name, code_from, code_in}
@@ -114,16 +114,16 @@ module _ (list : NameList) (text : List ℕ) (ignoring : Bool) (first : ℕ) (na
   by_place = rw (← compared, ← starts, ← all) (place_code ignoring text first names)
 
   pub place_found : (k : ℕ) → Some k ≡ position (is_spelled ignoring text) names
-      → (k < length (names_in list)) × (Some (first + k) ≡ code_in list text)
+      → (first + k < 65536) × (Some (first + k) ≡ code_in list text)
   place_found k e = go (ltb (position_or_len (is_spelled ignoring text) names) (length names)) refl e by_place
     where
       go : (t : Bool) → ltb (position_or_len (is_spelled ignoring text) names) (length names) ≡ t
           → Some k ≡ cond t (Some (position_or_len (is_spelled ignoring text) names)) None
           → code_in list text ≡ cond t (Some (first + position_or_len (is_spelled ignoring text) names)) None
-          → (k < length (names_in list)) × (Some (first + k) ≡ code_in list text)
+          → (first + k < 65536) × (Some (first + k) ≡ code_in list text)
       go true t e f =
           let q : k ≡ position_or_len (is_spelled ignoring text) names = cc in
-          (omega (arith, ltb-true _ _ t, count list names all), rw q (sym f))
+          (omega (arith, ltb-true _ _ t, count list names all, code_room list), rw q (sym f))
       go false t e f = absurd (cc)
 
   pub place_none : None ≡ position (is_spelled ignoring text) names → None ≡ code_in list text

@@ -8,7 +8,7 @@ ghost use Rattle.names.specs.Header.{begins_code, header_names, code_fault, is_f
 
 use crate::token::BYTES;
 use crate::{NameList, table, token};
-use packet::{Direction, NAME_ROOM, Name};
+use packet::{Direction, NAME_ROOM};
 use wire::refusal::Refusal;
 
 // Whether a name that begins with this byte is a code, and no string.
@@ -29,6 +29,7 @@ pub fn names_of(direction: Direction) -> NameList
 }
 
 // The fault of a code as a header's name.
+#[tactic(auto, unfolding(crate::specs::Header::code_fault))]
 pub fn code_fault(direction: Direction, code: u16) -> Result<(), Refusal>
     ensures { fault_number result ≡ code_fault direction code }
 {
@@ -39,30 +40,18 @@ pub fn code_fault(direction: Direction, code: u16) -> Result<(), Refusal>
 }
 
 // Whether a text spells transfer-encoding.
+
 pub fn is_transfer_encoding(text: &[u8]) -> bool
     ensures { result ≡ is_transfer_encoding text.now }
 {
-    let name = Name {
-        bytes: *b"transfer-encoding",
-        len: NAME_ROOM,
-    };
-    table::spells(true, name, text)
+    b"transfer-encoding".eq_ignore_ascii_case(text)
 }
-
-// The lengths of the listed names of a request and of a response, as sets: bit n is set for n bytes.
-const REQUEST_LENGTHS: u32 = 0xF4D0;
-
-const RESPONSE_LENGTHS: u32 = 0x17D50;
-
-// The letters that they begin with: bit n is set for the n-th of the alphabet, capital or small.
-const REQUEST_LETTERS: u32 = 0x25010A;
-
-const RESPONSE_LETTERS: u32 = 0x881018;
 
 // How many bits a set has.
 const BITS: u8 = 32;
 
 // Whether a number is in a set.
+#[tactic(auto, using(wire::proofs::Bits::bit_shifted))]
 fn in_set(set: u32, n: u8) -> bool
     requires { n < 32 }
     ensures { result ≡ bit set n }
@@ -70,41 +59,46 @@ fn in_set(set: u32, n: u8) -> bool
     (set >> n) & 1 == 1
 }
 
-// A set of all the lengths that a direction's listed names have.
-fn lengths_of(direction: Direction) -> u32
-    ensures { has_all result (map length (names_in (header_names direction))) ≡ true }
-{
-    match direction {
-        Direction::ToContainer => REQUEST_LENGTHS,
-        Direction::ToServer => RESPONSE_LENGTHS,
-    }
+// What tells most texts from the listed names of a direction, as sets of numbers: the names' lengths, and the places in the alphabet of the
+// letters that they begin with, capital or small.
+#[derive(Clone, Copy)]
+struct ListedSets {
+    lengths: u32,
+    letters: u32,
 }
 
-// A set of all the letters that they begin with.
-fn letters_of(direction: Direction) -> u32
-    ensures { has_all result (map alphabet_place (names_in (header_names direction))) ≡ true }
+// The sets of a direction's listed names.
+#[tactic(auto, unfolding(wire::specs::Pick::all, wire::specs::Bits::bit, crate::specs::Names::request_names, crate::specs::Names::response_names))]
+fn listed_sets(direction: Direction) -> ListedSets
+    ensures lengths { has_all result.lengths (map length (names_in (header_names direction))) ≡ true }
+    ensures letters { has_all result.letters (map alphabet_place (names_in (header_names direction))) ≡ true }
 {
     match direction {
-        Direction::ToContainer => REQUEST_LETTERS,
-        Direction::ToServer => RESPONSE_LETTERS,
+        Direction::ToContainer => ListedSets {
+            lengths: 0xF4D0,
+            letters: 0x25010A,
+        },
+        Direction::ToServer => ListedSets {
+            lengths: 0x17D50,
+            letters: 0x881018,
+        },
     }
 }
 
 // Whether a text may spell a listed name, by its length and its first letter, which tell most spelled names from the listed ones.
+#[tactic(auto, using(crate::proofs::Codes::unlisted_long, crate::proofs::Codes::unlisted_length, crate::proofs::Codes::unlisted_letter))]
 fn may_be_listed(direction: Direction, text: &[u8]) -> bool
     ensures { result ≡ false → code_in (header_names direction) text.now ≡ None }
 {
-    let n = text.len();
-    if n == 0 {
-        return true;
+    match text {
+        [] => true,
+        [first, ..] => {
+            let sets = listed_sets(direction);
+            text.len() <= NAME_ROOM
+                && in_set(sets.lengths, text.len() as u8)
+                && in_set(sets.letters, first % BITS)
+        }
     }
-    if NAME_ROOM < n {
-        return false;
-    }
-    if !in_set(lengths_of(direction), n as u8) {
-        return false;
-    }
-    in_set(letters_of(direction), text[0] % BITS)
 }
 
 // The code of the header's name that a text spells, small and capital letters taken as one.
@@ -125,34 +119,24 @@ fn is_listed_name(direction: Direction, text: &[u8]) -> bool
 }
 
 // The fault of a text as a header's spelled name; `flags` are those of the token bytes. That it is not empty is the string's own rule.
-pub fn spelled_fault(
-    direction: Direction,
-    text: &[u8],
-    flags: &[bool; BYTES],
-) -> Result<(), Refusal>
+#[tactic(auto, unfolding(crate::specs::Header::spelled_fault))]
+pub fn spelled_fault(direction: Direction, text: &[u8], flags: &[bool; BYTES]) -> Result<(), Refusal>
     requires { TokenFlags flags.now }
     ensures { fault_number result ≡ spelled_fault direction text.now }
 {
-    if !token::is_token(text, flags) {
-        return Err(Refusal::NameWrong);
-    }
-    if is_listed_name(direction, text) {
+    if !token::is_token(text, flags) || is_listed_name(direction, text) {
         return Err(Refusal::NameWrong);
     }
     unlisted_fault(direction, text)
 }
 
 // The fault of a spelled name that is not listed.
+#[tactic(auto, unfolding(crate::specs::Header::unlisted_fault))]
 fn unlisted_fault(direction: Direction, text: &[u8]) -> Result<(), Refusal>
     ensures { fault_number result ≡ unlisted_fault direction text.now }
 {
-    match direction {
-        Direction::ToServer => Ok(()),
-        Direction::ToContainer => {
-            if is_transfer_encoding(text) {
-                return Err(Refusal::ContentLengthWrong);
-            }
-            Ok(())
-        }
+    if matches!(direction, Direction::ToContainer) && is_transfer_encoding(text) {
+        return Err(Refusal::ContentLengthWrong);
     }
+    Ok(())
 }

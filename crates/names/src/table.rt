@@ -96,6 +96,7 @@ struct Table {
 }
 
 // The table of a list.
+#[tactic(auto, unfolding(crate::specs::Names::method_names, crate::specs::Names::request_names, crate::specs::Names::response_names, crate::specs::Names::attribute_names))]
 fn table_of(list: NameList) -> Table
     ensures names { map (λ name. name.now) result.names.now ≡ names_in list }
     ensures first { result.first ≡ first_code list }
@@ -147,7 +148,7 @@ fn bytes_for(list: NameList, code: u16) -> &'static [u8]
     }
 }
 
-// The name for a code; no bytes where it is not listed.
+// The name for a code; no bytes where it is not listed. A `Name` has a length beside its bytes since the C call `ajp13_name` copies it out.
 pub fn name_of(list: NameList, code: u16) -> Name
     ensures { result ≡ padded (name_for list code) }
 {
@@ -162,6 +163,7 @@ pub fn name_of(list: NameList, code: u16) -> Name
 
 // Whether a text is a name, where capital and small letters are taken as one or not. Mostly the lengths tell, and a text that is the name
 // is mostly the name as it stands.
+#[tactic(auto, using(crate::proofs::Tables::same_bytes, crate::proofs::Tables::same_exact, crate::proofs::Laws::same_length))]
 #[inline(always)]
 fn is_same(ignoring: bool, name: &[u8], text: &[u8]) -> bool
     ensures { result ≡ same_name ignoring name.now text.now }

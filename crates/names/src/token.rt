@@ -19,10 +19,8 @@ pub fn is_token(text: &[u8], flags: &[bool; BYTES]) -> bool
     ensures { result ≡ is_token text.now }
 {
     let mut good = true;
-    let mut i = 0;
-    while i < text.len() {
-        good = good & flags[text[i] as usize];
-        i += 1;
+    for b in text {
+        good = good & flags[*b as usize];
     }
     good
 }

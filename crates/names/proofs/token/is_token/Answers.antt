@@ -1,28 +1,21 @@
 -- `token::is_token` meets its contract. The invariant: the flag and the test of the bytes still to come are the test of the whole text.
 -- Assumes nothing.
-use borrow.Author.Rules.{rules}
 use native.Mathlib.Omega.{arith}
-use mathlib.Core.Path.{refl}
 use lib.ListN.{get_or}
 use Rattle.wire.proofs.Scan.{all_step, all_end}
 use Rattle.names.specs.Token.{token_byte}
 use Rattle.names.specs.Private.{TokenFlags}
 use Rattle.names.proofs.token.is_token.Goals as goal
 
-pub loop-i-init : goal.loop-i-init
-loop-i-init c = (search rules, refl)
-
-pub loop-i-preserved : goal.loop-i-preserved
+pub loop-b-preserved : goal.loop-b-preserved
 unfolding TokenFlags
-loop-i-preserved c =
-    let l = c.loop-i in
-    let text = c.args.text.now in (
-      search rules,
-      all_step token_byte text l.good l.i _ (search rules)
-          (c.requires (get_or text l.i 0) (omega (arith, c.shared_slice_known-1.given l.i))) l.invariant.1,
-    )
+loop-b-preserved c =
+    let l = c.loop-b in
+    let text = c.args.text.now in
+    all_step token_byte text l.good l.b-index _ c.loop-b-test.true
+    (c.requires (get_or text l.b-index 0) (omega (arith, c.type_inv.text l.b-index))) l.invariant
 
 pub returns : goal.returns
 returns c =
-    let l = c.loop-i in
-    all_end token_byte c.args.text.now l.good l.i (search rules) (search rules) l.invariant.1
+    let l = c.loop-b in
+    all_end token_byte c.args.text.now l.good l.b-index (omega arith) c.loop-b-test.false l.invariant
