@@ -92,12 +92,11 @@ fn may_be_listed(direction: Direction, text: &[u8]) -> bool
 {
     match text {
         [] => true,
-        [first, ..] => {
+        [first, ..] if text.len() <= NAME_ROOM => {
             let sets = listed_sets(direction);
-            text.len() <= NAME_ROOM
-                && in_set(sets.lengths, text.len() as u8)
-                && in_set(sets.letters, first % BITS)
+            in_set(sets.lengths, text.len() as u8) && in_set(sets.letters, first % BITS)
         }
+        _ => false,
     }
 }
 
