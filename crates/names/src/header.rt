@@ -119,7 +119,11 @@ fn is_listed_name(direction: Direction, text: &[u8]) -> bool
 
 // The fault of a text as a header's spelled name; `flags` are those of the token bytes. That it is not empty is the string's own rule.
 #[tactic(auto, unfolding(crate::specs::Header::spelled_fault))]
-pub fn spelled_fault(direction: Direction, text: &[u8], flags: &[bool; BYTES]) -> Result<(), Refusal>
+pub fn spelled_fault(
+    direction: Direction,
+    text: &[u8],
+    flags: &[bool; BYTES],
+) -> Result<(), Refusal>
     requires { TokenFlags flags.now }
     ensures { fault_number result ≡ spelled_fault direction text.now }
 {
