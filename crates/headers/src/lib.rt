@@ -8,14 +8,12 @@ ghost use Rattle.wire.specs.Refusal.{string_wrong};
 ghost use Rattle.wire.specs.Bytes.{over};
 ghost use Rattle.wire.specs.Field.{is_optional, holds_barred, after_length, string_at, integer_at};
 ghost use Rattle.wire.specs.Read.{fault_number};
-ghost use Rattle.names.specs.Private.{TokenFlags};
 ghost use Rattle.names.specs.Header.{spelled_fault};
 ghost use Rattle.places.specs.Private.{max_place};
 ghost use Rattle.headers.specs.Read.{length_meaning, name_meaning, header_meaning, headers_meaning};
 ghost use Rattle.headers.specs.Headers.{name_at, code_name_of, spelled_of, declares, declared_after, header_value_at, header_at, headers_at};
 
-use names::token::BYTES;
-use names::{header, token};
+use names::header;
 use packet::Direction;
 use places::put_pair;
 use wire::read::{Field, Span};
@@ -39,14 +37,8 @@ pub struct ReadHeader {
     pub next: usize,
 }
 
-// The header name at a place; `flags` are those of the token bytes. Nothing is judged before its first two bytes are there.
-pub fn name_at(
-    direction: Direction,
-    packet: &[u8],
-    at: usize,
-    flags: &[bool; BYTES],
-) -> Result<Field<ReadName>, Refusal>
-    requires { TokenFlags flags.now }
+// The header name at a place. Nothing is judged before its first two bytes are there.
+pub fn name_at(direction: Direction, packet: &[u8], at: usize) -> Result<Field<ReadName>, Refusal>
     ensures { name_meaning result ≡ name_at direction packet.now at }
 {
     if !has_room(packet.len(), at, 2) {
@@ -55,7 +47,7 @@ pub fn name_at(
     if header::begins_code(packet[at]) {
         return code_name(direction, packet, at);
     }
-    spelled_name(direction, packet, at, flags)
+    spelled_name(direction, packet, at)
 }
 
 // The name at a place where its code is.
@@ -71,17 +63,11 @@ fn code_name(direction: Direction, packet: &[u8], at: usize) -> Result<Field<Rea
 }
 
 // A name that is spelled out: a string, by its length.
-fn spelled_name(
-    direction: Direction,
-    packet: &[u8],
-    at: usize,
-    flags: &[bool; BYTES],
-) -> Result<Field<ReadName>, Refusal>
-    requires { TokenFlags flags.now }
+fn spelled_name(direction: Direction, packet: &[u8], at: usize) -> Result<Field<ReadName>, Refusal>
     ensures { name_meaning result ≡ spelled_of direction packet.now (string_at packet.now at (is_optional StringField.HeaderName)) }
 {
     let Field { value, next } = read::integer(packet, at)?;
-    name_text(direction, packet, value, next, flags)
+    name_text(direction, packet, value, next)
 }
 
 // What follows a spelled name's length, judged as `read::string` judges it, but for its bytes: they are looked through once, for all their
@@ -91,9 +77,7 @@ fn name_text(
     packet: &[u8],
     size: u16,
     start: usize,
-    flags: &[bool; BYTES],
 ) -> Result<Field<ReadName>, Refusal>
-    requires { TokenFlags flags.now }
     ensures { name_meaning result ≡ spelled_of direction packet.now (after_length packet.now (is_optional StringField.HeaderName) size start) }
 {
     if size == NULL_LENGTH {
@@ -110,7 +94,7 @@ fn name_text(
     if packet[end] != 0 {
         return Err(Refusal::StringWrong);
     }
-    text_fault(direction, &packet[start..end], flags)?;
+    text_fault(direction, &packet[start..end])?;
     Ok(Field {
         value: ReadName::Spelled(Span { start, len }),
         next: end + 1,
@@ -119,11 +103,10 @@ fn name_text(
 
 // The fault of a spelled name's bytes: a barred byte, then the name's own. A name without a fault holds no barred byte, so only another is
 // looked through for one.
-fn text_fault(direction: Direction, text: &[u8], flags: &[bool; BYTES]) -> Result<(), Refusal>
-    requires { TokenFlags flags.now }
+fn text_fault(direction: Direction, text: &[u8]) -> Result<(), Refusal>
     ensures { fault_number result ≡ pick (holds_barred text.now) string_wrong (spelled_fault direction text.now) }
 {
-    match header::spelled_fault(direction, text, flags) {
+    match header::spelled_fault(direction, text) {
         Ok(()) => Ok(()),
         Err(fault) => {
             if holds_barred(text) {
@@ -182,26 +165,23 @@ fn value_at(
     })
 }
 
-// The header at a place; `before` is what the headers before it declare, and `flags` are those of the token bytes.
+// The header at a place; `before` is what the headers before it declare.
 pub fn header_at(
     direction: Direction,
     packet: &[u8],
     at: usize,
     before: Option<u32>,
-    flags: &[bool; BYTES],
 ) -> Result<ReadHeader, Refusal>
-    requires { TokenFlags flags.now }
     ensures { header_meaning result ≡ header_at direction packet.now at before }
 {
-    let Field { value, next } = name_at(direction, packet, at, flags)?;
+    let Field { value, next } = name_at(direction, packet, at)?;
     match value {
         ReadName::Code(code) => value_at(packet, next, declares_length(direction, code), before),
         ReadName::Spelled(_) => value_at(packet, next, false, before),
     }
 }
 
-// Reads `count` headers from a place on, and puts the places of each one's name and value into a table, from its start on. The flags of the
-// token bytes are laid out once for all of them.
+// Reads `count` headers from a place on, and puts the places of each one's name and value into a table, from its start on.
 pub fn headers(
     direction: Direction,
     packet: &[u8],
@@ -213,11 +193,10 @@ pub fn headers(
     ensures value { headers_meaning result ≡ (headers_at direction packet.now at count None).end }
     ensures table_after { table.new ≡ over table.old 0 (headers_at direction packet.now at count None).places }
 {
-    let flags = token::flags();
     let mut declared = None;
     let mut place = at;
     for i in 0..count as usize {
-        let header = header_at(direction, packet, place, declared, &flags)?;
+        let header = header_at(direction, packet, place, declared)?;
         put_pair(table, i + i, place as u16, header.value as u16);
         declared = header.declared;
         place = header.next;

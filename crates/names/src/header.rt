@@ -2,11 +2,10 @@
 ghost use Rattle.std.specs.Prelude.{◌≡◌, None, true, false, map, ◌<◌, length};
 ghost use Rattle.wire.specs.Bits.{bit};
 ghost use Rattle.wire.specs.Read.{fault_number};
-ghost use Rattle.names.specs.Private.{TokenFlags, has_all, alphabet_place};
+ghost use Rattle.names.specs.Private.{has_all, alphabet_place};
 ghost use Rattle.names.specs.Names.{names_in, code_in};
 ghost use Rattle.names.specs.Header.{begins_code, header_names, code_fault, is_found, is_transfer_encoding, unlisted_fault, spelled_fault};
 
-use crate::token::BYTES;
 use crate::{NameList, table, token};
 use packet::{Direction, NAME_ROOM};
 use wire::refusal::Refusal;
@@ -117,17 +116,12 @@ fn is_listed_name(direction: Direction, text: &[u8]) -> bool
     code_of(direction, text).is_some()
 }
 
-// The fault of a text as a header's spelled name; `flags` are those of the token bytes. That it is not empty is the string's own rule.
+// The fault of a text as a header's spelled name. That it is not empty is the string's own rule.
 #[tactic(auto, unfolding(crate::specs::Header::spelled_fault))]
-pub fn spelled_fault(
-    direction: Direction,
-    text: &[u8],
-    flags: &[bool; BYTES],
-) -> Result<(), Refusal>
-    requires { TokenFlags flags.now }
+pub fn spelled_fault(direction: Direction, text: &[u8]) -> Result<(), Refusal>
     ensures { fault_number result ≡ spelled_fault direction text.now }
 {
-    if !token::is_token(text, flags) || is_listed_name(direction, text) {
+    if !token::is_token(text) || is_listed_name(direction, text) {
         return Err(Refusal::NameWrong);
     }
     unlisted_fault(direction, text)

@@ -1,6 +1,5 @@
 // Names and codes: tokens, and the listed names of methods, headers and attributes.
-// An inner crate: the layers above call it, a user of the library does not. Every call answers for any bytes and any code; one that is
-// lent the flags of the token bytes asks that they follow the rule.
+// An inner crate: the layers above call it, a user of the library does not. Every call answers for any bytes and any code.
 #![tactic(auto)]
 
 pub mod attribute;

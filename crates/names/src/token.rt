@@ -4,20 +4,20 @@ ghost use Rattle.names.specs.Token.{is_token};
 ghost use Rattle.names.specs.Private.{TokenFlags};
 
 // How many values a byte has.
-pub const BYTES: usize = 256;
+const BYTES: usize = 256;
 
-// The table of token bytes. It is laid out on every call, so whoever judges many texts calls this once.
-pub fn flags() -> [bool; BYTES]
-    ensures { TokenFlags result }
+// The table of token bytes.
+fn flags() -> &'static [bool; BYTES]
+    ensures { TokenFlags result.now }
 {
-    TOKEN
+    &TOKEN
 }
 
-// Whether a text is made of token bytes alone, by their table. The loop has no early way out.
-pub fn is_token(text: &[u8], flags: &[bool; BYTES]) -> bool
-    requires { TokenFlags flags.now }
+// Whether a text is made of token bytes alone. The loop has no early way out.
+pub fn is_token(text: &[u8]) -> bool
     ensures { result ≡ is_token text.now }
 {
+    let flags = flags();
     let mut good = true;
     for b in text {
         good = good & flags[*b as usize];
@@ -26,7 +26,7 @@ pub fn is_token(text: &[u8], flags: &[bool; BYTES]) -> bool
 }
 
 // A flag for each byte value, set where it is a token byte; beside it, the character. Above each sixteen, the characters that these values are.
-const TOKEN: [bool; BYTES] = [
+static TOKEN: [bool; BYTES] = [
     // 00 to 0F
     false, false, false, false, false, false, false, false, false, false, false, false, false,
     false, false, false,

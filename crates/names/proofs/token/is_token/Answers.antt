@@ -13,7 +13,7 @@ loop-b-preserved c =
     let l = c.loop-b in
     let text = c.args.text.now in
     all_step token_byte text l.good l.b-index _ c.loop-b-test.true
-    (c.requires (get_or text l.b-index 0) (omega (arith, c.type_inv.text l.b-index))) l.invariant
+    (c.flags-flags.ensures (get_or text l.b-index 0) (omega (arith, c.type_inv.text l.b-index))) l.invariant
 
 pub returns : goal.returns
 returns c =
