@@ -2,12 +2,16 @@
 // keeps it from reading the whole of a capture is told on standard error, and then nothing is written to standard output.
 #![tactic(auto)]
 
+mod command;
+mod failure;
 mod run;
 mod show;
-mod word;
 
+use crate::command::Command;
+use crate::failure::Failure;
 use std::env::FillError;
 use std::fs::File;
+use std::io::Read;
 use std::rt::Env;
 use std::{io, str};
 
@@ -15,64 +19,64 @@ use std::{io, str};
 const NAME: usize = 4096;
 
 fn main(rt: HostRuntime) {
-    if !has_word(&rt, 1) {
-        run::judge(&rt, &mut rt.stdin(), "standard input");
-        return;
-    }
-    if has_word(&rt, 2) {
-        complain(&rt, "only one capture is checked at a time", "");
-        return;
-    }
     let mut room = [0u8; NAME];
-    match named(&rt, &mut room) {
-        Ok(word) => by_word(&rt, word),
-        Err(why) => run::fail(&rt, "the name of the capture", why),
+    if let Err(failure) = obey(&rt, &mut room) {
+        let _ = eprintln!(rt; "check_capture: {failure}");
     }
+}
+
+// Does what the command line asks for. Its word is stored in the room.
+fn obey<'a>(rt: &HostRuntime, room: &'a mut [u8]) -> Result<(), Failure<'a>> {
+    match asked(rt, room)? {
+        Command::Help => help(rt),
+        Command::StandardInput => judge(rt, &mut rt.stdin(), "standard input"),
+        Command::File(name) => {
+            let mut file = File::open(rt, name).map_err(|why| Failure::Io { name, why })?;
+            judge(rt, &mut file, name)
+        }
+    }
+}
+
+// What the command line asks for. A name that is no text cannot be opened.
+fn asked<'a>(rt: &impl Env, room: &'a mut [u8]) -> Result<Command<'a>, Failure<'a>> {
+    if !has_word(rt, 1) {
+        return Ok(Command::StandardInput);
+    }
+    if has_word(rt, 2) {
+        return Err(Failure::TooManyWords);
+    }
+    let word = named(rt, room).map_err(|why| Failure::Io {
+        name: "the name of the capture",
+        why,
+    })?;
+    Command::try_from(word)
 }
 
 // Whether the command line has a word of this number. The program's own name is number 0.
 fn has_word(rt: &impl Env, number: usize) -> bool {
-    match rt.arg(number, &mut [0; 0]) {
-        Ok(_) => true,
-        Err(FillError::TooLong) => true,
-        Err(FillError::NotPresent) => false,
-    }
+    !matches!(rt.arg(number, &mut [0; 0]), Err(FillError::NotPresent))
 }
 
-// The first word on the command line, which is stored in the room. A name that is no text cannot be opened.
+// The first word on the command line.
 fn named<'a>(rt: &impl Env, room: &'a mut [u8]) -> io::Result<&'a str> {
-    match rt.arg(1, room) {
-        Ok(size) => match str::from_utf8(&room[..size]) {
-            Ok(word) => Ok(word),
-            Err(_) => Err(io::Error::new(io::ErrorKind::InvalidInput, "it is not UTF-8")),
-        },
-        Err(_) => Err(io::Error::from(io::ErrorKind::InvalidFilename)),
-    }
+    let size = rt
+        .arg(1, room)
+        .map_err(|_| io::Error::from(io::ErrorKind::InvalidFilename))?;
+    str::from_utf8(&room[..size]).map_err(|_| io::Error::new(
+        io::ErrorKind::InvalidInput,
+        "it is not UTF-8",
+    ))
 }
 
-// By the word on the command line: help, standard input, or a file.
-fn by_word(rt: &HostRuntime, word: &str) {
-    if word::is(word.as_bytes(), b"--help") {
-        help(rt);
-        return;
-    }
-    if word::is(word.as_bytes(), b"-") {
-        run::judge(rt, &mut rt.stdin(), "standard input");
-        return;
-    }
-    if word::begins(word.as_bytes(), b'-') {
-        complain(rt, "unknown word ", word);
-        return;
-    }
-    match File::open(rt, word) {
-        Ok(mut file) => run::judge(rt, &mut file, word),
-        Err(why) => run::fail(rt, word, why),
-    }
+// Checks what is read from a file, and writes the six lines.
+fn judge<'a>(rt: &impl Print, file: &mut impl Read, name: &'a str) -> Result<(), Failure<'a>> {
+    let checked = run::check(file).map_err(|why| Failure::Io { name, why })?;
+    written(show::lines(rt, checked))
 }
 
 // Says what the program does.
-fn help(rt: &(impl Print + Eprint)) {
-    let written = rt.print(
+fn help(rt: &impl Print) -> Result<(), Failure<'static>> {
+    written(rt.print(
         "usage: check_capture [FILE]
 
 Checks a capture of an AJP13 connection: whole packets of both directions, one behind the other, as
@@ -84,13 +88,13 @@ body=       bytes of request bodies in them    place=     where the refused pack
 
 It stops at the first fault. docs/CAPTURES.md says what each number means, and how to make a capture.
 ",
-    );
-    if let Err(why) = written {
-        run::fail(rt, "standard output", why);
-    }
+    ))
 }
 
-// Says on standard error what is wrong with the command line.
-fn complain(rt: &impl Eprint, what: &str, word: &str) {
-    let _ = eprintln!(rt; "check_capture: {what}{word} (check_capture --help says what it takes)");
+// What became of writing to standard output.
+fn written(outcome: io::Result<()>) -> Result<(), Failure<'static>> {
+    outcome.map_err(|why| Failure::Io {
+        name: "standard output",
+        why,
+    })
 }
