@@ -1,15 +1,20 @@
-// The two ends: the connection that each of them keeps, and how many sends there were.
-use connection::Connection;
-use conversation_text::record;
+// The two ends: the connection that each of them keeps, and how many sends there were. A packet that one of them wrote is carried to the
+// other, which reads it.
+use crate::content::Content;
+use connection::{Connection, Sent};
+use conversation_text::record::Record;
+use conversation_text::{row, told, words};
 use packet::Direction;
-use std::io;
-use vectors_text::text;
+use places::MAX_PLACES;
+use reader::Received;
+use std::{fmt, io};
+use wire::part_of;
 
 #[derive(Clone, Copy)]
 pub struct Ends {
-    pub server: Connection,
-    pub container: Connection,
-    pub sends: usize,
+    server: Connection,
+    container: Connection,
+    sends: u32,
 }
 
 impl Ends {
@@ -21,44 +26,79 @@ impl Ends {
         }
     }
 
-    // With one more send.
-    pub fn counted(self) -> Ends {
-        let server = self.server;
-        let container = self.container;
-        Ends {
-            server,
-            container,
-            sends: text::after(self.sends),
+    // Sends a packet. The send is printed, and so are the ends after it: where it was refused, as they were.
+    pub fn send(&mut self, rt: &impl Print, content: Content<'_>) -> io::Result<()> {
+        let direction = content.direction();
+        self.sends = self.sends.saturating_add(1);
+        print!(rt; "\n{}. ", self.sends)?;
+        words::way(rt, direction)?;
+        println!(rt; "{content}")?;
+        let mut buffer = [0u8; Connection::MAX_PACKET];
+        match content.write(*self.sender(direction), &mut buffer) {
+            Sent::Refused(number) => words::refusal(rt, number)?,
+            Sent::Written { size, connection } => {
+                let packet = part_of(&buffer, 0, size);
+                *self.sender(direction) = connection;
+                row::show_all(rt, packet)?;
+                self.carry(rt, direction, packet)?;
+            }
+        }
+        print!(rt; "{self}")
+    }
+
+    // Carries a packet to the end to which a direction leads. What it reads is printed.
+    fn carry(&mut self, rt: &impl Print, direction: Direction, bytes: &[u8]) -> io::Result<()> {
+        let mut table = [0u16; MAX_PLACES];
+        let received = match direction {
+            Direction::ToContainer => {
+                reader::read_at_container(self.container, bytes, &mut table)
+            }
+            Direction::ToServer => reader::read_at_server(self.server, bytes, &mut table),
+        };
+        match received {
+            Received::Needs(n) => println!(rt; "    needs {n} bytes"),
+            Received::Refused(number) => words::refusal(rt, number),
+            Received::Accepted {
+                packet,
+                taken,
+                connection,
+            } => {
+                *self.receiver(direction) = connection;
+                words::reads(rt, direction, taken)?;
+                told::show(rt, packet, bytes, &table)
+            }
         }
     }
 
     // The connection of the end that sends in a direction.
-    pub fn sender(self, direction: Direction) -> Connection {
+    fn sender(&mut self, direction: Direction) -> &mut Connection {
         match direction {
-            Direction::ToContainer => self.server,
-            Direction::ToServer => self.container,
+            Direction::ToContainer => &mut self.server,
+            Direction::ToServer => &mut self.container,
         }
     }
 
-    // With these connections of the end that sent in a direction and of the one that received.
-    pub fn with(self, direction: Direction, sender: Connection, receiver: Connection) -> Ends {
+    // The connection of the end that receives in a direction.
+    fn receiver(&mut self, direction: Direction) -> &mut Connection {
         match direction {
-            Direction::ToContainer => Ends {
-                server: sender,
-                container: receiver,
-                sends: self.sends,
-            },
-            Direction::ToServer => Ends {
-                server: receiver,
-                container: sender,
-                sends: self.sends,
-            },
+            Direction::ToContainer => &mut self.container,
+            Direction::ToServer => &mut self.server,
         }
     }
+}
 
-    // Prints both connections.
-    pub fn show(self, rt: &impl Print) -> io::Result<()> {
-        record::show(rt, b"    server", self.server)?;
-        record::show(rt, b"    container", self.container)
+// Both connections, each in a line.
+impl fmt::Display for Ends {
+    fn fmt<W: fmt::Write>(&self, f: &mut fmt::Formatter<W>) -> fmt::Result {
+        let server = Record {
+            name: "    server",
+            connection: self.server,
+        };
+        let container = Record {
+            name: "    container",
+            connection: self.container,
+        };
+        writeln!(f, "{server}")?;
+        writeln!(f, "{container}")
     }
 }

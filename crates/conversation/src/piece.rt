@@ -1,68 +1,84 @@
-// A packet in pieces. The fields of a Forward's line are the method, req_uri, the port and 1 for ssl or 0; those of a Send Headers' line the
-// status and the message. Behind them stand the pieces: h,NAME,VALUE a header, a,NAME,VALUE an attribute, n,NAME,N one
-// with a number, p,NAME,VALUE one that brings its name with it.
+// A Forward and a Send Headers, which are written in pieces: the fixed fields, then each header, then each attribute.
 use building_record::Building;
 use connection::{Connection, Sent};
 use pieces::forward::{Nulls, Numbers};
 use pieces::{Added, attribute, code, forward, header, send_headers};
-use vectors_text::{parse, text};
 
 // The code of attributes that bring their name with them.
 const PAIR: u16 = 10;
 
-// The first field that may be a piece, and behind the last.
-const FIRST: usize = 4;
+#[derive(Clone, Copy)]
+pub struct Header<'a> {
+    pub name: &'a str,
+    pub value: &'a str,
+}
 
-const LAST: usize = 13;
+// An attribute's name, and its value: a text, or an integer. A pair brings its name with it.
+#[derive(Clone, Copy)]
+pub enum Attribute<'a> {
+    Text(&'a str, &'a str),
+    Integer(&'a str, u16),
+    Pair(&'a str, &'a str),
+}
 
-// Builds a packet and closes it. Once a piece is refused, that is what becomes of the packet.
-pub fn closed(connection: Connection, letter: u8, line: &[u8], buffer: &mut [u8]) -> Sent {
-    match built(letter, line, buffer) {
-        Added::Refused(number) => Sent::Refused(number),
-        Added::Next(building) => closing::close(connection, building, buffer),
+#[derive(Clone, Copy)]
+pub struct Request<'a> {
+    pub method: &'a str,
+    pub req_uri: &'a str,
+    pub server_port: u16,
+    pub is_ssl: bool,
+    pub headers: &'a [Header<'a>],
+    pub attributes: &'a [Attribute<'a>],
+}
+
+#[derive(Clone, Copy)]
+pub struct Response<'a> {
+    pub status: u16,
+    pub message: &'a str,
+    pub headers: &'a [Header<'a>],
+}
+
+impl Request<'_> {
+    // Builds the Forward and closes it.
+    pub fn write(self, connection: Connection, buffer: &mut [u8]) -> Sent {
+        let mut added = with_headers(self.begun(buffer), self.headers, buffer);
+        for attribute in self.attributes {
+            added = with_attribute(added, *attribute, buffer);
+        }
+        closed(connection, added, buffer)
+    }
+
+    // The fixed fields. The name of the host that asks is not known.
+    fn begun(self, buffer: &mut [u8]) -> Added {
+        let numbers = Numbers {
+            method: coded(code::of_method(self.method.as_bytes())),
+            server_port: self.server_port,
+            is_ssl: self.is_ssl,
+        };
+        let nulls = Nulls {
+            remote_host: true,
+            ..Nulls::none()
+        };
+        forward::begin(
+            buffer,
+            numbers,
+            nulls,
+            b"HTTP/1.1",
+            self.req_uri.as_bytes(),
+            b"192.0.2.15",
+            b"",
+            b"orchard.example",
+        )
     }
 }
 
-fn built(letter: u8, line: &[u8], buffer: &mut [u8]) -> Added {
-    let mut added = begun(letter, line, buffer);
-    for i in FIRST..LAST {
-        added = with_piece(added, text::field(line, b'|', i), buffer);
+impl Response<'_> {
+    // Builds the Send Headers and closes it.
+    pub fn write(self, connection: Connection, buffer: &mut [u8]) -> Sent {
+        let begun = send_headers::begin(buffer, self.status, false, self.message.as_bytes());
+        let added = with_headers(begun, self.headers, buffer);
+        closed(connection, added, buffer)
     }
-    added
-}
-
-fn begun(letter: u8, line: &[u8], buffer: &mut [u8]) -> Added {
-    if letter == b'F' {
-        return forward(line, buffer);
-    }
-    let status = parse::number(text::field(line, b'|', 2), 0);
-    send_headers::begin(buffer, status, false, text::field(line, b'|', 3))
-}
-
-// The fixed fields of a Forward. The name of the host that asks is not known.
-fn forward(line: &[u8], buffer: &mut [u8]) -> Added {
-    let numbers = Numbers {
-        method: coded(code::of_method(text::field(line, b'|', 2))),
-        server_port: parse::number(text::field(line, b'|', 4), 0),
-        is_ssl: parse::flag(text::field(line, b'|', 5), 0),
-    };
-    let nulls = Nulls {
-        protocol: false,
-        req_uri: false,
-        remote_addr: false,
-        remote_host: true,
-        server_name: false,
-    };
-    forward::begin(
-        buffer,
-        numbers,
-        nulls,
-        b"HTTP/1.1",
-        text::field(line, b'|', 3),
-        b"192.0.2.15",
-        b"",
-        b"orchard.example",
-    )
 }
 
 // The code that was found, 0 for none.
@@ -73,23 +89,69 @@ fn coded(found: Option<u16>) -> u16 {
     }
 }
 
-fn with_piece(added: Added, piece: &[u8], buffer: &mut [u8]) -> Added {
+// Adds headers. Once one is refused, that is what becomes of the packet.
+fn with_headers(begun: Added, headers: &[Header<'_>], buffer: &mut [u8]) -> Added {
+    let mut added = begun;
+    for header in headers {
+        added = with_header(added, *header, buffer);
+    }
+    added
+}
+
+fn with_header(added: Added, header: Header<'_>, buffer: &mut [u8]) -> Added {
     match added {
         Added::Refused(number) => Added::Refused(number),
-        Added::Next(building) => put(building, piece, buffer),
+        Added::Next(building) => header::named(
+            building,
+            buffer,
+            header.name.as_bytes(),
+            false,
+            header.value.as_bytes(),
+        ),
     }
 }
 
-// Adds a piece; a field that is none changes nothing.
-fn put(building: Building, piece: &[u8], buffer: &mut [u8]) -> Added {
-    let name = text::field(piece, b',', 1);
-    let value = text::field(piece, b',', 2);
-    let code = coded(code::of_attribute(name));
-    match text::byte_at(piece, 0) {
-        b'h' => header::named(building, buffer, name, false, value),
-        b'a' => attribute::text(building, buffer, code, false, value),
-        b'n' => attribute::integer(building, buffer, code, parse::number(value, 0)),
-        b'p' => attribute::pair(building, buffer, PAIR, false, name, false, value),
-        _ => Added::Next(building),
+fn with_attribute(added: Added, attribute: Attribute<'_>, buffer: &mut [u8]) -> Added {
+    match added {
+        Added::Refused(number) => Added::Refused(number),
+        Added::Next(building) => attribute.put(building, buffer),
+    }
+}
+
+impl Attribute<'_> {
+    fn put(self, building: Building, buffer: &mut [u8]) -> Added {
+        match self {
+            Attribute::Text(name, value) => attribute::text(
+                building,
+                buffer,
+                attribute_code(name),
+                false,
+                value.as_bytes(),
+            ),
+            Attribute::Integer(name, value) => {
+                attribute::integer(building, buffer, attribute_code(name), value)
+            }
+            Attribute::Pair(name, value) => attribute::pair(
+                building,
+                buffer,
+                PAIR,
+                false,
+                name.as_bytes(),
+                false,
+                value.as_bytes(),
+            ),
+        }
+    }
+}
+
+// The code of the attribute of a name.
+fn attribute_code(name: &str) -> u16 {
+    coded(code::of_attribute(name.as_bytes()))
+}
+
+fn closed(connection: Connection, added: Added, buffer: &mut [u8]) -> Sent {
+    match added {
+        Added::Refused(number) => Sent::Refused(number),
+        Added::Next(building) => closing::close(connection, building, buffer),
     }
 }

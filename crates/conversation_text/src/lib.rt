@@ -4,7 +4,6 @@
 
 mod entry;
 mod field;
-pub mod print;
 pub mod record;
 pub mod row;
 pub mod told;

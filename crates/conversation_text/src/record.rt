@@ -1,45 +1,40 @@
 // A connection, in a line.
-use crate::{print, words};
 use connection::{Connection, State};
-use std::io;
-use vectors_text::text;
+use std::fmt;
 
-// The answers for false and true, and the states, a slash between two.
-const ANSWERS: [u8; 6] = *b"no/yes";
-
-const STATES: [u8; 23] = *b"Idle/Pinged/Busy/Closed";
-
-// Prints a connection, each field from a column of its own.
-pub fn show(rt: &impl Print, name: &[u8], c: Connection) -> io::Result<()> {
-    let left = c.left();
-    print::padded(rt, name, 15)?;
-    state(rt, c.state(), 8)?;
-    print::counted(rt, b"left ", left.0 as u64, 4)?;
-    flag(rt, b"due ", c.due(), 5)?;
-    print::counted(rt, b"asked ", c.asked() as u64, 6)?;
-    flag(rt, b"headers ", c.headers(), 5)?;
-    flag(rt, b"head ", c.head(), 0)?;
-    print::letter(rt, b'\n')
+// The connection of an end of this name.
+#[derive(Clone, Copy)]
+pub struct Record<'a> {
+    pub name: &'a str,
+    pub connection: Connection,
 }
 
-// Prints what stands before an answer, and yes or no.
-fn flag(rt: &impl Print, before: &[u8], is: bool, width: usize) -> io::Result<()> {
-    let answers = ANSWERS;
-    print::text(rt, before)?;
-    print::padded(rt, text::field(&answers, b'/', words::bit(is)), width)
+// Each field from a column of its own.
+impl fmt::Display for Record<'_> {
+    fn fmt<W: fmt::Write>(&self, f: &mut fmt::Formatter<W>) -> fmt::Result {
+        let name = self.name;
+        let state = state(self.connection.state());
+        let left = self.connection.left().0;
+        let due = answer(self.connection.due());
+        let asked = self.connection.asked();
+        let headers = answer(self.connection.headers());
+        let head = answer(self.connection.head());
+        write!(
+            f,
+            "{name:<15}{state:<8}left {left:<4}due {due:<5}asked {asked:<6}headers {headers:<5}head {head}"
+        )
+    }
 }
 
-// Prints a state.
-fn state(rt: &impl Print, s: State, width: usize) -> io::Result<()> {
-    let states = STATES;
-    print::padded(rt, text::field(&states, b'/', state_number(s)), width)
+fn answer(is: bool) -> &'static str {
+    if is { "yes" } else { "no" }
 }
 
-fn state_number(s: State) -> usize {
+fn state(s: State) -> &'static str {
     match s {
-        State::Idle => 0,
-        State::Pinged => 1,
-        State::Busy => 2,
-        State::Closed => 3,
+        State::Idle => "Idle",
+        State::Pinged => "Pinged",
+        State::Busy => "Busy",
+        State::Closed => "Closed",
     }
 }

@@ -1,67 +1,52 @@
 // The bytes of a packet in rows of sixteen, with their text beside them.
-use crate::print;
-use std::io;
-use vectors_text::text;
-use wire::part_of;
+use std::{fmt, io};
 
 // How many bytes a row has, and half a row.
 const ROW: usize = 16;
 
 const HALF: usize = 8;
 
+// A row: the place of its first byte, and its bytes.
+#[derive(Clone, Copy)]
+struct Row<'a> {
+    at: usize,
+    bytes: &'a [u8],
+}
+
+// The bytes in hexadecimal, with spaces for those that it lacks, and their text.
+impl fmt::Display for Row<'_> {
+    fn fmt<W: fmt::Write>(&self, f: &mut fmt::Formatter<W>) -> fmt::Result {
+        let at = self.at;
+        write!(f, "    {at:04x} ")?;
+        for i in 0..ROW {
+            if i == HALF {
+                write!(f, " ")?;
+            }
+            match self.bytes.get(i) {
+                Some(byte) => write!(f, " {byte:02x}")?,
+                None => write!(f, "   ")?,
+            }
+        }
+        write!(f, "  |")?;
+        for byte in self.bytes {
+            write!(f, "{}", letter(*byte))?;
+        }
+        write!(f, "|")
+    }
+}
+
 // Prints the rows of a packet.
 pub fn show_all(rt: &impl Print, packet: &[u8]) -> io::Result<()> {
-    for i in 0..packet.len() / ROW + 1 {
-        let at = i * ROW;
-        show(rt, at, part_of(packet, at, ROW))?;
+    for (i, bytes) in packet.chunks(ROW).enumerate() {
+        println!(rt; "{}", Row { at: i * ROW, bytes })?;
     }
     Ok(())
 }
 
-// Prints a row: the place of its first byte, its bytes, and their text. A row without bytes is not printed.
-fn show(rt: &impl Print, at: usize, bytes: &[u8]) -> io::Result<()> {
-    if bytes.len() == 0 {
-        return Ok(());
-    }
-    print::text(rt, b"    ")?;
-    print::hex(rt, at as u64, 4)?;
-    print::letter(rt, b' ')?;
-    cells(rt, bytes)?;
-    print::text(rt, b"  |")?;
-    letters(rt, bytes)?;
-    print::text(rt, b"|\n")
-}
-
-// Prints the bytes of a row in hexadecimal, and spaces for those that it lacks.
-fn cells(rt: &impl Print, bytes: &[u8]) -> io::Result<()> {
-    for i in 0..ROW {
-        if i == HALF {
-            print::letter(rt, b' ')?;
-        }
-        cell(rt, part_of(bytes, i, 1))?;
-    }
-    Ok(())
-}
-
-fn cell(rt: &impl Print, byte: &[u8]) -> io::Result<()> {
-    if byte.len() == 0 {
-        return print::text(rt, b"   ");
-    }
-    print::letter(rt, b' ')?;
-    print::hex(rt, text::byte_at(byte, 0) as u64, 2)
-}
-
-// Prints the text of a row, a dot for a byte that is no letter.
-fn letters(rt: &impl Print, bytes: &[u8]) -> io::Result<()> {
-    for i in 0..bytes.len() {
-        print::letter(rt, letter(bytes[i]))?;
-    }
-    Ok(())
-}
-
-fn letter(b: u8) -> u8 {
-    match b {
-        b' '..=b'~' => b,
-        _ => b'.',
+// What stands for a byte in the text of a row, a dot for one that is no letter.
+fn letter(byte: u8) -> char {
+    match byte {
+        b' '..=b'~' => char::from(byte),
+        _ => '.',
     }
 }

@@ -1,54 +1,51 @@
-// Words for what is printed, by number, each list a text with a slash between two.
-use crate::print;
+// Words for what is printed.
 use packet::Direction;
 use std::io;
-use vectors_text::text;
-
-// What the refusals say, each at its number; a number that is no refusal's has nothing between its slashes.
-const REFUSALS: [u8; 309] =
-    *b"no fault/wrong leading bytes/packet too long/cut short/unknown code/code not served/wrong string/out of range/wrong header name/\
-    wrong attribute code/wrong content-length/too many/bytes left over/not allowed in this state/wrong body size/too little room/\
-    wrong building record/unfinished packet/capture too long";
-
-// What stands before a send and before what was read, by direction.
-const WAYS: [u8; 82] =
-    *b"server -> container: /container -> server: /    container reads /    server reads ";
+use wire::refusal;
 
 // Prints a refusal's number and what it says.
 pub fn refusal(rt: &impl Print, number: u8) -> io::Result<()> {
-    let refusals = REFUSALS;
-    print::counted(rt, b"    refused ", number as u64, 0)?;
-    print::named(rt, b": ", text::field(&refusals, b'/', number as usize))?;
-    print::letter(rt, b'\n')
+    println!(rt; "    refused {number}: {}", reason(number))
 }
 
-// 1 for true, 0 for false.
-pub fn bit(is: bool) -> usize {
-    if is {
-        return 1;
+// What a refusal says; a number that is no refusal's says nothing.
+fn reason(number: u8) -> &'static str {
+    match number {
+        refusal::NONE => "no fault",
+        refusal::LEADING_WRONG => "wrong leading bytes",
+        refusal::TOO_LONG => "packet too long",
+        refusal::CUT_SHORT => "cut short",
+        refusal::CODE_WRONG => "unknown code",
+        refusal::CODE_NOT_SERVED => "code not served",
+        refusal::STRING_WRONG => "wrong string",
+        refusal::OUT_OF_RANGE => "out of range",
+        refusal::NAME_WRONG => "wrong header name",
+        refusal::ATTRIBUTE_WRONG => "wrong attribute code",
+        refusal::CONTENT_LENGTH_WRONG => "wrong content-length",
+        refusal::TOO_MANY => "too many",
+        refusal::LEFT_OVER => "bytes left over",
+        refusal::NOT_NOW => "not allowed in this state",
+        refusal::BODY_SIZE_WRONG => "wrong body size",
+        refusal::BUFFER_TOO_SHORT => "too little room",
+        refusal::RECORD_WRONG => "wrong building record",
+        refusal::UNFINISHED_PACKET => "unfinished packet",
+        refusal::CAPTURE_TOO_LONG => "capture too long",
+        _ => "",
     }
-    0
 }
 
 // Prints the end that sends in a direction, and the one to which it leads.
 pub fn way(rt: &impl Print, direction: Direction) -> io::Result<()> {
     match direction {
-        Direction::ToContainer => by_way(rt, 0),
-        Direction::ToServer => by_way(rt, 1),
+        Direction::ToContainer => print!(rt; "server -> container: "),
+        Direction::ToServer => print!(rt; "container -> server: "),
     }
 }
 
 // Prints the end that reads, and how many bytes.
 pub fn reads(rt: &impl Print, direction: Direction, taken: usize) -> io::Result<()> {
     match direction {
-        Direction::ToContainer => by_way(rt, 2)?,
-        Direction::ToServer => by_way(rt, 3)?,
+        Direction::ToContainer => print!(rt; "    container reads {taken} bytes: "),
+        Direction::ToServer => print!(rt; "    server reads {taken} bytes: "),
     }
-    print::decimal(rt, taken as u64)?;
-    print::text(rt, b" bytes: ")
-}
-
-fn by_way(rt: &impl Print, number: usize) -> io::Result<()> {
-    let ways = WAYS;
-    print::text(rt, text::field(&ways, b'/', number))
 }
