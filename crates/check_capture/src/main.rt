@@ -37,7 +37,7 @@ fn obey<'a>(rt: &HostRuntime, room: &'a mut [u8]) -> Result<(), Failure<'a>> {
     }
 }
 
-// What the command line asks for. A name that is no text cannot be opened.
+// What the command line asks for. A name that is no text cannot be opened. Words are asked for by number, since `std::env::args` allocates.
 fn asked<'a>(rt: &impl Env, room: &'a mut [u8]) -> Result<Command<'a>, Failure<'a>> {
     if !has_word(rt, 1) {
         return Ok(Command::StandardInput);

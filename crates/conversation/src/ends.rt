@@ -34,55 +34,51 @@ impl Ends {
         words::way(rt, direction)?;
         println!(rt; "{content}")?;
         let mut buffer = [0u8; Connection::MAX_PACKET];
-        match content.write(*self.sender(direction), &mut buffer) {
+        let (sender, receiver) = self.along(direction);
+        match content.write(*sender, &mut buffer) {
             Sent::Refused(number) => words::refusal(rt, number)?,
             Sent::Written { size, connection } => {
                 let packet = part_of(&buffer, 0, size);
-                *self.sender(direction) = connection;
+                *sender = connection;
                 row::show_all(rt, packet)?;
-                self.carry(rt, direction, packet)?;
+                receive(rt, direction, receiver, packet)?;
             }
         }
         print!(rt; "{self}")
     }
 
-    // Carries a packet to the end to which a direction leads. What it reads is printed.
-    fn carry(&mut self, rt: &impl Print, direction: Direction, bytes: &[u8]) -> io::Result<()> {
-        let mut table = [0u16; MAX_PLACES];
-        let received = match direction {
-            Direction::ToContainer => {
-                reader::read_at_container(self.container, bytes, &mut table)
-            }
-            Direction::ToServer => reader::read_at_server(self.server, bytes, &mut table),
-        };
-        match received {
-            Received::Needs(n) => println!(rt; "    needs {n} bytes"),
-            Received::Refused(number) => words::refusal(rt, number),
-            Received::Accepted {
-                packet,
-                taken,
-                connection,
-            } => {
-                *self.receiver(direction) = connection;
-                words::reads(rt, direction, taken)?;
-                told::show(rt, packet, bytes, &table)
-            }
+    // The connections of the end that sends in a direction, and of the one that receives.
+    fn along(&mut self, direction: Direction) -> (&mut Connection, &mut Connection) {
+        match direction {
+            Direction::ToContainer => (&mut self.server, &mut self.container),
+            Direction::ToServer => (&mut self.container, &mut self.server),
         }
     }
+}
 
-    // The connection of the end that sends in a direction.
-    fn sender(&mut self, direction: Direction) -> &mut Connection {
-        match direction {
-            Direction::ToContainer => &mut self.server,
-            Direction::ToServer => &mut self.container,
-        }
-    }
-
-    // The connection of the end that receives in a direction.
-    fn receiver(&mut self, direction: Direction) -> &mut Connection {
-        match direction {
-            Direction::ToContainer => &mut self.container,
-            Direction::ToServer => &mut self.server,
+// Reads a packet at the end to which a direction leads. What it reads is printed.
+fn receive(
+    rt: &impl Print,
+    direction: Direction,
+    receiver: &mut Connection,
+    bytes: &[u8],
+) -> io::Result<()> {
+    let mut table = [0u16; MAX_PLACES];
+    let received = match direction {
+        Direction::ToContainer => reader::read_at_container(*receiver, bytes, &mut table),
+        Direction::ToServer => reader::read_at_server(*receiver, bytes, &mut table),
+    };
+    match received {
+        Received::Needs(n) => println!(rt; "    needs {n} bytes"),
+        Received::Refused(number) => words::refusal(rt, number),
+        Received::Accepted {
+            packet,
+            taken,
+            connection,
+        } => {
+            *receiver = connection;
+            words::reads(rt, direction, taken)?;
+            told::show(rt, packet, bytes, &table)
         }
     }
 }

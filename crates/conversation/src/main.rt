@@ -5,7 +5,7 @@
 mod content;
 mod ends;
 mod piece;
-mod script;
+mod sections;
 
 use crate::ends::Ends;
 use std::io;
@@ -14,9 +14,9 @@ fn main(rt: HostRuntime) -> io::Result<()> {
     println!(rt; "Two ends of a connection, both fresh")?;
     let mut ends = Ends::fresh();
     print!(rt; "{ends}")?;
-    for scene in script::SCENES {
-        println!(rt; "\n{}", scene.title)?;
-        for content in scene.sends {
+    for section in sections::SECTIONS {
+        println!(rt; "\n{}", section.title)?;
+        for content in section.sends {
             ends.send(&rt, *content)?;
         }
     }

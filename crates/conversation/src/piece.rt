@@ -101,13 +101,7 @@ fn with_headers(begun: Added, headers: &[Header<'_>], buffer: &mut [u8]) -> Adde
 fn with_header(added: Added, header: Header<'_>, buffer: &mut [u8]) -> Added {
     match added {
         Added::Refused(number) => Added::Refused(number),
-        Added::Next(building) => header::named(
-            building,
-            buffer,
-            header.name.as_bytes(),
-            false,
-            header.value.as_bytes(),
-        ),
+        Added::Next(building) => header.put(building, buffer),
     }
 }
 
@@ -115,6 +109,18 @@ fn with_attribute(added: Added, attribute: Attribute<'_>, buffer: &mut [u8]) -> 
     match added {
         Added::Refused(number) => Added::Refused(number),
         Added::Next(building) => attribute.put(building, buffer),
+    }
+}
+
+impl Header<'_> {
+    fn put(self, building: Building, buffer: &mut [u8]) -> Added {
+        header::named(
+            building,
+            buffer,
+            self.name.as_bytes(),
+            false,
+            self.value.as_bytes(),
+        )
     }
 }
 

@@ -1,4 +1,4 @@
-// The conversation, scene by scene. The server's end refuses to send a second Forward before the first request is over, and a body packet
+// The conversation, section by section. The server's end refuses to send a second Forward before the first request is over, and a body packet
 // with more bytes than were asked for; the container's end refuses to send an End while a body packet is due, and a chunk with bytes in the
 // response to a HEAD; and nothing more can be sent on a closed connection.
 use crate::content::Content;
@@ -6,7 +6,7 @@ use crate::piece::{Attribute, Header, Request, Response};
 
 // What is sent under a title, in order.
 #[derive(Clone, Copy)]
-pub struct Scene<'a> {
+pub struct Section<'a> {
     pub title: &'a str,
     pub sends: &'a [Content<'a>],
 }
@@ -16,20 +16,20 @@ const HOST: Header<'static> = Header {
     value: "orchard.example",
 };
 
-const PLAIN: Header<'static> = Header {
+const PLAIN_TEXT: Header<'static> = Header {
     name: "Content-Type",
     value: "text/plain",
 };
 
 // A request with a body, one for its headers alone, and one without a body.
-const OPENING: Request<'static> = Request {
+const POST_VALVES: Request<'static> = Request {
     method: "POST",
     req_uri: "/valves/7",
     server_port: 80,
     is_ssl: false,
     headers: &[
         HOST,
-        PLAIN,
+        PLAIN_TEXT,
         Header {
             name: "Content-Length",
             value: "27",
@@ -45,7 +45,7 @@ const OPENING: Request<'static> = Request {
     ],
 };
 
-const LOOK: Request<'static> = Request {
+const HEAD_VALVES: Request<'static> = Request {
     method: "HEAD",
     req_uri: "/valves/7",
     server_port: 80,
@@ -54,7 +54,7 @@ const LOOK: Request<'static> = Request {
     attributes: &[],
 };
 
-const TREE: Request<'static> = Request {
+const GET_TREES: Request<'static> = Request {
     method: "GET",
     req_uri: "/trees/12",
     server_port: 443,
@@ -67,11 +67,11 @@ const TREE: Request<'static> = Request {
 };
 
 // The response to the first two, and the one to the last.
-const OPENED: Response<'static> = Response {
+const VALVES_RESPONSE: Response<'static> = Response {
     status: 200,
     message: "OK",
     headers: &[
-        PLAIN,
+        PLAIN_TEXT,
         Header {
             name: "Content-Length",
             value: "14",
@@ -79,11 +79,11 @@ const OPENED: Response<'static> = Response {
     ],
 };
 
-const HEIGHT: Response<'static> = Response {
+const TREES_RESPONSE: Response<'static> = Response {
     status: 200,
     message: "OK",
     headers: &[
-        PLAIN,
+        PLAIN_TEXT,
         Header {
             name: "Content-Length",
             value: "8",
@@ -91,17 +91,17 @@ const HEIGHT: Response<'static> = Response {
     ],
 };
 
-pub const SCENES: [Scene<'static>; 5] = [
-    Scene {
+pub const SECTIONS: [Section<'static>; 5] = [
+    Section {
         title: "A ping",
         sends: &[Content::CPing, Content::CPong],
     },
-    Scene {
+    Section {
         title: "A request with a body",
         sends: &[
-            Content::Forward(OPENING),
+            Content::Forward(POST_VALVES),
             Content::Body("valve=open"),
-            Content::Forward(TREE),
+            Content::Forward(GET_TREES),
             Content::GetBody(8),
             Content::Body(";min=20;tree=lime"),
             Content::Body(";min=20;"),
@@ -109,10 +109,10 @@ pub const SCENES: [Scene<'static>; 5] = [
             Content::Body("tree=lime"),
         ],
     },
-    Scene {
+    Section {
         title: "Its response",
         sends: &[
-            Content::SendHeaders(OPENED),
+            Content::SendHeaders(VALVES_RESPONSE),
             Content::BodyChunk("opened: "),
             Content::GetBody(8186),
             Content::End { reuse: true },
@@ -121,21 +121,21 @@ pub const SCENES: [Scene<'static>; 5] = [
             Content::End { reuse: true },
         ],
     },
-    Scene {
+    Section {
         title: "A HEAD, whose response has no body",
         sends: &[
-            Content::Forward(LOOK),
-            Content::SendHeaders(OPENED),
+            Content::Forward(HEAD_VALVES),
+            Content::SendHeaders(VALVES_RESPONSE),
             Content::BodyChunk("opened: "),
             Content::BodyChunk(""),
             Content::End { reuse: true },
         ],
     },
-    Scene {
+    Section {
         title: "A request without a body, the last one",
         sends: &[
-            Content::Forward(TREE),
-            Content::SendHeaders(HEIGHT),
+            Content::Forward(GET_TREES),
+            Content::SendHeaders(TREES_RESPONSE),
             Content::BodyChunk("lime, 3m"),
             Content::End { reuse: false },
             Content::CPing,
