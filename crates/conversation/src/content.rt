@@ -1,8 +1,9 @@
 // What is sent: a packet by its kind, and what it holds.
 use crate::piece::{Request, Response};
-use connection::{Connection, Sent};
+use connection::{Connection, Written};
 use packet::Direction;
 use std::fmt;
+use wire::refusal::Refusal;
 
 #[derive(Clone, Copy)]
 pub enum Content<'a> {
@@ -26,7 +27,7 @@ impl Content<'_> {
     }
 
     // Writes the packet into a buffer.
-    pub fn write(self, connection: Connection, buffer: &mut [u8]) -> Sent {
+    pub fn write(self, connection: Connection, buffer: &mut [u8]) -> Result<Written, Refusal> {
         match self {
             Content::CPing => writer::cping(connection, buffer),
             Content::CPong => writer::cpong(connection, buffer),

@@ -1,7 +1,7 @@
 // The two ends: the connection that each of them keeps, and how many sends there were. A packet that one of them wrote is carried to the
 // other, which reads it.
 use crate::content::Content;
-use connection::{Connection, Sent};
+use connection::{Connection, Written};
 use conversation_text::record::Record;
 use conversation_text::{row, told, words};
 use packet::Direction;
@@ -36,8 +36,8 @@ impl Ends {
         let mut buffer = [0u8; Connection::MAX_PACKET];
         let (sender, receiver) = self.along(direction);
         match content.write(*sender, &mut buffer) {
-            Sent::Refused(number) => words::refusal(rt, number)?,
-            Sent::Written { size, connection } => {
+            Err(refusal) => words::refusal(rt, refusal)?,
+            Ok(Written { size, connection }) => {
                 let packet = part_of(&buffer, 0, size);
                 *sender = connection;
                 row::show_all(rt, packet)?;
@@ -69,13 +69,15 @@ fn receive(
         Direction::ToServer => reader::read_at_server(*receiver, bytes, &mut table),
     };
     match received {
-        Received::Needs(n) => println!(rt; "    needs {n} bytes"),
-        Received::Refused(number) => words::refusal(rt, number),
-        Received::Accepted {
-            packet,
-            taken,
-            connection,
-        } => {
+        Err(refusal) => words::refusal(rt, refusal),
+        Ok(Received::Needs(n)) => println!(rt; "    needs {n} bytes"),
+        Ok(
+            Received::Accepted {
+                packet,
+                taken,
+                connection,
+            },
+        ) => {
             *receiver = connection;
             words::reads(rt, direction, taken)?;
             told::show(rt, packet, bytes, &table)

@@ -1,11 +1,14 @@
 // A Forward and a Send Headers, which are written in pieces: the fixed fields, then each header, then each attribute.
 use building_record::Building;
-use connection::{Connection, Sent};
+use connection::{Connection, Written};
 use pieces::forward::{Nulls, Numbers};
-use pieces::{Added, attribute, code, forward, header, send_headers};
+use pieces::{attribute, code, forward, header, send_headers};
+use wire::refusal::Refusal;
 
-// The code of attributes that bring their name with them.
+// The code of attributes that bring their name with them, and one that no method and no attribute has.
 const PAIR: u16 = 10;
+
+const NO_CODE: u16 = 0;
 
 #[derive(Clone, Copy)]
 pub struct Header<'a> {
@@ -39,19 +42,22 @@ pub struct Response<'a> {
 }
 
 impl Request<'_> {
-    // Builds the Forward and closes it.
-    pub fn write(self, connection: Connection, buffer: &mut [u8]) -> Sent {
-        let mut added = with_headers(self.begun(buffer), self.headers, buffer);
-        for attribute in self.attributes {
-            added = with_attribute(added, *attribute, buffer);
+    // Builds the Forward and closes it. The first piece that is refused is what becomes of the packet.
+    pub fn write(self, connection: Connection, buffer: &mut [u8]) -> Result<Written, Refusal> {
+        let mut building = self.begun(buffer)?;
+        for header in self.headers {
+            building = header.put(building, buffer)?;
         }
-        closed(connection, added, buffer)
+        for attribute in self.attributes {
+            building = attribute.put(building, buffer)?;
+        }
+        closing::close(connection, building, buffer)
     }
 
     // The fixed fields. The name of the host that asks is not known.
-    fn begun(self, buffer: &mut [u8]) -> Added {
+    fn begun(self, buffer: &mut [u8]) -> Result<Building, Refusal> {
         let numbers = Numbers {
-            method: coded(code::of_method(self.method.as_bytes())),
+            method: code::of_method(self.method.as_bytes()).unwrap_or(NO_CODE),
             server_port: self.server_port,
             is_ssl: self.is_ssl,
         };
@@ -73,47 +79,23 @@ impl Request<'_> {
 }
 
 impl Response<'_> {
-    // Builds the Send Headers and closes it.
-    pub fn write(self, connection: Connection, buffer: &mut [u8]) -> Sent {
-        let begun = send_headers::begin(buffer, self.status, false, self.message.as_bytes());
-        let added = with_headers(begun, self.headers, buffer);
-        closed(connection, added, buffer)
-    }
-}
-
-// The code that was found, 0 for none.
-fn coded(found: Option<u16>) -> u16 {
-    match found {
-        Some(code) => code,
-        None => 0,
-    }
-}
-
-// Adds headers. Once one is refused, that is what becomes of the packet.
-fn with_headers(begun: Added, headers: &[Header<'_>], buffer: &mut [u8]) -> Added {
-    let mut added = begun;
-    for header in headers {
-        added = with_header(added, *header, buffer);
-    }
-    added
-}
-
-fn with_header(added: Added, header: Header<'_>, buffer: &mut [u8]) -> Added {
-    match added {
-        Added::Refused(number) => Added::Refused(number),
-        Added::Next(building) => header.put(building, buffer),
-    }
-}
-
-fn with_attribute(added: Added, attribute: Attribute<'_>, buffer: &mut [u8]) -> Added {
-    match added {
-        Added::Refused(number) => Added::Refused(number),
-        Added::Next(building) => attribute.put(building, buffer),
+    // Builds the Send Headers and closes it, in the same way.
+    pub fn write(self, connection: Connection, buffer: &mut [u8]) -> Result<Written, Refusal> {
+        let mut building = send_headers::begin(
+            buffer,
+            self.status,
+            false,
+            self.message.as_bytes(),
+        )?;
+        for header in self.headers {
+            building = header.put(building, buffer)?;
+        }
+        closing::close(connection, building, buffer)
     }
 }
 
 impl Header<'_> {
-    fn put(self, building: Building, buffer: &mut [u8]) -> Added {
+    fn put(self, building: Building, buffer: &mut [u8]) -> Result<Building, Refusal> {
         header::named(
             building,
             buffer,
@@ -125,7 +107,7 @@ impl Header<'_> {
 }
 
 impl Attribute<'_> {
-    fn put(self, building: Building, buffer: &mut [u8]) -> Added {
+    fn put(self, building: Building, buffer: &mut [u8]) -> Result<Building, Refusal> {
         match self {
             Attribute::Text(name, value) => attribute::text(
                 building,
@@ -152,12 +134,5 @@ impl Attribute<'_> {
 
 // The code of the attribute of a name.
 fn attribute_code(name: &str) -> u16 {
-    coded(code::of_attribute(name.as_bytes()))
-}
-
-fn closed(connection: Connection, added: Added, buffer: &mut [u8]) -> Sent {
-    match added {
-        Added::Refused(number) => Sent::Refused(number),
-        Added::Next(building) => closing::close(connection, building, buffer),
-    }
+    code::of_attribute(name.as_bytes()).unwrap_or(NO_CODE)
 }

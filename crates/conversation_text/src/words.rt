@@ -1,36 +1,34 @@
 // Words for what is printed.
 use packet::Direction;
 use std::io;
-use wire::refusal;
+use wire::refusal::Refusal;
 
 // Prints a refusal's number and what it says.
-pub fn refusal(rt: &impl Print, number: u8) -> io::Result<()> {
-    println!(rt; "    refused {number}: {}", reason(number))
+pub fn refusal(rt: &impl Print, refusal: Refusal) -> io::Result<()> {
+    println!(rt; "    refused {}: {}", refusal.number(), reason(refusal))
 }
 
-// What a refusal says; a number that is no refusal's says nothing.
-fn reason(number: u8) -> &'static str {
-    match number {
-        refusal::NONE => "no fault",
-        refusal::LEADING_WRONG => "wrong leading bytes",
-        refusal::TOO_LONG => "packet too long",
-        refusal::CUT_SHORT => "cut short",
-        refusal::CODE_WRONG => "unknown code",
-        refusal::CODE_NOT_SERVED => "code not served",
-        refusal::STRING_WRONG => "wrong string",
-        refusal::OUT_OF_RANGE => "out of range",
-        refusal::NAME_WRONG => "wrong header name",
-        refusal::ATTRIBUTE_WRONG => "wrong attribute code",
-        refusal::CONTENT_LENGTH_WRONG => "wrong content-length",
-        refusal::TOO_MANY => "too many",
-        refusal::LEFT_OVER => "bytes left over",
-        refusal::NOT_NOW => "not allowed in this state",
-        refusal::BODY_SIZE_WRONG => "wrong body size",
-        refusal::BUFFER_TOO_SHORT => "too little room",
-        refusal::RECORD_WRONG => "wrong building record",
-        refusal::UNFINISHED_PACKET => "unfinished packet",
-        refusal::CAPTURE_TOO_LONG => "capture too long",
-        _ => "",
+// What a refusal says.
+fn reason(refusal: Refusal) -> &'static str {
+    match refusal {
+        Refusal::LeadingWrong => "wrong leading bytes",
+        Refusal::TooLong => "packet too long",
+        Refusal::CutShort => "cut short",
+        Refusal::CodeWrong => "unknown code",
+        Refusal::CodeNotServed => "code not served",
+        Refusal::StringWrong => "wrong string",
+        Refusal::OutOfRange => "out of range",
+        Refusal::NameWrong => "wrong header name",
+        Refusal::AttributeWrong => "wrong attribute code",
+        Refusal::ContentLengthWrong => "wrong content-length",
+        Refusal::TooMany => "too many",
+        Refusal::LeftOver => "bytes left over",
+        Refusal::NotNow => "not allowed in this state",
+        Refusal::BodySizeWrong => "wrong body size",
+        Refusal::BufferTooShort => "too little room",
+        Refusal::RecordWrong => "wrong building record",
+        Refusal::UnfinishedPacket => "unfinished packet",
+        Refusal::CaptureTooLong => "capture too long",
     }
 }
 
