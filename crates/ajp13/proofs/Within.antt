@@ -17,7 +17,7 @@ use Rattle.connection.specs.declared.Move.{Move}
 use Rattle.building.specs.Call.{Call, Outcome, refused, done, refusal_of, outcome}
 use Rattle.building.proofs.Calls.{done_fits}
 use Rattle.building_record.specs.declared.Building.{Building}
-use Rattle.reader.specs.declared.frame.FrameRead.{FrameRead}
+use Rattle.reader.specs.Frame.{FrameRead}
 use Rattle.reader.specs.Meaning as read
 use Rattle.reader.specs.Reading.{reading}
 use Rattle.reader.proofs.Framing.{frame_inside}

@@ -21,7 +21,7 @@ use Rattle.packet.specs.declared.Direction.{Direction}
 use Rattle.packet.specs.declared.Packet.{Packet}
 use Rattle.places.specs.Entries.{max_places}
 use Rattle.connection.specs.declared.Connection.{Connection}
-use Rattle.reader.specs.declared.frame.FrameRead.{FrameRead}
+use Rattle.reader.specs.Frame.{FrameRead}
 use Rattle.reader.specs.Meaning.{Meaning, needs, refused, accepted}
 use Rattle.reader.specs.Frame.{differs, leading_differs, frame_of, frame_at}
 use Rattle.reader.specs.Reading.{reading, parse}

@@ -40,7 +40,7 @@ use Rattle.building_record.specs.Record.{built_kind, direction_in, is_possible}
 use Rattle.building_record.proofs.Laws.{possible_yes}
 use Rattle.connection.specs.declared.Sent.{Sent}
 use Rattle.building.specs.Sent.{Written, sent_outcome, is_written}
-use Rattle.reader.specs.declared.frame.FrameRead.{FrameRead}
+use Rattle.reader.specs.Frame.{FrameRead}
 use Rattle.reader.specs.Frame.{leading_differs, length_at, frame_of, frame_at}
 use Rattle.reader.specs.Meaning as read
 use Rattle.reader.specs.Reading.{parsed_of, parse_whole, parse_frame, parse, read_as_body, context_of, accepting, judging, reading}

@@ -45,7 +45,7 @@ use Rattle.building_record.specs.declared.BuildingKind.{BuildingKind}
 use Rattle.reader.specs.Frame.{frame_at}
 use Rattle.reader.specs.Meaning.{refused, accepted, places_needed}
 use Rattle.reader.specs.Reading.{parse_whole, parse, read_as_body, context_of, accepting, reading}
-use Rattle.reader.specs.declared.frame.FrameRead.{FrameRead}
+use Rattle.reader.specs.Frame.{FrameRead}
 use Rattle.reader.proofs.Framing.{frame_inside}
 use Rattle.reading_laws.proofs.Acceptance.{accepted_by, accepted_is}
 use Rattle.reading_laws.specs.Acceptance.{Answered}

@@ -36,7 +36,7 @@ use Rattle.payload.proofs.Laws.{body_sized, sized_by}
 use Rattle.reader.specs.Frame.{frame_at}
 use Rattle.reader.specs.Meaning.{refused, accepted}
 use Rattle.reader.specs.Reading.{parse_whole, parse, context_of, reading, table_after}
-use Rattle.reader.specs.declared.frame.FrameRead.{FrameRead}
+use Rattle.reader.specs.Frame.{FrameRead}
 use Rattle.reading_laws.specs.Acceptance.{Answered}
 use Rattle.reading_laws.proofs.Acceptance.{refused_keeps}
 use Rattle.reading_laws.proofs.Later.{later_answer}

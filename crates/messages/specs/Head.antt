@@ -29,7 +29,7 @@ use Rattle.writer.specs.Sending.{chunk_call}
 use Rattle.reader.specs.Frame.{frame_at}
 use Rattle.reader.specs.Meaning as read
 use Rattle.reader.specs.Reading.{reading}
-use Rattle.reader.specs.declared.frame.FrameRead.{FrameRead}
+use Rattle.reader.specs.Frame.{FrameRead}
 use Rattle.closing.specs.Closing.{close_outcome, close_buffer}
 use Rattle.messages.specs.Message.{body_chunk}
 use Rattle.messages.specs.Bytes.{message_bytes}

@@ -17,7 +17,7 @@ use Rattle.wire.proofs.Bytes.{length_part}
 use Rattle.packet.specs.declared.Direction.{Direction}
 use Rattle.wire.specs.Read.{NumberRead}
 use Rattle.connection.specs.Connection.{max_packet, max_payload}
-use Rattle.reader.specs.declared.frame.FrameRead.{FrameRead}
+use Rattle.reader.specs.Frame.{FrameRead}
 use Rattle.reader.specs.Frame.{differs, leading_differs, length_at, frame_of, frame_at}
 use Rattle.wire.specs.Packet.{payload_place, length_place}
 

@@ -1,15 +1,32 @@
 -- Where a packet ends: its leading bytes and its length.
 -- Document 01, 'Refusal numbers': the reading order up to "needs 4 + length".
 -- Assumes nothing.
-use Rattle.std.specs.Prelude.{Bool, not, List, ℕ, ◌+◌, leb, ltb, eqb, length, get_or}
+use Rattle.std.specs.Prelude.{Bool, not, List, ℕ, ◌+◌, leb, ltb, eqb, length, get_or, Result, Ok, Err}
 use Rattle.wire.specs.Pick.{pick, both, either}
-use Rattle.wire.specs.Refusal.{leading_wrong, too_long}
+use Rattle.wire.specs.Refusal.{leading_wrong, too_long, number_of}
+use Rattle.wire.specs.declared.refusal.Refusal.{Refusal}
 use Rattle.wire.specs.Field.{integer_at}
 use Rattle.wire.specs.Packet.{leading, payload_place, length_place}
 use Rattle.packet.specs.declared.Direction.{Direction}
 use Rattle.wire.specs.Read.{NumberRead}
 use Rattle.connection.specs.Connection.{max_payload}
-use Rattle.reader.specs.declared.frame.FrameRead.{FrameRead}
+use Rattle.reader.specs.declared.frame.Extent.{Extent}
+
+-- the first packet of the bytes: how many bytes it needs, refused, or how many bytes it has
+pub data FrameRead : Type 0 where
+  Needs : ℕ → FrameRead
+  Refused : ℕ → FrameRead
+  Whole : ℕ → FrameRead
+
+-- how far a packet reaches
+abbrev pub extent_meaning : Extent → FrameRead
+extent_meaning (Extent.Needs n) = FrameRead.Needs n
+extent_meaning (Extent.Whole n) = FrameRead.Whole n
+
+-- what the answer of the call that looks for a packet's end says
+abbrev pub frame_meaning : Result Extent Refusal → FrameRead
+frame_meaning (Err refusal) = FrameRead.Refused (number_of refusal)
+frame_meaning (Ok extent) = extent_meaning extent
 
 -- a byte is there and is not this one
 abbrev pub differs : List ℕ → ℕ → ℕ → Bool

@@ -1,7 +1,9 @@
 -- What the answers of reading say, in document 01's terms.
 -- Document 01, 'Refusal numbers': what acceptance tells.
 -- Assumes nothing.
-use Rattle.std.specs.Prelude.{ℕ, ◌+◌, ◌*◌}
+use Rattle.std.specs.Prelude.{ℕ, ◌+◌, ◌*◌, Result, Ok, Err}
+use Rattle.wire.specs.Refusal.{number_of}
+use Rattle.wire.specs.declared.refusal.Refusal.{Refusal}
 use Rattle.connection.specs.declared.Connection.{Connection}
 use Rattle.packet.specs.declared.Packet.{Packet}
 use Rattle.reader.specs.declared.Received.{Received}
@@ -49,8 +51,12 @@ pub data Meaning : Type 0 where
   refused : ℕ → Meaning
   accepted : Packet → ℕ → Connection → Meaning
 
+-- what an answer says where nothing is refused
+abbrev pub answer_meaning : Received → Meaning
+answer_meaning (Received.Needs n) = needs n
+answer_meaning (Received.Accepted packet taken connection) = accepted packet taken connection
+
 -- what each case of the answer says
-abbrev pub received_meaning : Received → Meaning
-received_meaning (Received.Needs n) = needs n
-received_meaning (Received.Refused n) = refused n
-received_meaning (Received.Accepted packet taken connection) = accepted packet taken connection
+abbrev pub received_meaning : Result Received Refusal → Meaning
+received_meaning (Err refusal) = refused (number_of refusal)
+received_meaning (Ok received) = answer_meaning received

@@ -1,18 +1,16 @@
 // Where a packet ends: its leading bytes and its length.
 ghost use Rattle.std.specs.Prelude.{◌≡◌};
-ghost use Rattle.wire.specs.Read.{NumberRead};
-ghost use Rattle.reader.specs.Frame.{leading_differs, differs, frame_at, length_at};
+ghost use Rattle.reader.specs.Frame.{frame_meaning, leading_differs, differs, frame_at, length_at};
 
 use connection::Connection;
 use packet::Direction;
-use wire::read::NumberRead;
-use wire::{LENGTH_PLACE, PAYLOAD_PLACE, has_room, leading_bytes, read, refusal};
+use wire::refusal::Refusal;
+use wire::{LENGTH_PLACE, PAYLOAD_PLACE, leading_bytes, read};
 
-// The first packet of the bytes: how many bytes it needs, refused, or how many bytes it has.
+// How far the first packet of the bytes reaches: how many bytes it needs, or how many it has where all of them are there.
 #[derive(Clone, Copy)]
-pub enum FrameRead {
+pub enum Extent {
     Needs(usize),
-    Refused(u8),
     Whole(usize),
 }
 
@@ -20,13 +18,14 @@ pub enum FrameRead {
 fn is_other(bytes: &[u8], at: usize, byte: u8) -> bool
     ensures { result ≡ differs bytes.now at byte }
 {
-    if !has_room(bytes.len(), at, 1) {
-        return false;
+    match bytes.get(at) {
+        Some(there) => *there != byte,
+        None => false,
     }
-    bytes[at] != byte
 }
 
 // Whether a leading byte is there and is not the direction's.
+#[tactic(auto, unfolding(crate::specs::Frame::leading_differs))]
 fn leading_differs(direction: Direction, bytes: &[u8]) -> bool
     ensures { result ≡ leading_differs direction bytes.now }
 {
@@ -35,28 +34,30 @@ fn leading_differs(direction: Direction, bytes: &[u8]) -> bool
 }
 
 // The first packet of the bytes, which goes in a direction.
-pub fn frame(direction: Direction, bytes: &[u8]) -> FrameRead
-    ensures { result ≡ frame_at direction bytes.now }
+#[tactic(auto, unfolding(crate::specs::Frame::frame_at))]
+pub fn frame(direction: Direction, bytes: &[u8]) -> Result<Extent, Refusal>
+    ensures { frame_meaning result ≡ frame_at direction bytes.now }
 {
     if leading_differs(direction, bytes) {
-        return FrameRead::Refused(refusal::LEADING_WRONG);
+        return Err(Refusal::LeadingWrong);
     }
     match read::integer(bytes, LENGTH_PLACE) {
-        NumberRead::Refused(n) => FrameRead::Needs(PAYLOAD_PLACE),
-        NumberRead::Number { value, next } => sized(bytes.len(), value),
+        Ok(length) => sized(bytes.len(), length.value),
+        Err(_) => Ok(Extent::Needs(PAYLOAD_PLACE)),
     }
 }
 
 // A packet of which `there` bytes are there, by its payload's length.
-fn sized(there: usize, payload: u16) -> FrameRead
-    ensures { result ≡ length_at there payload }
+#[tactic(auto, unfolding(crate::specs::Frame::length_at))]
+fn sized(there: usize, payload: u16) -> Result<Extent, Refusal>
+    ensures { frame_meaning result ≡ length_at there payload }
 {
     let n = payload as usize;
     if !Connection::fits_payload(n) {
-        return FrameRead::Refused(refusal::TOO_LONG);
+        return Err(Refusal::TooLong);
     }
     if there < PAYLOAD_PLACE + n {
-        return FrameRead::Needs(PAYLOAD_PLACE + n);
+        return Ok(Extent::Needs(PAYLOAD_PLACE + n));
     }
-    FrameRead::Whole(PAYLOAD_PLACE + n)
+    Ok(Extent::Whole(PAYLOAD_PLACE + n))
 }

@@ -28,7 +28,7 @@ use Rattle.payload.specs.Read.{KindRead}
 use Rattle.packet.specs.declared.Packet.{Packet}
 use Rattle.payload.specs.Read.{PacketRead}
 use Rattle.payload.proofs.Parsed.{parsed_kind, move_kind_lem}
-use Rattle.reader.specs.declared.frame.FrameRead.{FrameRead}
+use Rattle.reader.specs.Frame.{FrameRead}
 use Rattle.reader.specs.Frame.{frame_at}
 use Rattle.reader.specs.Meaning.{Meaning, needs, refused, accepted, places_needed}
 use Rattle.reader.specs.Reading.{parsed_of, parse_whole, parse_frame, parse, context_of, stepped, accepting, judging, with_room, reading, table_after}

@@ -25,7 +25,7 @@ use Rattle.payload.specs.declared.Context.{Context}
 use Rattle.payload.specs.Read.{KindRead}
 use Rattle.payload.specs.Read.{PacketRead}
 use Rattle.payload.proofs.Refusals.{kind_refusal, packet_refusal}
-use Rattle.reader.specs.declared.frame.FrameRead.{FrameRead}
+use Rattle.reader.specs.Frame.{FrameRead}
 use Rattle.reader.specs.Frame.{leading_differs, length_at, frame_of, frame_at}
 use Rattle.reader.specs.Meaning.{Meaning, needs, refused, accepted, places_needed}
 use Rattle.reader.specs.Reading.{parsed_of, parse_whole, parse_frame, parse, context_of, stepped, accepting, judging, with_room, reading}

@@ -28,7 +28,7 @@ use Rattle.packet.specs.declared.Packet.{Packet}
 use Rattle.payload.specs.Read.{PacketRead}
 use Rattle.payload.proofs.Laws.{kind_is}
 use Rattle.payload.proofs.Parsed.{parsed_kind}
-use Rattle.reader.specs.declared.frame.FrameRead.{FrameRead}
+use Rattle.reader.specs.Frame.{FrameRead}
 use Rattle.reader.specs.Frame.{leading_differs, length_at, frame_at}
 use Rattle.short_ways.specs.declared.PartRead.{PartRead}
 use Rattle.reader.specs.Meaning.{Meaning}

@@ -12,7 +12,7 @@ use Rattle.connection.specs.Cycle.{in_state}
 use Rattle.connection.specs.declared.Kind.{Kind}
 use Rattle.connection.specs.declared.Connection.{Connection}
 use Rattle.payload.specs.Code.{code_of}
-use Rattle.reader.specs.declared.frame.FrameRead.{FrameRead}
+use Rattle.reader.specs.Frame.{FrameRead}
 use Rattle.short_ways.specs.declared.PartRead.{PartRead}
 use Rattle.reader.specs.Frame.{frame_at}
 use Rattle.reader.specs.Meaning.{Meaning, refused, accepted}
