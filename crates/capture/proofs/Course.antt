@@ -21,9 +21,8 @@ use Rattle.packet.specs.declared.Direction.{Direction}
 use Rattle.packet.specs.declared.Packet.{Packet}
 use Rattle.places.specs.Entries.{max_places}
 use Rattle.connection.specs.declared.Connection.{Connection}
-use Rattle.reader.specs.Frame.{FrameRead}
+use Rattle.reader.specs.Frame.{FrameRead, differs, leading_differs, frame_of, frame_at}
 use Rattle.reader.specs.Meaning.{Meaning, needs, refused, accepted}
-use Rattle.reader.specs.Frame.{differs, leading_differs, frame_of, frame_at}
 use Rattle.reader.specs.Reading.{reading, parse}
 use Rattle.reader.proofs.Framing.{frame_inside}
 use Rattle.reading_laws.specs.Acceptance.{Answered, NeedsMore}

@@ -1,15 +1,15 @@
 -- Laws of the frame: what it says by its tests, how long a whole packet is, and that later bytes change nothing.
 -- Assumes nothing.
 use mathlib.Core.Path.{◌≡◌, refl, ap, ◌∙◌, subst}
-use mathlib.Core.Bool.{Bool, true, false, not}
+use mathlib.Core.Bool.{Bool, true, false}
 use mathlib.Core.List.{List}
 use Prim.Native.Nat.{ℕ, ◌+◌, ◌≤◌, ◌<◌}
 use native.Mathlib.Omega.{arith}
 use native.Mathlib.Nat.{zero-add}
 use borrow.Author.Tests.{leb-true, leb-false, ltb-true, ltb-false}
-use lib.Dec.{leb, ltb, eqb}
-use lib.ListN.{length, get_or}
-use Rattle.wire.specs.Pick.{pick, both}
+use lib.Dec.{leb, ltb}
+use lib.ListN.{length}
+use Rattle.wire.specs.Pick.{pick}
 use Rattle.wire.specs.Bytes.{part, integer_in}
 use Rattle.wire.specs.Refusal.{leading_wrong, too_long, cut_short}
 use Rattle.wire.specs.Field.{integer_at}
@@ -17,8 +17,7 @@ use Rattle.wire.proofs.Bytes.{length_part}
 use Rattle.packet.specs.declared.Direction.{Direction}
 use Rattle.wire.specs.Read.{NumberRead}
 use Rattle.connection.specs.Connection.{max_packet, max_payload}
-use Rattle.reader.specs.Frame.{FrameRead}
-use Rattle.reader.specs.Frame.{differs, leading_differs, length_at, frame_of, frame_at}
+use Rattle.reader.specs.Frame.{FrameRead, leading_differs, length_at, frame_of, frame_at}
 use Rattle.wire.specs.Packet.{payload_place, length_place}
 
 -- a length, by its two tests
@@ -32,11 +31,6 @@ pub frame_is : (direction : Direction) (s : List ℕ) (differ : Bool) (r : Numbe
     → pick differ (FrameRead.Refused leading_wrong) (frame_of (length s) r) ≡ frame_at direction s
 unfolding frame_at
 frame_is direction s differ r p q = rw (p, q)
-
--- a byte that differs, by its two tests
-pub differs_is : (s : List ℕ) (at byte : ℕ) (there same : Bool) → leb (at + 1) (length s) ≡ there → eqb (get_or s at 0) byte ≡ same
-    → both there (not same) ≡ differs s at byte
-differs_is s at byte there same p q = rw (p, q)
 
 -- a frame whose packet is whole: it has at most 8192 bytes, and all of them are there; more bytes are needed than are there, and at most 8192
 abbrev pub FrameInside : ℕ → FrameRead → Type 0

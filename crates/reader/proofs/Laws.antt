@@ -1,17 +1,16 @@
 -- Laws of reading: what each definition says by the answers it goes by.
 -- Assumes nothing.
 use mathlib.Core.Path.{◌≡◌, refl, sym, ap, ◌∙◌}
-use mathlib.Core.Bool.{Bool, true, false, false≢true}
+use mathlib.Core.Bool.{Bool, true, false}
 use mathlib.Core.List.{List, []}
-use Prim.Native.Nat.{ℕ, ◌+◌, ◌≤◌}
+use Prim.Native.Nat.{ℕ, ◌+◌}
 use native.Mathlib.Omega.{arith}
-use native.Mathlib.Nat.{min-le_left}
 use borrow.Author.Tests.{le-leb}
 use lib.Dec.{leb}
-use lib.ListN.{length, take, drop, length-take}
+use lib.ListN.{length, take, drop}
 use lib.Seq.{take_at}
 use Rattle.wire.specs.Pick.{pick}
-use Rattle.wire.specs.Refusal.{not_now, buffer_too_short}
+use Rattle.wire.specs.Refusal.{buffer_too_short}
 use Rattle.wire.specs.Bytes.{part, over}
 use Rattle.wire.proofs.Bytes.{over_none}
 use Rattle.packet.specs.declared.Direction.{Direction}
@@ -24,12 +23,10 @@ use Rattle.connection.proofs.Laws.{step_now}
 use Rattle.payload.specs.Code.{kind_at}
 use Rattle.payload.specs.Kinds.{packet_at, packet_move}
 use Rattle.payload.specs.declared.Context.{Context}
-use Rattle.payload.specs.Read.{KindRead}
+use Rattle.payload.specs.Read.{KindRead, PacketRead}
 use Rattle.packet.specs.declared.Packet.{Packet}
-use Rattle.payload.specs.Read.{PacketRead}
 use Rattle.payload.proofs.Parsed.{parsed_kind, move_kind_lem}
-use Rattle.reader.specs.Frame.{FrameRead}
-use Rattle.reader.specs.Frame.{frame_at}
+use Rattle.reader.specs.Frame.{FrameRead, frame_at}
 use Rattle.reader.specs.Meaning.{Meaning, needs, refused, accepted, places_needed}
 use Rattle.reader.specs.Reading.{parse_whole, parse, context_of, stepped, accepting, with_room, reading, filled, table_after}
 use Rattle.reader.specs.Private.{needed, table_given, sizing, allowed_reading, allowed_table, whole_of, table_whole}
@@ -41,13 +38,7 @@ pub accepting_is : (c : Connection) (taken : ℕ) (packet : Packet) (step : Step
 unfolding accepting
 accepting_is c taken packet step e = ap (stepped packet taken) (sym e)
 
--- the same by its size alone
-pub sizing_is : (c : Connection) (taken : ℕ) (packet : Packet) (step : Step) → sized_step c (packet_move packet) ≡ step
-    → stepped packet taken step ≡ sizing c taken (PacketRead.Packet packet)
-unfolding sizing
-sizing_is c taken packet step e = ap (stepped packet taken) (sym e)
-
--- which is all where its kind is allowed now
+-- by its size alone, which is all where its kind is allowed now
 pub sizing_now : (context : Context) (c : Connection) (kind : Kind) (s : List ℕ) (taken : ℕ) → in_state c kind ≡ true
     → sizing c taken (packet_at context kind s).end ≡ accepting c taken (packet_at context kind s).end
 unfolding sizing accepting
@@ -57,31 +48,6 @@ sizing_now context c kind s taken q = go (packet_at context kind s).end refl
     go (PacketRead.Refused n) e = refl
     go (PacketRead.Packet p) e =
         ap (stepped p taken) (step_now c (packet_move p) (ap (in_state c) (move_kind_lem p ∙ parsed_kind context kind s p e) ∙ q))
-
--- too little room for the places that an answer asks for
-pub room_short : (m : Meaning) (places table : List ℕ) → leb (needed m) (length table) ≡ false
-    → (refused buffer_too_short ≡ with_room (length table) m) × (table ≡ table_given m places table)
-unfolding table_given
-room_short (needs n) places table e = absurd (false≢true (sym e ∙ le-leb 0 (length table) (omega arith)))
-room_short (refused n) places table e = absurd (false≢true (sym e ∙ le-leb 0 (length table) (omega arith)))
-room_short (accepted packet taken after) places table e = rw e (refl, refl)
-
--- room enough for them
-pub room_filled : (m : Meaning) (places table exit : List ℕ) → leb (needed m) (length table) ≡ true
-    → exit ≡ over table 0 (take (needed m) places) → (m ≡ with_room (length table) m) × (exit ≡ table_given m places table)
-unfolding table_given
-room_filled (needs n) places table exit e h = (refl, h ∙ over_none table 0)
-room_filled (refused n) places table exit e h = (refl, h ∙ over_none table 0)
-room_filled (accepted packet taken after) places table exit e h = rw e (refl, h)
-
--- the table after a list's first places were copied into it, where it has room for them
-pub laid_first : (places table exit own : List ℕ) (count n : ℕ) → exit ≡ over table 0 own → own ≡ take count places → count ≡ n
-    → exit ≡ over table 0 (take n places)
-laid_first places table exit own count n e p q = e ∙ ap (over table 0) (p ∙ ap (λ (k : ℕ). take k places) q)
-
--- a list's first places are no more than were asked for
-pub first_few : (places own : List ℕ) (count : ℕ) → own ≡ take count places → length own ≤ count
-first_few places own count p = rw (p, length-take count places) (min-le_left count (length places))
 
 -- an answer that asks for so many places
 abbrev pub NeedsPlaces : ℕ → Meaning → Type 0
@@ -117,22 +83,18 @@ fill_own (accepted packet taken after) room places blank table h = go (leb (plac
     go true = ap (over table 0) (ap (λ (n : ℕ). take n (over blank 0 places)) (sym h) ∙ take_laid blank places)
     go false = refl
 
--- a packet with headers: it was stepped by, and the table was filled from a list of the reader's own
-pub listed_is : (context : Context) (c : Connection) (kind : Kind) (s blank table : List ℕ) (found : PacketRead) (answer r : Meaning) (places exit : List ℕ)
-    → found ≡ (packet_at context kind s).end → places ≡ over blank 0 (packet_at context kind s).places → answer ≡ sizing c (length s) found
-    → (r ≡ with_room (length table) answer) × (exit ≡ table_given answer places table)
-    → (r ≡ allowed_reading context c kind s (length table)) × (exit ≡ allowed_table context c kind s table)
+-- a packet with headers that was read: the table is filled from a list of the reader's own with its places
+pub listed_is : (context : Context) (c : Connection) (kind : Kind) (s blank table : List ℕ) (found : PacketRead) (places exit : List ℕ)
+    → found ≡ (packet_at context kind s).end → places ≡ over blank 0 (packet_at context kind s).places
+    → exit ≡ table_given (sizing c (length s) found) places table → exit ≡ allowed_table context c kind s table
 unfolding allowed_reading allowed_table table_given
-listed_is context c kind s blank table found answer r places exit p q e h =
+listed_is context c kind s blank table found places exit p q e =
     let own = sizing c (length s) (packet_at context kind s).end in
-    let m : answer ≡ own = e ∙ ap (sizing c (length s)) p in
-    let fit = sizing_places c (length s) (length (packet_at context kind s).places) (packet_at context kind s).end (places_fit context s kind) in (
-      h.0 ∙ ap (with_room (length table)) m,
-      h.1
-          ∙ ap (λ (a : Meaning). filled (with_room (length table) a) (take (needed a) places) table) m
-          ∙ ap (λ (l : List ℕ). filled (with_room (length table) own) (take (needed own) l) table) q
-          ∙ fill_own own (length table) (packet_at context kind s).places blank table fit,
-    )
+    let fit = sizing_places c (length s) (length (packet_at context kind s).places) (packet_at context kind s).end (places_fit context s kind) in
+    e
+    ∙ ap (λ (f : PacketRead). let m = sizing c (length s) f in filled (with_room (length table) m) (take (needed m) places) table) p
+    ∙ ap (λ (l : List ℕ). filled (with_room (length table) own) (take (needed own) l) table) q
+    ∙ fill_own own (length table) (packet_at context kind s).places blank table fit
 
 -- an answer that asks for no places is not refused for the table, and leaves it
 none_needed : (m : Meaning) (table : List ℕ) → NeedsPlaces 0 m
@@ -156,36 +118,12 @@ plain_is context c given kind s table end found r k p q e =
 module _ (direction : Direction) (c : Connection) (s table : List ℕ) where
   -- a whole packet, by what is known of it beside its bytes
   module _ (context : Context) (is : context ≡ context_of direction c) where
-    -- its code is refused
-    pub whole_refused : (n : ℕ) → kind_at context s ≡ KindRead.Refused n
-        → (refused n ≡ whole_of direction c s (length table)) × (table ≡ table_whole direction c s table)
-    unfolding whole_of table_whole parse_whole
-    whole_refused n e = rw (← is, e) (refl, refl)
-
-    -- a kind that is not allowed now
-    pub whole_not : (kind : Kind) → kind_at context s ≡ KindRead.Kind kind → in_state c kind ≡ false
-        → (refused not_now ≡ whole_of direction c s (length table)) × (table ≡ table_whole direction c s table)
-    unfolding whole_of table_whole parse_whole
-    whole_not kind e q = rw (← is, e, q) (refl, refl)
-
     -- a kind that is allowed
     pub whole_kind : (kind : Kind) (r : Meaning) (exit : List ℕ) → kind_at context s ≡ KindRead.Kind kind
         → in_state c kind ≡ true → (r ≡ allowed_reading context c kind s (length table)) × (exit ≡ allowed_table context c kind s table)
         → (r ≡ whole_of direction c s (length table)) × (exit ≡ table_whole direction c s table)
     unfolding whole_of table_whole parse_whole allowed_reading allowed_table
     whole_kind kind r exit e q h = rw (← is, e, q, ← sizing_now context c kind s (length s) q) h
-
-  -- more bytes are needed
-  pub read_needs : (n : ℕ) → frame_at direction s ≡ FrameRead.Needs n
-      → (needs n ≡ reading direction c s (length table)) × (table ≡ table_after direction c s table)
-  unfolding table_after reading parse
-  read_needs n e = rw e (refl, refl)
-
-  -- the frame is refused
-  pub read_refused : (n : ℕ) → frame_at direction s ≡ FrameRead.Refused n
-      → (refused n ≡ reading direction c s (length table)) × (table ≡ table_after direction c s table)
-  unfolding table_after reading parse
-  read_refused n e = rw e (refl, refl)
 
   -- the packet is whole
   pub read_whole : (n : ℕ) (packet : List ℕ) (r : Meaning) (exit : List ℕ) → frame_at direction s ≡ FrameRead.Whole n → packet ≡ part s 0 n

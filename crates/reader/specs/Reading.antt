@@ -16,11 +16,9 @@ use Rattle.connection.specs.Step.{Step}
 use Rattle.payload.specs.Code.{kind_at}
 use Rattle.payload.specs.Kinds.{packet_at, packet_move}
 use Rattle.payload.specs.declared.Context.{Context}
-use Rattle.payload.specs.Read.{KindRead}
+use Rattle.payload.specs.Read.{KindRead, PacketRead}
 use Rattle.packet.specs.declared.Packet.{Packet}
-use Rattle.payload.specs.Read.{PacketRead}
-use Rattle.reader.specs.Frame.{FrameRead}
-use Rattle.reader.specs.Frame.{frame_at}
+use Rattle.reader.specs.Frame.{FrameRead, frame_at}
 use Rattle.reader.specs.Meaning.{Meaning, needs, refused, accepted, places_needed}
 
 -- what bytes are, with no connection in it: too few, wrong, or a whole packet of a kind, with its length and what its fields say

@@ -59,6 +59,7 @@ pub fn read_at_server(
 }
 
 // The end to which packets of a direction go reads the first packet of the bytes: both calls above, for a caller that has the direction.
+#[tactic(auto, unfolding(crate::specs::Reading::parse, crate::specs::Reading::reading, crate::specs::Reading::table_after, crate::specs::Private::whole_of, crate::specs::Private::table_whole))]
 pub fn read(
     direction: Direction,
     connection: Connection,
@@ -86,6 +87,7 @@ fn context_of(direction: Direction, connection: Connection) -> Context
 }
 
 // A whole packet: its kind, whether that is allowed now, then its fields.
+#[tactic(auto, unfolding(crate::specs::Reading::parse_whole, crate::specs::Private::whole_of, crate::specs::Private::table_whole, crate::specs::Private::allowed_reading, crate::specs::Private::allowed_table))]
 fn whole(
     direction: Direction,
     connection: Connection,
@@ -105,6 +107,7 @@ fn whole(
 }
 
 // A packet of a kind: its fields, then the step, then the table.
+#[tactic(auto, unfolding(crate::specs::Private::allowed_reading, crate::specs::Private::allowed_table, crate::specs::Private::sizing))]
 fn fields(
     context: Context,
     connection: Connection,
@@ -118,8 +121,16 @@ fn fields(
 {
     let size = packet.len();
     match kind {
-        Kind::CPing => accept(connection, size, payload::bare::read(packet, Packet::CPing)?),
-        Kind::CPong => accept(connection, size, payload::bare::read(packet, Packet::CPong)?),
+        Kind::CPing => accept(
+            connection,
+            size,
+            payload::bare::read(packet, Packet::CPing)?,
+        ),
+        Kind::CPong => accept(
+            connection,
+            size,
+            payload::bare::read(packet, Packet::CPong)?,
+        ),
         Kind::Forward => forward(context, connection, packet, table),
         Kind::Body => accept(connection, size, payload::body::read(packet)?),
         Kind::GetBody => accept(connection, size, payload::get_body::read(packet)?),
@@ -130,6 +141,7 @@ fn fields(
 }
 
 // A Forward. Its places go into a list of our own, from which the table is filled at the very end, so that a refusal leaves the table.
+#[tactic(auto, unfolding(crate::specs::Private::allowed_reading, crate::specs::Private::allowed_table, crate::specs::Private::sizing))]
 fn forward(
     context: Context,
     connection: Connection,
@@ -146,6 +158,7 @@ fn forward(
 }
 
 // Send Headers, in the same way: one function for both would ask again which of the two kinds it is.
+#[tactic(auto, unfolding(crate::specs::Private::allowed_reading, crate::specs::Private::allowed_table, crate::specs::Private::sizing))]
 fn send_headers(
     context: Context,
     connection: Connection,
@@ -162,6 +175,7 @@ fn send_headers(
 }
 
 // Steps the connection by a packet that was read and whose kind is allowed now; the table aside.
+#[tactic(auto, unfolding(crate::specs::Private::sizing))]
 fn accept(connection: Connection, taken: usize, packet: Packet) -> Result<Received, Refusal>
     ensures { received_meaning result ≡ sizing connection taken (PacketRead.Packet packet) }
 {
@@ -174,6 +188,7 @@ fn accept(connection: Connection, taken: usize, packet: Packet) -> Result<Receiv
 }
 
 // The same, and fills the table from a list of places where it is long enough for those that the packet needs.
+#[tactic(auto, unfolding(crate::specs::Private::sizing, crate::specs::Private::table_given))]
 fn accept_with_places(
     connection: Connection,
     taken: usize,

@@ -24,12 +24,10 @@ use Rattle.places.specs.Entries.{max_places}
 use Rattle.payload.specs.Code.{kind_at}
 use Rattle.payload.specs.Kinds.{packet_at, packet_move}
 use Rattle.payload.specs.declared.Context.{Context}
-use Rattle.payload.specs.Read.{KindRead}
+use Rattle.payload.specs.Read.{KindRead, PacketRead}
 use Rattle.packet.specs.declared.Packet.{Packet}
-use Rattle.payload.specs.Read.{PacketRead}
 use Rattle.payload.proofs.Parsed.{parsed_kind, move_kind_lem}
-use Rattle.reader.specs.Frame.{FrameRead}
-use Rattle.reader.specs.Frame.{frame_at}
+use Rattle.reader.specs.Frame.{FrameRead, frame_at}
 use Rattle.reader.specs.Meaning.{Meaning, needs, refused, accepted, places_needed}
 use Rattle.reader.specs.Reading.{parsed_of, parse_whole, parse_frame, parse, context_of, stepped, accepting, judging, with_room, reading, table_after}
 use Rattle.reader.proofs.Framing.{frame_inside}

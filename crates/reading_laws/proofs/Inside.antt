@@ -27,11 +27,10 @@ use Rattle.payload.specs.Lists.{headers_after, attributes_behind, behind_headers
 use Rattle.payload.specs.Forward.{forward_at}
 use Rattle.payload.specs.SendHeaders.{send_headers_at}
 use Rattle.payload.specs.Kinds.{packet_at, packet_kind}
-use Rattle.payload.specs.Read.{FieldRead}
+use Rattle.payload.specs.Read.{FieldRead, PacketRead}
 use Rattle.packet.specs.declared.Forward.{Forward}
 use Rattle.packet.specs.declared.Packet.{Packet}
 use Rattle.payload.specs.declared.Context.{Context}
-use Rattle.payload.specs.Read.{PacketRead}
 use Rattle.payload.specs.Handed.{StringEnds, StringThere, ForwardHanded}
 use Rattle.payload.proofs.Handed.{forward_handed, forward_places, send_headers_handed, send_headers_places, body_inside, chunk_handed}
 use Rattle.payload.proofs.Parsed.{parsed_kind}

@@ -22,8 +22,7 @@ use Rattle.wire.proofs.Field.{integer_inside}
 use Rattle.connection.specs.Connection.{max_payload}
 use Rattle.connection.specs.declared.Connection.{Connection}
 use Rattle.payload.specs.declared.Context.{Context}
-use Rattle.reader.specs.Frame.{FrameRead}
-use Rattle.reader.specs.Frame.{differs, leading_differs, length_at, frame_of, frame_at}
+use Rattle.reader.specs.Frame.{FrameRead, differs, leading_differs, length_at, frame_of, frame_at}
 use Rattle.reader.specs.Reading.{Parsed, parse_whole, parse_frame, parse, context_of, judging, with_room, reading, table_after}
 use Rattle.reader.proofs.Framing.{frame_inside}
 use Rattle.reading_laws.specs.Acceptance.{Answered}

@@ -22,11 +22,9 @@ use Rattle.connection.proofs.Refusals.{step_refusal}
 use Rattle.payload.specs.Code.{kind_at}
 use Rattle.payload.specs.Kinds.{packet_at, packet_move}
 use Rattle.payload.specs.declared.Context.{Context}
-use Rattle.payload.specs.Read.{KindRead}
-use Rattle.payload.specs.Read.{PacketRead}
+use Rattle.payload.specs.Read.{KindRead, PacketRead}
 use Rattle.payload.proofs.Refusals.{kind_refusal, packet_refusal}
-use Rattle.reader.specs.Frame.{FrameRead}
-use Rattle.reader.specs.Frame.{leading_differs, length_at, frame_of, frame_at}
+use Rattle.reader.specs.Frame.{FrameRead, leading_differs, length_at, frame_of, frame_at}
 use Rattle.reader.specs.Meaning.{Meaning, needs, refused, accepted, places_needed}
 use Rattle.reader.specs.Reading.{parsed_of, parse_whole, parse_frame, parse, context_of, stepped, accepting, judging, with_room, reading}
 use Rattle.wire.specs.Packet.{payload_place, length_place}

@@ -15,8 +15,7 @@ use Rattle.wire.specs.Bytes.{part, integer_in}
 use Rattle.wire.specs.Field.{integer_at, null_length, string_at, is_optional}
 use Rattle.packet.specs.declared.Direction.{Direction}
 use Rattle.wire.specs.declared.StringField.{StringField}
-use Rattle.wire.specs.Read.{NumberRead}
-use Rattle.wire.specs.Read.{StringRead}
+use Rattle.wire.specs.Read.{NumberRead, StringRead}
 use Rattle.wire.specs.Facts.{TextRead, NullRead}
 use Rattle.wire.proofs.Field.{integer_inside, text_read, null_read}
 use Rattle.names.specs.Attribute.{attribute_kind}

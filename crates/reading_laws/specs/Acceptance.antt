@@ -11,10 +11,8 @@ use Rattle.connection.specs.declared.Kind.{Kind}
 use Rattle.connection.specs.declared.Connection.{Connection}
 use Rattle.payload.specs.Code.{kind_at}
 use Rattle.payload.specs.Kinds.{packet_at, packet_move}
-use Rattle.payload.specs.Read.{KindRead}
-use Rattle.payload.specs.Read.{PacketRead}
-use Rattle.reader.specs.Frame.{FrameRead}
-use Rattle.reader.specs.Frame.{frame_at}
+use Rattle.payload.specs.Read.{KindRead, PacketRead}
+use Rattle.reader.specs.Frame.{FrameRead, frame_at}
 use Rattle.reader.specs.Meaning.{Meaning, needs, refused, accepted, places_needed}
 use Rattle.reader.specs.Reading.{context_of}
 

@@ -22,14 +22,12 @@ use Rattle.connection.specs.Step.{Step}
 use Rattle.payload.specs.Code.{code_kind, kind_of_code, kind_at}
 use Rattle.payload.specs.Kinds.{packet_at, packet_kind, packet_move}
 use Rattle.payload.specs.declared.Context.{Context}
-use Rattle.payload.specs.Read.{KindRead}
+use Rattle.payload.specs.Read.{KindRead, PacketRead}
 use Rattle.packet.specs.declared.Part.{Part}
 use Rattle.packet.specs.declared.Packet.{Packet}
-use Rattle.payload.specs.Read.{PacketRead}
 use Rattle.payload.proofs.Laws.{kind_is}
 use Rattle.payload.proofs.Parsed.{parsed_kind}
-use Rattle.reader.specs.Frame.{FrameRead}
-use Rattle.reader.specs.Frame.{leading_differs, length_at, frame_at}
+use Rattle.reader.specs.Frame.{FrameRead, leading_differs, length_at, frame_at}
 use Rattle.short_ways.specs.declared.PartRead.{PartRead}
 use Rattle.reader.specs.Meaning.{Meaning}
 use Rattle.reader.specs.Reading.{context_of, stepped, accepting, reading, table_after}

@@ -12,9 +12,8 @@ use Rattle.connection.specs.Cycle.{in_state}
 use Rattle.connection.specs.declared.Kind.{Kind}
 use Rattle.connection.specs.declared.Connection.{Connection}
 use Rattle.payload.specs.Code.{code_of}
-use Rattle.reader.specs.Frame.{FrameRead}
+use Rattle.reader.specs.Frame.{FrameRead, frame_at}
 use Rattle.short_ways.specs.declared.PartRead.{PartRead}
-use Rattle.reader.specs.Frame.{frame_at}
 use Rattle.reader.specs.Meaning.{Meaning, refused, accepted}
 use Rattle.reader.specs.Reading.{reading}
 use Rattle.wire.specs.Packet.{code_place}
