@@ -5,14 +5,14 @@
 ghost use Rattle.std.specs.Prelude.{◌≡◌, ◌-◌};
 
 // Which way a packet goes.
-#[derive(Clone, Copy)]
+#[derive(Clone, Copy, Debug, PartialEq, Eq)]
 pub enum Direction {
     ToContainer,
     ToServer,
 }
 
 // Bytes of a request's body that are still left. No place in a packet can be passed for it.
-#[derive(Clone, Copy)]
+#[derive(Clone, Copy, Debug, PartialEq, Eq)]
 pub struct BodyLeft(pub u32);
 
 impl BodyLeft {
@@ -20,16 +20,12 @@ impl BodyLeft {
     pub fn less(self, k: usize) -> BodyLeft
         ensures { result.0 ≡ self.0 - k }
     {
-        let left = self.0 as usize;
-        if left < k {
-            return BodyLeft(0);
-        }
-        BodyLeft((left - k) as u32)
+        BodyLeft((self.0 as usize).saturating_sub(k) as u32)
     }
 }
 
 // A place in a packet, counted from its first byte. No number of body bytes can be passed for it.
-#[derive(Clone, Copy)]
+#[derive(Clone, Copy, Debug, PartialEq, Eq)]
 pub struct Place(pub u16);
 
 impl Place {
@@ -42,7 +38,7 @@ impl Place {
 }
 
 // A part of a packet: where it starts and how many bytes it has.
-#[derive(Clone, Copy)]
+#[derive(Clone, Copy, Debug, PartialEq, Eq)]
 pub struct Part {
     pub start: Place,
     pub len: u16,
@@ -50,7 +46,7 @@ pub struct Part {
 
 // A Forward: its fixed numbers, the places of its fixed strings, how many headers and attributes it has, and the declared length of
 // the body, 0 where none is declared.
-#[derive(Clone, Copy)]
+#[derive(Clone, Copy, Debug, PartialEq, Eq)]
 pub struct Forward {
     pub method: u16,
     pub protocol: Place,
@@ -66,7 +62,7 @@ pub struct Forward {
 }
 
 // Send Headers: the status, the message's place and how many headers it has.
-#[derive(Clone, Copy)]
+#[derive(Clone, Copy, Debug, PartialEq, Eq)]
 pub struct SendHeaders {
     pub status: u16,
     pub message: Place,
@@ -74,7 +70,7 @@ pub struct SendHeaders {
 }
 
 // A packet, by its kind.
-#[derive(Clone, Copy)]
+#[derive(Clone, Copy, Debug, PartialEq, Eq)]
 pub enum Packet {
     CPing,
     CPong,
@@ -87,14 +83,14 @@ pub enum Packet {
 }
 
 // A header's name: its code, or a string, whose bytes `views::text_at` shows.
-#[derive(Clone, Copy)]
+#[derive(Clone, Copy, Debug, PartialEq, Eq)]
 pub enum HeaderName {
     Code(u16),
     Spelled,
 }
 
 // What value an attribute has.
-#[derive(Clone, Copy)]
+#[derive(Clone, Copy, Debug, PartialEq, Eq)]
 pub enum AttributeKind {
     NotServed,
     Text,
@@ -106,7 +102,7 @@ pub enum AttributeKind {
 pub const NAME_ROOM: usize = 17;
 
 // A name that is handed out: its bytes, zeros behind them, and how many bytes it has. Where there is no such name it has 0.
-#[derive(Clone, Copy)]
+#[derive(Clone, Copy, Debug, PartialEq, Eq)]
 pub struct Name {
     pub bytes: [u8; NAME_ROOM],
     pub len: usize,
