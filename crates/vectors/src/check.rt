@@ -1,42 +1,35 @@
 // The command `check`: what the checker answers to a capture.
-use checking::Checked;
 use connection::State;
-use vectors_text::answer::Answer;
-use vectors_text::{answer, commands, parse, put, text};
-use wire::part_of;
+use std::io;
+use std::io::Write;
+use vectors_text::text::Written;
+use vectors_text::{commands, parse, text};
 
 // The part of a case that has the capture.
 const CAPTURE: usize = 1;
 
-// Writes the checker's answer to a case; the place behind it.
-pub fn answer(case: &[u8], out: &mut [u8]) -> usize {
-    let mut capture = [0u8; commands::BYTES];
-    let count = parse::bytes(text::part(case, CAPTURE), &mut capture);
-    put::answer(
+// Writes the checker's answer to a case.
+pub fn answer(case: &[u8], out: &mut Written) -> io::Result<()> {
+    let mut room = [0u8; commands::BYTES];
+    let capture = parse::bytes(text::part(case, CAPTURE), &mut room);
+    let checked = checking::check(capture);
+    let packets = checked.packets;
+    let requests = checked.requests;
+    let body = checked.body;
+    let state = state_word(checked.state);
+    let refusal = checked.refusal;
+    let place = checked.place;
+    write!(
         out,
-        said(checking::check(part_of(&capture, 0, count))),
-        b"",
-        &[0; 0],
+        "packets={packets};requests={requests};body={body};state={state};refusal={refusal};place={place}"
     )
 }
 
-// The answer in its form.
-fn said(checked: Checked) -> Answer {
-    let state = checked.state;
-    Answer::of(form(state))
-        .with(checked.packets as u64)
-        .with(checked.requests as u64)
-        .with(checked.body as u64)
-        .with(checked.refusal as u64)
-        .with(checked.place as u64)
-}
-
-// The form of an answer, by the state.
-fn form(state: State) -> usize {
+fn state_word(state: State) -> &'static str {
     match state {
-        State::Idle => answer::CHECKED_IDLE,
-        State::Pinged => answer::CHECKED_PINGED,
-        State::Busy => answer::CHECKED_BUSY,
-        State::Closed => answer::CHECKED_CLOSED,
+        State::Idle => "idle",
+        State::Pinged => "pinged",
+        State::Busy => "busy",
+        State::Closed => "closed",
     }
 }

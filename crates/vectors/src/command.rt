@@ -1,35 +1,20 @@
-// The commands of the cases: which one a case is of, and what the library answers.
-use crate::{check, name, print, read};
+// What the library answers to a case of a command.
+use crate::{check, name, read};
 use packet::Direction;
 use std::io;
-use vectors_text::{commands, form, text};
+use vectors_building::{piece, send};
+use vectors_text::commands::Command;
+use vectors_text::text::Written;
 
-// The command whose form a case has.
-pub fn of(case: &[u8]) -> usize {
-    let forms = commands::FORMS;
-    for command in 0..commands::UNKNOWN {
-        if form::is_of(case, text::field(&forms, b'\n', command)) {
-            return command;
-        }
-    }
-    commands::UNKNOWN
-}
-
-// Writes the library's answer to a case of a command; the place behind it, or `NOT_UNDERSTOOD`.
-pub fn answer(command: usize, case: &[u8], out: &mut [u8]) -> usize {
+// Writes the library's answer to a case of a command.
+pub fn answer(command: Command, case: &[u8], out: &mut Written) -> io::Result<()> {
     match command {
-        commands::READ_AT_CONTAINER => read::answer(Direction::ToContainer, case, out),
-        commands::READ_AT_SERVER => read::answer(Direction::ToServer, case, out),
-        commands::CPING..=commands::PAIR_ATTRIBUTE => vectors_building::answer(command, case, out),
-        commands::METHOD_NAME..=commands::ATTRIBUTE_NAME => name::of_code(command, case, out),
-        commands::METHOD_CODE..=commands::ATTRIBUTE_CODE => name::code_of(command, case, out),
-        commands::CHECK => check::answer(case, out),
-        _ => commands::NOT_UNDERSTOOD,
+        Command::ReadAtContainer => read::answer(Direction::ToContainer, case, out),
+        Command::ReadAtServer => read::answer(Direction::ToServer, case, out),
+        Command::Send(packet) => send::answer(packet, case, out),
+        Command::Build(piece) => piece::answer(piece, case, out),
+        Command::NameOf(list) => name::of_code(list, case, out),
+        Command::CodeOf(list) => name::code_of(list, case, out),
+        Command::Check => check::answer(case, out),
     }
-}
-
-// Prints what a command is called, and all of them for no command.
-pub fn print_name(rt: &impl Print, command: usize) -> io::Result<()> {
-    let names = commands::NAMES;
-    print::text(rt, text::field(&names, b'\n', command))
 }

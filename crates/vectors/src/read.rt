@@ -1,9 +1,11 @@
 // The command `read`: what reading at one of the ends answers.
 use packet::{Direction, Forward, Packet};
 use reader::Received;
-use vectors_text::answer::Answer;
-use vectors_text::{answer, commands, parse, put, text};
-use wire::part_of;
+use std::io;
+use std::io::Write;
+use vectors_text::text::Written;
+use vectors_text::words::{ConnectionWords, FlagWord, TableWord};
+use vectors_text::{commands, parse, text};
 
 // The parts of a case: the connection, the table and the bytes.
 const CONNECTION: usize = 2;
@@ -12,117 +14,109 @@ const TABLE: usize = 3;
 
 const BYTES: usize = 4;
 
-// Writes the library's answer to a case; the place behind it.
-pub fn answer(direction: Direction, case: &[u8], out: &mut [u8]) -> usize {
-    let mut table = [0u16; commands::PLACES];
-    let room = parse::places(text::part(case, TABLE), &mut table);
-    let before = table;
-    let answer = lent(direction, case, &mut table, room);
-    told(out, answer, &before, &table, room)
-}
-
-// Writes an answer, with the lent places of the table. A refusal is to leave all of them as they were.
-fn told(out: &mut [u8], answer: Answer, before: &[u16], table: &[u16], room: usize) -> usize {
-    let answer = answer.noting(equal(before, table));
-    if table.len() < room {
-        return commands::NOT_UNDERSTOOD;
-    }
-    put::answer(out, answer, b"", &table[0..room])
-}
-
-// Whether two tables are equal.
-fn equal(a: &[u16], b: &[u16]) -> bool {
-    if a.len() != b.len() {
-        return false;
-    }
-    let mut i = 0;
-    while i < a.len() {
-        if a[i] != b[i] {
-            return false;
+// Writes the library's answer to a case.
+pub fn answer(direction: Direction, case: &[u8], out: &mut Written) -> io::Result<()> {
+    let lent = text::part(case, TABLE);
+    let mut room = [0u16; commands::PLACES];
+    let table = parse::places(lent, &mut room);
+    match received(direction, case, table) {
+        Received::Needs(n) => {
+            write!(out, "needs {n}")?;
+            unchanged(lent, table, out)
         }
-        i += 1;
-    }
-    true
-}
-
-// The answer, with so many places of the table lent.
-fn lent(direction: Direction, case: &[u8], table: &mut [u16], room: usize) -> Answer {
-    let mut packet = [0u8; commands::BYTES];
-    let count = parse::bytes(text::part(case, BYTES), &mut packet);
-    if table.len() < room {
-        return Answer::of(0);
-    }
-    received(
-        direction,
-        case,
-        part_of(&packet, 0, count),
-        &mut table[0..room],
-    )
-}
-
-// Reads at the end to which a direction leads.
-fn received(direction: Direction, case: &[u8], bytes: &[u8], table: &mut [u16]) -> Answer {
-    let connection = parse::connection(text::part(case, CONNECTION));
-    match direction {
-        Direction::ToContainer => said(reader::read_at_container(connection, bytes, table)),
-        Direction::ToServer => said(reader::read_at_server(connection, bytes, table)),
-    }
-}
-
-fn said(answer: Received) -> Answer {
-    match answer {
-        Received::Needs(n) => Answer::of(answer::NEEDS).with(n as u64),
-        Received::Refused(n) => Answer::of(answer::REFUSED).with(n as u64),
+        Received::Refused(n) => {
+            write!(out, "refused {n}")?;
+            unchanged(lent, table, out)
+        }
         Received::Accepted {
             packet,
             taken,
             connection,
         } => {
-            let answer = Answer::of(form(packet)).with(taken as u64);
-            with_fields(answer.with_connection(connection), packet)
+            let connection = ConnectionWords(connection);
+            write!(out, "ok {} taken={taken} conn={connection}", kind(packet))?;
+            fields(packet, out)?;
+            write!(out, " table={}", TableWord(table))
         }
     }
 }
 
-// The form of a packet.
-fn form(packet: Packet) -> usize {
-    match packet {
-        Packet::CPing => answer::CPING,
-        Packet::CPong => answer::CPONG,
-        Packet::Forward(f) => answer::FORWARD,
-        Packet::Body(p) => answer::BODY,
-        Packet::GetBody(asked) => answer::GET,
-        Packet::SendHeaders(h) => answer::SEND_HEADERS,
-        Packet::BodyChunk(p) => answer::CHUNK,
-        Packet::End(reuse) => answer::END,
+// Writes the table where it is not as the case lends it. It is to stay so where nothing was read.
+fn unchanged(lent: &[u8], table: &[u16], out: &mut Written) -> io::Result<()> {
+    let mut room = [0u16; commands::PLACES];
+    let before: &[u16] = parse::places(lent, &mut room);
+    if before == table {
+        return Ok(());
+    }
+    write!(out, ", changed to - {}", TableWord(table))
+}
+
+// Reads at the end to which a direction leads.
+fn received(direction: Direction, case: &[u8], table: &mut [u16]) -> Received {
+    let mut room = [0u8; commands::BYTES];
+    let bytes = parse::bytes(text::part(case, BYTES), &mut room);
+    let connection = parse::connection(text::part(case, CONNECTION));
+    match direction {
+        Direction::ToContainer => reader::read_at_container(connection, bytes, table),
+        Direction::ToServer => reader::read_at_server(connection, bytes, table),
     }
 }
 
-// An answer with a packet's fields, in the order of their names.
-fn with_fields(answer: Answer, packet: Packet) -> Answer {
+// What a kind of packet is called.
+fn kind(packet: Packet) -> &'static str {
     match packet {
-        Packet::CPing => answer,
-        Packet::CPong => answer,
-        Packet::Forward(f) => with_forward(answer, f),
-        Packet::Body(p) => few(answer, p.start.0, p.len, 0),
-        Packet::GetBody(asked) => few(answer, asked, 0, 0),
-        Packet::SendHeaders(h) => few(answer, h.status, h.message.0, h.headers),
-        Packet::BodyChunk(p) => few(answer, p.start.0, p.len, 0),
-        Packet::End(reuse) => answer.with_flag(reuse),
+        Packet::CPing => "cping",
+        Packet::CPong => "cpong",
+        Packet::Forward(_) => "forward",
+        Packet::Body(_) => "body",
+        Packet::GetBody(_) => "get",
+        Packet::SendHeaders(_) => "sendheaders",
+        Packet::BodyChunk(_) => "chunk",
+        Packet::End(_) => "end",
     }
 }
 
-// An answer with three fields. One that its form does not tell is 0.
-fn few(answer: Answer, first: u16, second: u16, third: u16) -> Answer {
-    answer
-        .with(first as u64)
-        .with(second as u64)
-        .with(third as u64)
+// Writes a packet's fields.
+fn fields(packet: Packet, out: &mut Written) -> io::Result<()> {
+    match packet {
+        Packet::CPing | Packet::CPong => Ok(()),
+        Packet::Forward(f) => forward(f, out),
+        Packet::Body(p) | Packet::BodyChunk(p) => {
+            let start = p.start;
+            write!(out, " start={} len={}", start.0, p.len)
+        }
+        Packet::GetBody(asked) => write!(out, " asked={asked}"),
+        Packet::SendHeaders(h) => {
+            let message = h.message;
+            write!(
+                out,
+                " status={} message={} headers={}",
+                h.status, message.0, h.headers
+            )
+        }
+        Packet::End(reuse) => write!(out, " reuse={}", FlagWord(reuse)),
+    }
 }
 
-fn with_forward(answer: Answer, f: Forward) -> Answer {
-    let answer = few(answer, f.method, f.protocol.0, f.req_uri.0);
-    let answer = few(answer, f.remote_addr.0, f.remote_host.0, f.server_name.0);
-    let answer = answer.with(f.server_port as u64).with_flag(f.is_ssl);
-    few(answer, f.headers, f.attributes, 0)
+fn forward(f: Forward, out: &mut Written) -> io::Result<()> {
+    let protocol = f.protocol.0;
+    let req_uri = f.req_uri.0;
+    let remote_addr = f.remote_addr.0;
+    let remote_host = f.remote_host.0;
+    let server_name = f.server_name.0;
+    let ssl = FlagWord(f.is_ssl);
+    write!(
+        out,
+        " method={} protocol={protocol} req_uri={req_uri}",
+        f.method
+    )?;
+    write!(
+        out,
+        " remote_addr={remote_addr} remote_host={remote_host} server_name={server_name}"
+    )?;
+    write!(
+        out,
+        " port={} ssl={ssl} headers={} attributes={}",
+        f.server_port, f.headers, f.attributes
+    )
 }

@@ -1,72 +1,63 @@
-// How many cases there were, and how many differ: a row for each command, and one for all.
-use crate::{command, print};
+// How many cases there were, and how many differ: for each command, and in all.
 use std::io;
-use vectors_text::commands;
-
-// The row for all, behind those of the commands, and how many rows there are. A case that is not understood counts in that row alone.
-const ALL: usize = commands::UNKNOWN;
-
-const ROWS: usize = ALL + 1;
+use vectors_text::commands::{COUNT, Command, LISTED};
 
 #[derive(Clone, Copy)]
+struct Tally {
+    cases: u64,
+    differ: u64,
+}
+
+impl Tally {
+    const NONE: Tally = Tally {
+        cases: 0,
+        differ: 0,
+    };
+
+    fn count(&mut self, differs: bool) {
+        self.cases = self.cases.saturating_add(1);
+        if differs {
+            self.differ = self.differ.saturating_add(1);
+        }
+    }
+
+    fn show(self, name: &str, rt: &impl Print) -> io::Result<()> {
+        let cases = self.cases;
+        let differ = self.differ;
+        println!(rt; "{name}: {cases} cases, {differ} differ")
+    }
+}
+
+// The tallies of the commands, in the order of their list, and the one of all cases.
+#[derive(Drop)]
 pub struct Tallies {
-    cases: [u64; ROWS],
-    differ: [u64; ROWS],
+    commands: [Tally; COUNT],
+    all: Tally,
 }
 
 impl Tallies {
     pub fn none() -> Tallies {
         Tallies {
-            cases: [0; ROWS],
-            differ: [0; ROWS],
+            commands: [Tally::NONE; COUNT],
+            all: Tally::NONE,
         }
     }
 
-    // With one more case of a command.
-    pub fn with(self, command: usize, differs: bool) -> Tallies {
-        if command == commands::UNKNOWN {
-            return self.with_row(ALL, differs);
-        }
-        self.with_row(command, differs).with_row(ALL, differs)
-    }
-
-    // With one more case in a row.
-    fn with_row(mut self, row: usize, differs: bool) -> Tallies {
-        if row < ROWS {
-            let cases = more(self.cases[row]);
-            self.cases[row] = cases;
-            if differs {
-                let differ = more(self.differ[row]);
-                self.differ[row] = differ;
+    // Counts a case of a command. One of no command counts in all alone.
+    pub fn count(&mut self, command: Option<Command>, differs: bool) {
+        self.all.count(differs);
+        for (listed, tally) in LISTED.iter().zip(self.commands.iter_mut()) {
+            if command == Some(listed.command) {
+                tally.count(differs);
             }
         }
-        self
     }
 
-    // Prints a line for each row.
-    pub fn show(self, rt: &impl Print) -> io::Result<()> {
-        let cases = self.cases;
-        let differ = self.differ;
-        for row in 0..ROWS {
-            show(rt, row, cases[row], differ[row])?;
+    // Prints a line for each tally.
+    pub fn show(&self, rt: &impl Print) -> io::Result<()> {
+        for (listed, tally) in LISTED.iter().zip(self.commands.iter()) {
+            tally.show(listed.name, rt)?;
         }
-        Ok(())
+        self.all.show("in all", rt)
     }
-}
-
-// One more.
-fn more(n: u64) -> u64 {
-    if n < u64::MAX {
-        return n + 1;
-    }
-    n
-}
-
-fn show(rt: &impl Print, row: usize, cases: u64, differ: u64) -> io::Result<()> {
-    command::print_name(rt, row)?;
-    print::text(rt, b": ")?;
-    print::decimal(rt, cases)?;
-    print::text(rt, b" cases, ")?;
-    print::decimal(rt, differ)?;
-    print::text(rt, b" differ\n")
 }

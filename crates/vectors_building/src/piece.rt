@@ -1,96 +1,154 @@
 // The commands that make a piece. Those that add one begin with the record, K,N,N,N,F, and have what they add from word 7 on.
-use crate::record;
+use crate::{record, refused};
 use pieces::forward::{Nulls, Numbers};
 use pieces::{Added, attribute, forward, header, send_headers};
-use vectors_text::answer::Answer;
-use vectors_text::{answer, commands, parse, string, text};
+use std::io;
+use std::io::Write;
+use vectors_text::commands::{BYTES, Piece};
+use vectors_text::parse;
+use vectors_text::string::Strings;
+use vectors_text::text::{ROOM, Written, part, word};
+use vectors_text::words::BytesWord;
 
-pub fn answer(command: usize, case: &[u8], texts: &[u8], buffer: &mut [u8]) -> Answer {
-    match made(command, case, texts, buffer) {
-        Added::Refused(n) => Answer::of(answer::REFUSED).with(n as u64),
-        Added::Next(building) => record::told(Answer::of(answer::ADDED), building),
+// Writes the library's answer to a case.
+pub fn answer(piece: Piece, case: &[u8], out: &mut Written) -> io::Result<()> {
+    let lent = part(case, buffer_part(piece));
+    let mut room = [0u8; BYTES];
+    let buffer = parse::bytes(lent, &mut room);
+    match made(piece, case, buffer) {
+        Added::Refused(n) => refused(n, lent, buffer, out),
+        Added::Next(building) => {
+            let record = record::Words(building);
+            write!(out, "ok rec={record} buf={}", BytesWord(buffer))
+        }
     }
 }
 
-// Makes the piece of a command.
-fn made(command: usize, case: &[u8], texts: &[u8], buffer: &mut [u8]) -> Added {
-    match command {
-        commands::FORWARD => forward(case, texts, buffer),
-        commands::SEND_HEADERS => {
-            let message = string::bytes(case, 3, texts);
-            send_headers::begin(
-                buffer,
-                parse::number(case, 2),
-                string::is_null(case, 3),
-                message,
-            )
-        }
-        _ => added(command, case, texts, buffer),
+// The part that is the buffer.
+fn buffer_part(piece: Piece) -> usize {
+    match piece {
+        Piece::Forward | Piece::SendHeaders => 1,
+        _ => 2,
+    }
+}
+
+// Makes a piece.
+fn made(piece: Piece, case: &[u8], buffer: &mut [u8]) -> Added {
+    let mut room = [0u8; ROOM];
+    let strings = Strings::within(&mut room);
+    match piece {
+        Piece::Forward => forward(case, strings, buffer),
+        Piece::SendHeaders => send_headers(case, strings, buffer),
+        Piece::HeaderByCode => header_by_code(case, strings, buffer),
+        Piece::HeaderByName => header_by_name(case, strings, buffer),
+        Piece::TextAttribute => text_attribute(case, strings, buffer),
+        Piece::IntegerAttribute => integer_attribute(case, buffer),
+        Piece::PairAttribute => pair_attribute(case, strings, buffer),
     }
 }
 
 // Begins a Forward.
-fn forward(case: &[u8], texts: &[u8], buffer: &mut [u8]) -> Added {
-    forward::begin(
-        buffer,
-        numbers(case),
-        nulls(case),
-        string::bytes(case, 3, texts),
-        string::bytes(case, 4, texts),
-        string::bytes(case, 5, texts),
-        string::bytes(case, 6, texts),
-        string::bytes(case, 7, texts),
-    )
-}
-
-fn numbers(case: &[u8]) -> Numbers {
-    Numbers {
+fn forward(case: &[u8], mut strings: Strings<'_>, buffer: &mut [u8]) -> Added {
+    let numbers = Numbers {
         method: parse::number(case, 2),
         server_port: parse::number(case, 8),
         is_ssl: parse::flag(case, 9),
-    }
+    };
+    let protocol = strings.string(word(case, 3));
+    let req_uri = strings.string(word(case, 4));
+    let remote_addr = strings.string(word(case, 5));
+    let remote_host = strings.string(word(case, 6));
+    let server_name = strings.string(word(case, 7));
+    let nulls = Nulls {
+        protocol: protocol.is_none(),
+        req_uri: req_uri.is_none(),
+        remote_addr: remote_addr.is_none(),
+        remote_host: remote_host.is_none(),
+        server_name: server_name.is_none(),
+    };
+    forward::begin(
+        buffer,
+        numbers,
+        nulls,
+        protocol.unwrap_or(&[]),
+        req_uri.unwrap_or(&[]),
+        remote_addr.unwrap_or(&[]),
+        remote_host.unwrap_or(&[]),
+        server_name.unwrap_or(&[]),
+    )
 }
 
-fn nulls(case: &[u8]) -> Nulls {
-    Nulls {
-        protocol: string::is_null(case, 3),
-        req_uri: string::is_null(case, 4),
-        remote_addr: string::is_null(case, 5),
-        remote_host: string::is_null(case, 6),
-        server_name: string::is_null(case, 7),
-    }
+// Begins a Send Headers.
+fn send_headers(case: &[u8], mut strings: Strings<'_>, buffer: &mut [u8]) -> Added {
+    let status = parse::number(case, 2);
+    let message = strings.string(word(case, 3));
+    send_headers::begin(buffer, status, message.is_none(), message.unwrap_or(&[]))
 }
 
-// Adds a header or an attribute: words 8 and 9 are a header's name and its value, 7 is an attribute's code, and 9 its value, or the name
-// before it.
-fn added(command: usize, case: &[u8], texts: &[u8], buffer: &mut [u8]) -> Added {
-    let building = record::parse(text::part(case, 1));
+// Adds a header: word 8 is its code or its name, 9 its value.
+fn header_by_code(case: &[u8], mut strings: Strings<'_>, buffer: &mut [u8]) -> Added {
+    let building = record::parse(part(case, 1));
+    let code = parse::number(case, 8);
+    let value = strings.string(word(case, 9));
+    header::coded(
+        building,
+        buffer,
+        code,
+        value.is_none(),
+        value.unwrap_or(&[]),
+    )
+}
+
+fn header_by_name(case: &[u8], mut strings: Strings<'_>, buffer: &mut [u8]) -> Added {
+    let building = record::parse(part(case, 1));
+    let name = strings.string(word(case, 8));
+    let value = strings.string(word(case, 9));
+    header::spelled(
+        building,
+        buffer,
+        name.is_none(),
+        name.unwrap_or(&[]),
+        value.is_none(),
+        value.unwrap_or(&[]),
+    )
+}
+
+// Adds an attribute: word 7 is its code, 9 its value, or its name before the value.
+fn text_attribute(case: &[u8], mut strings: Strings<'_>, buffer: &mut [u8]) -> Added {
+    let building = record::parse(part(case, 1));
     let code = parse::number(case, 7);
-    let text = string::bytes(case, 9, texts);
-    let null = string::is_null(case, 9);
-    match command {
-        commands::HEADER_BY_CODE => {
-            header::coded(building, buffer, parse::number(case, 8), null, text)
-        }
-        commands::HEADER_BY_NAME => {
-            let name = string::bytes(case, 8, texts);
-            header::spelled(building, buffer, string::is_null(case, 8), name, null, text)
-        }
-        commands::TEXT_ATTRIBUTE => attribute::text(building, buffer, code, null, text),
-        commands::INTEGER_ATTRIBUTE => {
-            attribute::integer(building, buffer, code, parse::number(case, 9))
-        }
-        _ => {
-            let value = string::bytes(case, 10, texts);
-            attribute::pair(
-                building,
-                buffer,
-                code,
-                null,
-                text,
-                string::is_null(case, 10),
-                value,
-            )
-        }
-    }
+    let value = strings.string(word(case, 9));
+    attribute::text(
+        building,
+        buffer,
+        code,
+        value.is_none(),
+        value.unwrap_or(&[]),
+    )
+}
+
+fn integer_attribute(case: &[u8], buffer: &mut [u8]) -> Added {
+    let building = record::parse(part(case, 1));
+    attribute::integer(
+        building,
+        buffer,
+        parse::number(case, 7),
+        parse::number(case, 9),
+    )
+}
+
+fn pair_attribute(case: &[u8], mut strings: Strings<'_>, buffer: &mut [u8]) -> Added {
+    let building = record::parse(part(case, 1));
+    let code = parse::number(case, 7);
+    let name = strings.string(word(case, 9));
+    let value = strings.string(word(case, 10));
+    attribute::pair(
+        building,
+        buffer,
+        code,
+        name.is_none(),
+        name.unwrap_or(&[]),
+        value.is_none(),
+        value.unwrap_or(&[]),
+    )
 }

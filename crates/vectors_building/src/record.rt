@@ -2,37 +2,47 @@
 // are, and whether an attribute was added.
 use building_record::{Building, BuildingKind};
 use packet::Place;
-use vectors_text::answer::Answer;
-use vectors_text::parse;
+use std::fmt;
+use std::fmt::{Display, Formatter};
+use vectors_text::words::FlagWord;
+use vectors_text::{parse, text};
 
 // The record that the first five words of a text say.
 pub fn parse(s: &[u8]) -> Building {
-    let kind = kind(parse::letter(s, 0));
+    let kind = kind(text::word(s, 0));
     let next = Place(parse::number(s, 1));
     let count = Place(parse::number(s, 2));
     Building::with_fields(kind, next, count, parse::number(s, 3), parse::flag(s, 4))
 }
 
-fn kind(letter: u8) -> BuildingKind {
+fn kind(letter: &[u8]) -> BuildingKind {
     match letter {
-        b'F' => BuildingKind::Forward,
+        b"F" => BuildingKind::Forward,
         _ => BuildingKind::SendHeaders,
     }
 }
 
-// An answer with a record.
-pub fn told(answer: Answer, building: Building) -> Answer {
-    let next = building.next();
-    let count = building.count_place();
-    let answer = answer.with(letter(building.kind()) as u64);
-    let answer = answer.with(next.0 as u64).with(count.0 as u64);
-    let answer = answer.with(building.headers() as u64);
-    answer.with_flag(building.attributes_began())
+// A record in these words.
+#[derive(Clone, Copy)]
+pub struct Words(pub Building);
+
+impl Display for Words {
+    fn fmt<W: fmt::Write>(&self, f: &mut Formatter<W>) -> fmt::Result {
+        let building = self.0;
+        let letter = letter(building.kind());
+        let next = building.next();
+        let next = next.0;
+        let count = building.count_place();
+        let count = count.0;
+        let headers = building.headers();
+        let attributes_began = FlagWord(building.attributes_began());
+        write!(f, "{letter},{next},{count},{headers},{attributes_began}")
+    }
 }
 
-fn letter(kind: BuildingKind) -> u8 {
+fn letter(kind: BuildingKind) -> char {
     match kind {
-        BuildingKind::Forward => b'F',
-        BuildingKind::SendHeaders => b'H',
+        BuildingKind::Forward => 'F',
+        BuildingKind::SendHeaders => 'H',
     }
 }

@@ -1,9 +1,12 @@
 // The commands that send a packet: in one call, or by closing one that was built. The first part behind the command is the connection.
-use crate::record;
+use crate::{record, refused};
 use connection::Sent;
-use vectors_text::answer::Answer;
-use vectors_text::{answer, commands, parse, text};
-use wire::part_of;
+use std::io;
+use std::io::Write;
+use vectors_text::commands::{BYTES, Sending};
+use vectors_text::text::Written;
+use vectors_text::words::{BytesWord, ConnectionWords};
+use vectors_text::{parse, text};
 
 // The parts of a case: the connection, the record where a packet is closed, else what the packet holds: bytes, a number or a flag.
 const CONNECTION: usize = 1;
@@ -12,28 +15,47 @@ const RECORD: usize = 2;
 
 const CONTENT: usize = 3;
 
-pub fn answer(command: usize, case: &[u8], texts: &[u8], buffer: &mut [u8]) -> Answer {
-    match sent(command, case, texts, buffer) {
-        Sent::Refused(n) => Answer::of(answer::REFUSED).with(n as u64),
+// Writes the library's answer to a case.
+pub fn answer(packet: Sending, case: &[u8], out: &mut Written) -> io::Result<()> {
+    let lent = text::part(case, buffer_part(packet));
+    let mut room = [0u8; BYTES];
+    let buffer = parse::bytes(lent, &mut room);
+    match sent(packet, case, buffer) {
+        Sent::Refused(n) => refused(n, lent, buffer, out),
         Sent::Written { size, connection } => {
-            let answer = Answer::of(answer::SENT).with(size as u64);
-            answer.with_connection(connection)
+            let connection = ConnectionWords(connection);
+            write!(
+                out,
+                "ok len={size} conn={connection} buf={}",
+                BytesWord(buffer)
+            )
         }
     }
 }
 
-// Sends the packet of a command.
-fn sent(command: usize, case: &[u8], texts: &[u8], buffer: &mut [u8]) -> Sent {
+// The part that is the buffer.
+fn buffer_part(packet: Sending) -> usize {
+    match packet {
+        Sending::Close => 3,
+        _ => 2,
+    }
+}
+
+// Sends a packet.
+fn sent(packet: Sending, case: &[u8], buffer: &mut [u8]) -> Sent {
     let connection = parse::connection(text::part(case, CONNECTION));
     let content = text::part(case, CONTENT);
-    let bytes = part_of(texts, text::start(case, b' ', CONTENT), content.len() / 2);
-    match command {
-        commands::CPING => writer::cping(connection, buffer),
-        commands::CPONG => writer::cpong(connection, buffer),
-        commands::BODY => writer::body(connection, buffer, bytes),
-        commands::CHUNK => writer::body_chunk(connection, buffer, bytes),
-        commands::GET => writer::get_body(connection, buffer, parse::number(content, 0)),
-        commands::END => writer::end(connection, buffer, parse::flag(content, 0)),
-        _ => closing::close(connection, record::parse(text::part(case, RECORD)), buffer),
+    let mut room = [0u8; BYTES];
+    let bytes = parse::bytes(content, &mut room);
+    match packet {
+        Sending::CPing => writer::cping(connection, buffer),
+        Sending::CPong => writer::cpong(connection, buffer),
+        Sending::Body => writer::body(connection, buffer, bytes),
+        Sending::Chunk => writer::body_chunk(connection, buffer, bytes),
+        Sending::Get => writer::get_body(connection, buffer, parse::number(content, 0)),
+        Sending::End => writer::end(connection, buffer, parse::flag(content, 0)),
+        Sending::Close => {
+            closing::close(connection, record::parse(text::part(case, RECORD)), buffer)
+        }
     }
 }

@@ -1,112 +1,124 @@
 // The forms of cases. In a form a capital letter stands for a word:
 //   C  a connection, K  the letter of a packet that is built
-//   N  a number in two bytes, D  one in four, F  1 or 0
+//   N  a number in two bytes, F  1 or 0
 //   B  bytes, T  a table of places, S  a string, null or bytes
 // and every other character for itself.
-use crate::{commands, text};
+use crate::{commands, parse, text};
 use itoa::Buffer;
 
-// Stands for no place of a case.
-const NOWHERE: usize = usize::MAX;
+// What a capital letter of a form stands for.
+#[derive(Clone, Copy)]
+enum Word {
+    Connection,
+    Kind,
+    Number,
+    Flag,
+    Bytes,
+    Table,
+    Text,
+}
+
+impl Word {
+    // The word for which a character of a form stands. None: it stands for itself.
+    fn of(sign: u8) -> Option<Word> {
+        match sign {
+            b'C' => Some(Word::Connection),
+            b'K' => Some(Word::Kind),
+            b'N' => Some(Word::Number),
+            b'F' => Some(Word::Flag),
+            b'B' => Some(Word::Bytes),
+            b'T' => Some(Word::Table),
+            b'S' => Some(Word::Text),
+            _ => None,
+        }
+    }
+
+    // Whether a byte ends it. A connection is several words, and ends as a part of a case does.
+    fn is_ended_by(self, b: u8) -> bool {
+        match self {
+            Word::Connection => b == b' ',
+            _ => text::ends_word(b),
+        }
+    }
+
+    // Whether a text is such a word.
+    fn is(self, s: &[u8]) -> bool {
+        match self {
+            Word::Connection => is_connection(s),
+            Word::Kind => matches!(s, b"F" | b"H"),
+            Word::Number => is_number(s, u16::MAX as u64),
+            Word::Flag => is_flag(s),
+            Word::Bytes => is_hex(s) && s.len() <= 2 * commands::BYTES,
+            Word::Table => is_hex(s) && s.len() <= 4 * commands::PLACES && s.len() % 4 < 2,
+            Word::Text => matches!(s, b"null") || is_hex(s),
+        }
+    }
+}
 
 // Whether a case is of a form.
 pub fn is_of(case: &[u8], form: &[u8]) -> bool {
-    let mut at = 0;
-    for i in 0..form.len() {
-        at = past(case, at, form[i]);
-    }
-    at == case.len()
+    matches!(behind(case, form), Some([]))
 }
 
-// The place behind what a character of a form stands for, where that is at this place of the case.
-fn past(case: &[u8], at: usize, sign: u8) -> usize {
-    match sign {
-        b'C' => {
-            let end = text::find(case, at, b' ');
-            passed(is_connection(text::between(case, at, end)), end)
-        }
-        b'A'..=b'Z' => {
-            let end = text::find(case, at, text::BETWEEN_WORDS);
-            passed(is_word(text::between(case, at, end), sign), end)
-        }
-        _ => passed(text::byte_at(case, at) == sign, text::after(at)),
+// What stands behind the beginning of a case that is of a form. None: it begins otherwise.
+fn behind<'a>(case: &'a [u8], form: &[u8]) -> Option<&'a [u8]> {
+    let mut rest = case;
+    for sign in form {
+        rest = behind_sign(rest, *sign)?;
     }
+    Some(rest)
 }
 
-fn passed(is: bool, end: usize) -> usize {
-    if is {
-        return end;
-    }
-    NOWHERE
+// The same of one character of a form.
+fn behind_sign(case: &[u8], sign: u8) -> Option<&[u8]> {
+    let Some(word) = Word::of(sign) else {
+        return case.strip_prefix(&[sign]);
+    };
+    let end = case
+        .iter()
+        .position(|b| word.is_ended_by(*b))
+        .unwrap_or(case.len());
+    let (said, rest) = case.split_at_checked(end)?;
+    if word.is(said) { Some(rest) } else { None }
 }
 
 // Whether a text is a connection: the letter of a state, the bytes of body left, whether a body packet is due, the bytes asked for, whether
-// headers were sent, and then, each only behind the one before, whether the request is HEAD and the edition.
+// headers were sent, and then, each only behind the one before, whether the request is HEAD and the edition. A connection has no field for
+// the edition yet: only the new one may stand there.
 pub fn is_connection(s: &[u8]) -> bool {
-    is_letter(text::field(s, b',', 0), b"IPBC")
-        && is_word(text::field(s, b',', 1), b'D')
-        && is_word(text::field(s, b',', 2), b'F')
-        && is_word(text::field(s, b',', 3), b'N')
-        && is_word(text::field(s, b',', 4), b'F')
-        && (ends_before(s, 5) || is_word(text::field(s, b',', 5), b'F'))
-        && (ends_before(s, 6) || is_edition(text::field(s, b',', 6)))
-        && ends_before(s, 7)
+    let mut words = s.split(|b| *b == b',');
+    words
+        .next()
+        .is_some_and(|w| matches!(w, b"I" | b"P" | b"B" | b"C"))
+        && words.next().is_some_and(|w| is_number(w, u32::MAX as u64))
+        && words.next().is_some_and(is_flag)
+        && words.next().is_some_and(|w| is_number(w, u16::MAX as u64))
+        && words.next().is_some_and(is_flag)
+        && words.next().is_none_or(is_flag)
+        && words.next().is_none_or(|w| matches!(w, b"new"))
+        && words.next().is_none()
 }
 
-// Whether a text has no word of this index.
-fn ends_before(s: &[u8], word: usize) -> bool {
-    s.len() < text::start(s, b',', word)
-}
-
-// Whether a word is an edition. A connection has no field for it yet: only the new one may stand there.
-fn is_edition(word: &[u8]) -> bool {
-    text::equal(word, b"new")
-}
-
-// Whether a word is one for which a capital letter stands.
-fn is_word(word: &[u8], sign: u8) -> bool {
-    match sign {
-        b'K' => is_letter(word, b"FH"),
-        b'N' => is_number(word, 65535),
-        b'D' => is_number(word, 4294967295),
-        b'F' => is_number(word, 1),
-        b'B' => is_hex(word, 2 * commands::BYTES),
-        b'T' => is_hex(word, 4 * commands::PLACES) && word.len() % 4 < 2,
-        _ => text::equal(word, b"null") || is_hex(word, NOWHERE),
-    }
-}
-
-fn is_letter(word: &[u8], letters: &[u8]) -> bool {
-    word.len() == 1 && text::find(letters, 0, text::byte_at(word, 0)) < letters.len()
+fn is_flag(word: &[u8]) -> bool {
+    matches!(word, b"0" | b"1")
 }
 
 // Whether a word is a number up to this one, as it is printed.
 fn is_number(word: &[u8], most: u64) -> bool {
-    let n = crate::parse::decimal(word);
+    let n = parse::decimal(word);
     let mut digits = Buffer::new();
-    n <= most && text::equal(word, digits.format(n).as_bytes())
+    n <= most && word == digits.format(n).as_bytes()
 }
 
-// Whether a word is an even number of hexadecimal digits, up to so many, or - for none.
-fn is_hex(word: &[u8], most: usize) -> bool {
-    if text::equal(word, b"-") {
-        return true;
+// Whether a word is an even number of hexadecimal digits, or - for none.
+fn is_hex(word: &[u8]) -> bool {
+    match word {
+        b"-" => true,
+        [] => false,
+        _ => word.len() % 2 == 0 && word.iter().all(is_digit),
     }
-    0 < word.len() && word.len() <= most && word.len() % 2 == 0 && has_digits(word)
 }
 
-fn has_digits(word: &[u8]) -> bool {
-    for i in 0..word.len() {
-        if !is_digit(word[i]) {
-            return false;
-        }
-    }
-    true
-}
-
-fn is_digit(b: u8) -> bool {
-    match b {
-        b'0'..=b'9' | b'a'..=b'f' => true,
-        _ => false,
-    }
+fn is_digit(b: &u8) -> bool {
+    matches!(b, b'0'..=b'9' | b'a'..=b'f')
 }

@@ -2,12 +2,11 @@
 // program `vectors` is made of it. An inner crate: a user of the library does not call it. Every call answers for any text and any buffer.
 #![tactic(auto)]
 
-pub mod answer;
 pub mod commands;
 pub mod expand;
 pub mod form;
 pub mod parse;
-pub mod put;
 pub mod same;
 pub mod string;
 pub mod text;
+pub mod words;

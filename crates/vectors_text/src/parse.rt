@@ -1,27 +1,20 @@
 // What the words of a case say, where it is of its form.
-ghost use Rattle.std.specs.Prelude.{◌<◌, ◌≤◌};
+ghost use Rattle.std.specs.Prelude.{◌<◌};
 
 use crate::text;
 use connection::{Connection, State};
 use packet::BodyLeft;
 
-// A number above this is too large for any case.
+// A number too large for any case.
 const MANY: u64 = 4294967296;
 
-// The number of a text in decimal.
+// The number of a text in decimal, up to `MANY`.
 pub fn decimal(s: &[u8]) -> u64 {
-    let mut n = 0;
-    for i in 0..s.len() {
-        n = with_digit(n, s[i]);
-    }
-    n
-}
-
-fn with_digit(n: u64, spelled: u8) -> u64 {
-    if MANY < n {
-        return n;
-    }
-    n * 10 + digit(spelled) as u64
+    s.iter().fold(0, |n: u64, spelled| {
+        n.saturating_mul(10)
+            .saturating_add(u64::from(digit(*spelled)))
+            .min(MANY)
+    })
 }
 
 // The digit that a byte spells, up to 15; 0 where it spells none.
@@ -37,83 +30,67 @@ fn digit(spelled: u8) -> u8
 
 // The number that a word says, in four bytes and in two, the largest where it is larger; whether it says 1.
 fn long_number(case: &[u8], word: usize) -> u32 {
-    let n = decimal(text::word(case, word));
-    if 4294967295 < n {
-        return 4294967295;
-    }
-    n as u32
+    u32::try_from(decimal(text::word(case, word))).unwrap_or(u32::MAX)
 }
 
 pub fn number(case: &[u8], word: usize) -> u16 {
-    let n = long_number(case, word);
-    if 65535 < n {
-        return 65535;
-    }
-    n as u16
+    u16::try_from(decimal(text::word(case, word))).unwrap_or(u16::MAX)
 }
 
 pub fn flag(case: &[u8], word: usize) -> bool {
     number(case, word) == 1
 }
 
-// The letter that a word is.
-pub fn letter(case: &[u8], word: usize) -> u8 {
-    text::byte_at(text::word(case, word), 0)
-}
-
-// The byte of the two hexadecimal digits at a place.
-fn byte(s: &[u8], at: usize) -> u8 {
-    digit(text::byte_at(s, at)) * 16 + digit(text::byte_at(s, text::after(at)))
-}
-
-// The number of the four hexadecimal digits at a place.
-fn double(s: &[u8], at: usize) -> u16 {
-    byte(s, at) as u16 * 256 + byte(s, text::sum(at, 2)) as u16
-}
-
-// The lesser of two numbers.
-fn least(a: usize, b: usize) -> usize
-    ensures le_a { result ≤ a }
-    ensures le_b { result ≤ b }
-{
-    if a < b {
-        return a;
+// The byte of two hexadecimal digits.
+fn byte(digits: &[u8]) -> u8 {
+    match digits {
+        [high, low] => digit(*high) * 16 + digit(*low),
+        _ => 0,
     }
-    b
 }
 
-// Bytes, of two hexadecimal digits each; how many there are, and no more than there is room for.
-pub fn bytes(s: &[u8], into: &mut [u8]) -> usize {
-    let count = least(s.len() / 2, into.len());
-    for i in 0..count {
-        into[i] = byte(s, 2 * i);
+// The place of four hexadecimal digits.
+fn place(digits: &[u8]) -> u16 {
+    match digits {
+        [a, b, c, d] => u16::from_be_bytes([byte(&[*a, *b]), byte(&[*c, *d])]),
+        _ => 0,
     }
-    count
+}
+
+// Writes bytes, of two hexadecimal digits each, into a room: those that are written, no more than there is room for.
+pub fn bytes<'a>(s: &[u8], room: &'a mut [u8]) -> &'a mut [u8] {
+    let count = (s.len() / 2).min(room.len());
+    let written = &mut room[..count];
+    for (b, digits) in written.iter_mut().zip(s.chunks_exact(2)) {
+        *b = byte(digits);
+    }
+    written
 }
 
 // Places, of four hexadecimal digits each, in the same way.
-pub fn places(s: &[u8], into: &mut [u16]) -> usize {
-    let count = least(s.len() / 4, into.len());
-    for i in 0..count {
-        into[i] = double(s, 4 * i);
+pub fn places<'a>(s: &[u8], room: &'a mut [u16]) -> &'a mut [u16] {
+    let count = (s.len() / 4).min(room.len());
+    let written = &mut room[..count];
+    for (p, digits) in written.iter_mut().zip(s.chunks_exact(4)) {
+        *p = place(digits);
     }
-    count
+    written
 }
 
 // The connection that a text says, such as B,9000,1,8186,0. What is left out is 0.
 pub fn connection(s: &[u8]) -> Connection {
-    Connection::rest(state(letter(s, 0)))
+    Connection::rest(state(text::word(s, 0)))
         .with_left(BodyLeft(long_number(s, 1)))
         .with_due(flag(s, 2), number(s, 3))
         .with_headers(flag(s, 4))
         .with_head(flag(s, 5))
 }
 
-fn state(letter: u8) -> State {
+fn state(letter: &[u8]) -> State {
     match letter {
-        b'I' => State::Idle,
-        b'P' => State::Pinged,
-        b'B' => State::Busy,
+        b"I" => State::Idle,
+        b"P" => State::Pinged,
+        b"B" => State::Busy,
         _ => State::Closed,
     }
 }

@@ -1,49 +1,46 @@
 // Whether two answers say the same. A connection is compared by what its words say, and not by which of them are left out.
-use crate::{form, parse, put, text};
-use wire::part_of;
-
-// What stands before a connection in an answer.
-const BEFORE: usize = 5;
-
-// Room for a connection as it is printed.
-const ROOM: usize = 64;
+use crate::{form, parse, words};
+use connection::Connection;
 
 pub fn answers(a: &[u8], b: &[u8]) -> bool {
-    if text::equal(a, b) {
-        return true;
-    }
-    for i in 0..a.len() {
-        if a.len() < text::start(a, b' ', i) {
-            return b.len() < text::start(b, b' ', i);
-        }
-        if !parts(text::part(a, i), text::part(b, i)) {
-            return false;
-        }
-    }
-    false
+    let count = a.split(is_space).count();
+    count == b.split(is_space).count()
+        && a.split(is_space)
+            .zip(b.split(is_space))
+            .all(|(a, b)| parts(a, b))
+}
+
+fn is_space(b: &u8) -> bool {
+    *b == b' '
 }
 
 // Whether two parts of answers say the same.
 fn parts(a: &[u8], b: &[u8]) -> bool {
-    if is_connection(a) && is_connection(b) {
-        return connections(
-            text::between(a, BEFORE, a.len()),
-            text::between(b, BEFORE, b.len()),
-        );
+    match (connection(a), connection(b)) {
+        (Some(a), Some(b)) => fields(a) == fields(b),
+        _ => a == b,
     }
-    text::equal(a, b)
 }
 
-fn is_connection(s: &[u8]) -> bool {
-    text::equal(text::between(s, 0, BEFORE), b"conn=")
-        && form::is_connection(text::between(s, BEFORE, s.len()))
+// The connection of a part that is one.
+fn connection(part: &[u8]) -> Option<Connection> {
+    let words = part.strip_prefix(b"conn=")?;
+    if form::is_connection(words) {
+        Some(parse::connection(words))
+    } else {
+        None
+    }
 }
 
-// Whether two texts say the same connection: they are then printed as the same text.
-fn connections(a: &[u8], b: &[u8]) -> bool {
-    let mut first = [0u8; ROOM];
-    let mut second = [0u8; ROOM];
-    let n = put::connection(&mut first, 0, parse::connection(a));
-    let m = put::connection(&mut second, 0, parse::connection(b));
-    text::equal(part_of(&first, 0, n), part_of(&second, 0, m))
+// The fields of a connection.
+fn fields(c: Connection) -> (char, u32, bool, u16, bool, bool) {
+    let left = c.left();
+    (
+        words::state_letter(c.state()),
+        left.0,
+        c.due(),
+        c.asked(),
+        c.headers(),
+        c.head(),
+    )
 }
