@@ -19,7 +19,7 @@ use wire::part_of;
 // The list is shorter than this.
 const LIST: usize = 1048576;
 
-// The room for it, in a function of its own: no proof above then looks into so large an array.
+// The room for it, in a function of its own. Tried in `main`: its proof looks into so large an array, and runs out of stack.
 fn room_for_list() -> [u8; LIST] {
     [0; LIST]
 }

@@ -8,7 +8,7 @@ use packet::BodyLeft;
 // A number too large for any case.
 const MANY: u64 = 4294967296;
 
-// The number of a text in decimal, up to `MANY`.
+// The number of a text in decimal, up to `MANY`. `str::parse` refuses a text that spells no number, which has an answer here.
 pub fn decimal(s: &[u8]) -> u64 {
     s.iter().fold(0, |n: u64, spelled| {
         n.saturating_mul(10)
@@ -17,7 +17,8 @@ pub fn decimal(s: &[u8]) -> u64 {
     })
 }
 
-// The digit that a byte spells, up to 15; 0 where it spells none.
+// The digit that a byte spells, up to 15; 0 where it spells none. `char::to_digit` takes capital letters too, and what is printed of a list
+// with one would change.
 fn digit(spelled: u8) -> u8
     ensures { result < 16 }
 {

@@ -9,12 +9,12 @@ pub const ROOM: usize = 262143;
 // A text that is written into such a room.
 pub type Written = ArrayVec<u8, ROOM>;
 
-// The place after a place.
+// The place after a place. `conversation` and `conversation_text` call it.
 pub fn after(at: usize) -> usize {
     at.saturating_add(1)
 }
 
-// The byte at a place, 0 past the end.
+// The byte at a place, 0 past the end. `conversation` and `conversation_text` call it.
 pub fn byte_at(s: &[u8], at: usize) -> u8 {
     s.get(at).copied().unwrap_or(0)
 }
@@ -25,7 +25,7 @@ pub fn field(s: &[u8], separator: u8, index: usize) -> &[u8] {
 }
 
 // Whether a byte parts the words of a case.
-pub fn ends_word(b: u8) -> bool {
+pub(crate) fn ends_word(b: u8) -> bool {
     matches!(b, b' ' | b':' | b',')
 }
 
