@@ -1,5 +1,5 @@
 // Texts and their parts. Every call answers for any text and any index.
-ghost use Rattle.std.specs.Prelude.{IfSome, length, ◌<◌};
+ghost use Rattle.std.specs.Prelude.{IfSome, length, ◌<◌, ◌≡◌, ◌++◌, ◌∷◌};
 
 use arrayvec::ArrayVec;
 
@@ -41,6 +41,7 @@ pub fn part(case: &[u8], index: usize) -> &[u8] {
 
 // What stands before the first of a byte, and what stands behind it.
 pub fn split_once(s: &[u8], separator: u8) -> Option<(&[u8], &[u8])>
+    ensures parts { IfSome result (λ parts. s.now ≡ parts.0.now ++ separator ∷ parts.1.now) }
     ensures shorter { IfSome result (λ parts. length parts.1.now < length s.now) }
 {
     let at = s.iter().position(|b| *b == separator)?;
