@@ -6,6 +6,7 @@ use std::io::Write;
 use vectors_text::text::Written;
 use vectors_text::words::{ConnectionWords, FlagWord, TableWord};
 use vectors_text::{commands, parse, text};
+use wire::refusal::Refusal;
 
 // The parts of a case: the connection, the table and the bytes.
 const CONNECTION: usize = 2;
@@ -20,19 +21,21 @@ pub fn answer(direction: Direction, case: &[u8], out: &mut Written) -> io::Resul
     let mut room = [0u16; commands::PLACES];
     let table = parse::places(lent, &mut room);
     match received(direction, case, table) {
-        Received::Needs(n) => {
+        Err(refusal) => {
+            write!(out, "refused {}", refusal.number())?;
+            unchanged(lent, table, out)
+        }
+        Ok(Received::Needs(n)) => {
             write!(out, "needs {n}")?;
             unchanged(lent, table, out)
         }
-        Received::Refused(n) => {
-            write!(out, "refused {n}")?;
-            unchanged(lent, table, out)
-        }
-        Received::Accepted {
-            packet,
-            taken,
-            connection,
-        } => {
+        Ok(
+            Received::Accepted {
+                packet,
+                taken,
+                connection,
+            },
+        ) => {
             let connection = ConnectionWords(connection);
             write!(out, "ok {} taken={taken} conn={connection}", kind(packet))?;
             fields(packet, out)?;
@@ -52,7 +55,7 @@ fn unchanged(lent: &[u8], table: &[u16], out: &mut Written) -> io::Result<()> {
 }
 
 // Reads at the end to which a direction leads.
-fn received(direction: Direction, case: &[u8], table: &mut [u16]) -> Received {
+fn received(direction: Direction, case: &[u8], table: &mut [u16]) -> Result<Received, Refusal> {
     let mut room = [0u8; commands::BYTES];
     let bytes = parse::bytes(text::part(case, BYTES), &mut room);
     let connection = parse::connection(text::part(case, CONNECTION));

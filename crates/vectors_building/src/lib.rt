@@ -12,12 +12,13 @@ use vectors_text::commands::BYTES;
 use vectors_text::parse;
 use vectors_text::text::Written;
 use vectors_text::words::BytesWord;
+use wire::refusal::Refusal;
 
 // Writes a refusal. It is to leave all lent bytes as they were, which the case says.
-fn refused(number: u8, lent: &[u8], buffer: &[u8], out: &mut Written) -> io::Result<()> {
+fn refused(refusal: Refusal, lent: &[u8], buffer: &[u8], out: &mut Written) -> io::Result<()> {
     let mut room = [0u8; BYTES];
     let before: &[u8] = parse::bytes(lent, &mut room);
-    write!(out, "refused {number}")?;
+    write!(out, "refused {}", refusal.number())?;
     if before == buffer {
         return Ok(());
     }

@@ -1,7 +1,8 @@
 // The commands that make a piece. Those that add one begin with the record, K,N,N,N,F, and have what they add from word 7 on.
 use crate::{record, refused};
+use building_record::Building;
 use pieces::forward::{Nulls, Numbers};
-use pieces::{Added, attribute, forward, header, send_headers};
+use pieces::{attribute, forward, header, send_headers};
 use std::io;
 use std::io::Write;
 use vectors_text::commands::{BYTES, Piece};
@@ -9,6 +10,7 @@ use vectors_text::parse;
 use vectors_text::string::Strings;
 use vectors_text::text::{ROOM, Written, part, word};
 use vectors_text::words::BytesWord;
+use wire::refusal::Refusal;
 
 // Writes the library's answer to a case.
 pub fn answer(piece: Piece, case: &[u8], out: &mut Written) -> io::Result<()> {
@@ -16,8 +18,8 @@ pub fn answer(piece: Piece, case: &[u8], out: &mut Written) -> io::Result<()> {
     let mut room = [0u8; BYTES];
     let buffer = parse::bytes(lent, &mut room);
     match made(piece, case, buffer) {
-        Added::Refused(n) => refused(n, lent, buffer, out),
-        Added::Next(building) => {
+        Err(refusal) => refused(refusal, lent, buffer, out),
+        Ok(building) => {
             let record = record::Words(building);
             write!(out, "ok rec={record} buf={}", BytesWord(buffer))
         }
@@ -33,7 +35,7 @@ fn buffer_part(piece: Piece) -> usize {
 }
 
 // Makes a piece.
-fn made(piece: Piece, case: &[u8], buffer: &mut [u8]) -> Added {
+fn made(piece: Piece, case: &[u8], buffer: &mut [u8]) -> Result<Building, Refusal> {
     let mut room = [0u8; ROOM];
     let strings = Strings::within(&mut room);
     match piece {
@@ -48,7 +50,7 @@ fn made(piece: Piece, case: &[u8], buffer: &mut [u8]) -> Added {
 }
 
 // Begins a Forward.
-fn forward(case: &[u8], mut strings: Strings<'_>, buffer: &mut [u8]) -> Added {
+fn forward(case: &[u8], mut strings: Strings<'_>, buffer: &mut [u8]) -> Result<Building, Refusal> {
     let numbers = Numbers {
         method: parse::number(case, 2),
         server_port: parse::number(case, 8),
@@ -79,14 +81,22 @@ fn forward(case: &[u8], mut strings: Strings<'_>, buffer: &mut [u8]) -> Added {
 }
 
 // Begins a Send Headers.
-fn send_headers(case: &[u8], mut strings: Strings<'_>, buffer: &mut [u8]) -> Added {
+fn send_headers(
+    case: &[u8],
+    mut strings: Strings<'_>,
+    buffer: &mut [u8],
+) -> Result<Building, Refusal> {
     let status = parse::number(case, 2);
     let message = strings.string(word(case, 3));
     send_headers::begin(buffer, status, message.is_none(), message.unwrap_or(&[]))
 }
 
 // Adds a header: word 8 is its code or its name, 9 its value.
-fn header_by_code(case: &[u8], mut strings: Strings<'_>, buffer: &mut [u8]) -> Added {
+fn header_by_code(
+    case: &[u8],
+    mut strings: Strings<'_>,
+    buffer: &mut [u8],
+) -> Result<Building, Refusal> {
     let building = record::parse(part(case, 1));
     let code = parse::number(case, 8);
     let value = strings.string(word(case, 9));
@@ -99,7 +109,11 @@ fn header_by_code(case: &[u8], mut strings: Strings<'_>, buffer: &mut [u8]) -> A
     )
 }
 
-fn header_by_name(case: &[u8], mut strings: Strings<'_>, buffer: &mut [u8]) -> Added {
+fn header_by_name(
+    case: &[u8],
+    mut strings: Strings<'_>,
+    buffer: &mut [u8],
+) -> Result<Building, Refusal> {
     let building = record::parse(part(case, 1));
     let name = strings.string(word(case, 8));
     let value = strings.string(word(case, 9));
@@ -114,7 +128,11 @@ fn header_by_name(case: &[u8], mut strings: Strings<'_>, buffer: &mut [u8]) -> A
 }
 
 // Adds an attribute: word 7 is its code, 9 its value, or its name before the value.
-fn text_attribute(case: &[u8], mut strings: Strings<'_>, buffer: &mut [u8]) -> Added {
+fn text_attribute(
+    case: &[u8],
+    mut strings: Strings<'_>,
+    buffer: &mut [u8],
+) -> Result<Building, Refusal> {
     let building = record::parse(part(case, 1));
     let code = parse::number(case, 7);
     let value = strings.string(word(case, 9));
@@ -127,7 +145,7 @@ fn text_attribute(case: &[u8], mut strings: Strings<'_>, buffer: &mut [u8]) -> A
     )
 }
 
-fn integer_attribute(case: &[u8], buffer: &mut [u8]) -> Added {
+fn integer_attribute(case: &[u8], buffer: &mut [u8]) -> Result<Building, Refusal> {
     let building = record::parse(part(case, 1));
     attribute::integer(
         building,
@@ -137,7 +155,11 @@ fn integer_attribute(case: &[u8], buffer: &mut [u8]) -> Added {
     )
 }
 
-fn pair_attribute(case: &[u8], mut strings: Strings<'_>, buffer: &mut [u8]) -> Added {
+fn pair_attribute(
+    case: &[u8],
+    mut strings: Strings<'_>,
+    buffer: &mut [u8],
+) -> Result<Building, Refusal> {
     let building = record::parse(part(case, 1));
     let code = parse::number(case, 7);
     let name = strings.string(word(case, 9));

@@ -1,12 +1,12 @@
 // The commands that send a packet: in one call, or by closing one that was built. The first part behind the command is the connection.
 use crate::{record, refused};
-use connection::Sent;
+use connection::Written;
 use std::io;
 use std::io::Write;
 use vectors_text::commands::{BYTES, Sending};
-use vectors_text::text::Written;
 use vectors_text::words::{BytesWord, ConnectionWords};
 use vectors_text::{parse, text};
+use wire::refusal::Refusal;
 
 // The parts of a case: the connection, the record where a packet is closed, else what the packet holds: bytes, a number or a flag.
 const CONNECTION: usize = 1;
@@ -16,13 +16,13 @@ const RECORD: usize = 2;
 const CONTENT: usize = 3;
 
 // Writes the library's answer to a case.
-pub fn answer(packet: Sending, case: &[u8], out: &mut Written) -> io::Result<()> {
+pub fn answer(packet: Sending, case: &[u8], out: &mut text::Written) -> io::Result<()> {
     let lent = text::part(case, buffer_part(packet));
     let mut room = [0u8; BYTES];
     let buffer = parse::bytes(lent, &mut room);
     match sent(packet, case, buffer) {
-        Sent::Refused(n) => refused(n, lent, buffer, out),
-        Sent::Written { size, connection } => {
+        Err(refusal) => refused(refusal, lent, buffer, out),
+        Ok(Written { size, connection }) => {
             let connection = ConnectionWords(connection);
             write!(
                 out,
@@ -42,7 +42,7 @@ fn buffer_part(packet: Sending) -> usize {
 }
 
 // Sends a packet.
-fn sent(packet: Sending, case: &[u8], buffer: &mut [u8]) -> Sent {
+fn sent(packet: Sending, case: &[u8], buffer: &mut [u8]) -> Result<Written, Refusal> {
     let connection = parse::connection(text::part(case, CONNECTION));
     let content = text::part(case, CONTENT);
     let mut room = [0u8; BYTES];
