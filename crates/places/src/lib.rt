@@ -25,10 +25,7 @@ pub fn put_pair(table: &mut [u16], at: usize, first: u16, second: u16)
 pub fn first(list: &[u16], count: usize) -> &[u16]
     ensures { result.now ≡ take count list.now }
 {
-    if list.len() < count {
-        return list;
-    }
-    &list[..count]
+    &list[..count.min(list.len())]
 }
 
 // Copies places into a table, from its start on. That they fit is known.
@@ -36,9 +33,5 @@ pub fn fill(table: &mut [u16], from: &[u16])
     requires { length from.now ≤ length table.old }
     ensures { table.new ≡ over table.old 0 from.now }
 {
-    let mut i = 0;
-    while i < from.len() {
-        table[i] = from[i];
-        i += 1;
-    }
+    table[..from.len()].copy_from_slice(from);
 }
