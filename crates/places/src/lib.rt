@@ -12,7 +12,8 @@ pub const MAX_ATTRIBUTES: usize = 64;
 
 pub const MAX_PLACES: usize = 328;
 
-// Puts two places into a table, from an index on. That they fit is known before the first one of a list is put.
+// Puts two places into a table, from an index on. That they fit is known before the first one of a list is put. `copy_from_slice` of the two was
+// tried and is slower: they then go through memory.
 pub fn put_pair(table: &mut [u16], at: usize, first: u16, second: u16)
     requires { at + 2 ≤ length table.old }
     ensures { table.new ≡ over table.old at (first ∷ second ∷ []) }

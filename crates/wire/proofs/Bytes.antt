@@ -3,15 +3,14 @@
 use mathlib.Core.Path.{◌≡◌, refl, sym, ap, ◌∙◌}
 use mathlib.Core.Bool.{Bool, true, false, not}
 use mathlib.Core.List.{List, [], ◌∷◌, ◌++◌, append_assoc}
-use Prim.Native.Nat.{ℕ, ◌+◌, ◌-◌, ◌≤◌, ◌<◌, min}
-use Rattle.std.proofs.lemmas.List.{take_min, drop_min}
+use Prim.Native.Nat.{ℕ, ◌+◌, ◌-◌, ◌≤◌, ◌<◌}
 use native.Mathlib.Omega.{arith}
 use native.Mathlib.Nat.{add-zero, add_assoc}
 use native.Mathlib.Numerals.{add-one}
 use borrow.Author.Tests.{le-leb, lt-leb, leb-true, leb-false, not-true, not-false}
 use lib.Dec.{leb}
-use lib.ListN.{length, take, drop, set, get_or, length-set, length-append, length-drop, take-append-drop}
-use lib.Seq.{set_split, take_at, take_all, drop_at, drop-cons, drop-drop, drop-append-add, length-take-le, take-suc, take-add}
+use lib.ListN.{length, take, drop, set, get_or, length-set, length-append, length-drop, take-append-drop, drop_of_length-le}
+use lib.Seq.{set_split, take_at, take_all, drop_at, drop-cons, drop-drop, drop-append-add, length-take-le, take-suc, take-add, take-nil}
 use Rattle.wire.specs.Bytes.{part, over}
 
 -- a part that lies within the list has its length
@@ -24,19 +23,21 @@ pub part_to : (s : List ℕ) (start end len : ℕ) → end ≡ start + len → t
 unfolding part
 part_to s start end len e = let k : end - start ≡ len = omega arith in rw k
 
+-- what a slice from a place to the end holds, where the part asks for as much or more
+pub part_rest : (s : List ℕ) (start len : ℕ) → length s - start ≤ len → take (length s - start) (drop start s) ≡ part s start len
+unfolding part
+part_rest s start len h =
+    take_all (length s - start) (drop start s) (simp length-drop (omega arith))
+    ∙ sym (take_all len (drop start s) (simp length-drop (omega arith)))
+
 -- a slice from a place to the same place is empty
 pub part_none : (s : List ℕ) (n : ℕ) → take (n - n) (drop n s) ≡ []
 part_none s n = let e : n - n ≡ 0 = omega arith in rw e
 
--- what a slice from a place or the end on holds, of its first elements as many as are asked for or as there are
-pub part_least : (s : List ℕ) (start len from count : ℕ) → from ≡ min start (length s)
-    → count ≡ min len (length (take (length s - from) (drop from s))) → take count (take (length s - from) (drop from s)) ≡ part s start len
+-- a part that starts past the end is empty
+pub part_past : (s : List ℕ) (start len : ℕ) → length s ≤ start → [] ≡ part s start len
 unfolding part
-part_least s start len from count e f =
-    let rest = take (length s - from) (drop from s) in
-    let all : rest ≡ drop start s =
-    take_all (length s - from) (drop from s) (simp length-drop (omega arith)) ∙ ap (λ (n : ℕ). drop n s) e ∙ drop_min start s in
-    ap (λ (n : ℕ). take n rest) f ∙ take_min len rest ∙ ap (take len) all
+part_past s start len h = simp (drop_of_length-le s h, take-nil)
 
 -- the middle of three
 pub part_middle : (p t r : List ℕ) → part (p ++ (t ++ r)) (length p) (length t) ≡ t

@@ -93,12 +93,19 @@ pub fn has_room(size: usize, at: usize, count: usize) -> bool
     count <= size && at <= size - count
 }
 
-// The bytes from a place on, `len` of them, or as many as there are.
+// The bytes from a place on, `len` of them, or as many as there are. Two `min` were tried and are slower where strings are read.
 pub fn part_of(s: &[u8], start: usize, len: usize) -> &[u8]
     ensures { result.now ≡ part s.now start len }
 {
-    let rest = &s[start.min(s.len())..];
-    &rest[..len.min(rest.len())]
+    let n = s.len();
+    if n < start {
+        return &s[n..];
+    }
+    if n - start < len {
+        return &s[start..];
+    }
+    let end = start + len;
+    &s[start..end]
 }
 
 // Whether a string is null or empty in a field that may be neither.
