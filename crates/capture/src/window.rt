@@ -8,9 +8,5 @@ pub fn keep(window: &mut [u8], from: usize, count: usize)
     requires { from + count ≤ length window.old }
     ensures { window.new ≡ over window.old 0 (part window.old from count) }
 {
-    let mut i = 0;
-    while i < count {
-        window[i] = window[from + i];
-        i += 1;
-    }
+    window.copy_within(from..from + count, 0);
 }

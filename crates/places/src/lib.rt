@@ -12,7 +12,8 @@ pub const MAX_ATTRIBUTES: usize = 64;
 
 pub const MAX_PLACES: usize = 328;
 
-// Puts two places into a table, from an index on. That they fit is known before the first one of a list is put.
+// Puts two places into a table, from an index on. That they fit is known before the first one of a list is put. `copy_from_slice` of the two was
+// tried and is slower: they then go through memory.
 pub fn put_pair(table: &mut [u16], at: usize, first: u16, second: u16)
     requires { at + 2 ≤ length table.old }
     ensures { table.new ≡ over table.old at (first ∷ second ∷ []) }
@@ -25,10 +26,7 @@ pub fn put_pair(table: &mut [u16], at: usize, first: u16, second: u16)
 pub fn first(list: &[u16], count: usize) -> &[u16]
     ensures { result.now ≡ take count list.now }
 {
-    if list.len() < count {
-        return list;
-    }
-    &list[..count]
+    &list[..count.min(list.len())]
 }
 
 // Copies places into a table, from its start on. That they fit is known.
@@ -36,9 +34,5 @@ pub fn fill(table: &mut [u16], from: &[u16])
     requires { length from.now ≤ length table.old }
     ensures { table.new ≡ over table.old 0 from.now }
 {
-    let mut i = 0;
-    while i < from.len() {
-        table[i] = from[i];
-        i += 1;
-    }
+    table[..from.len()].copy_from_slice(from);
 }

@@ -10,7 +10,7 @@ use native.Mathlib.Numerals.{add-one}
 use borrow.Author.Tests.{le-leb, lt-leb, leb-true, leb-false, not-true, not-false}
 use lib.Dec.{leb}
 use lib.ListN.{length, take, drop, set, get_or, length-set, length-append, length-drop, take-append-drop, drop_of_length-le}
-use lib.Seq.{set_split, take_at, take_all, drop_at, drop-cons, drop-drop, drop-append-add, length-take-le, take-suc, take-suc-set, take-add, take-nil, get_or-take}
+use lib.Seq.{set_split, take_at, take_all, drop_at, drop-cons, drop-drop, drop-append-add, length-take-le, take-suc, take-add, take-nil}
 use Rattle.wire.specs.Bytes.{part, over}
 
 -- a part that lies within the list has its length
@@ -120,14 +120,6 @@ over_more l at s j h k =
     over_set (over l at (take j s)) (at + j) (get_or s j 0) m
     ∙ over_over l at (at + j) (take j s) (get_or s j 0 ∷ []) (omega arith) f
     ∙ ap (over l at) (rw (add-one, take-suc s j 0 h))
-
--- a list whose first j elements are another's, and the store that makes it one more
-pub front_more : (l s : List ℕ) (j : ℕ) → j < length l → j < length s → take j l ≡ take j s → take (j + 1) (set l j (get_or s j 0)) ≡ take (j + 1) s
-front_more l s j h k e = rw (add-one, take-suc-set l j (get_or s j 0) h, take-suc s j 0 k, e)
-
--- an element of a list that stands at another's front
-pub front_element : (l s : List ℕ) (j : ℕ) → j < length s → take (length s) l ≡ s → get_or l j 0 ≡ get_or s j 0
-front_element l s j h e = sym (get_or-take (length s) l j 0 h) ∙ ap (λ (t : List ℕ). get_or t j 0) e
 
 -- two stores side by side
 pub over_two : (l : List ℕ) (i a b : ℕ) → i + 2 ≤ length l → set (set l i a) (i + 1) b ≡ over l i (a ∷ b ∷ [])

@@ -2,9 +2,9 @@
 -- Assumes nothing.
 use native.Mathlib.Omega.{arith}
 use mathlib.Core.Path.{◌≡◌, refl, sym, ap, ◌∙◌}
-use mathlib.Core.List.{List}
+use mathlib.Core.List.{List, ◌++◌}
 use Prim.Native.Nat.{ℕ, ◌+◌, ◌≤◌, ◌<◌}
-use lib.ListN.{length, take, set, get_or, length-set}
+use lib.ListN.{length, take, set, get_or, length-set, get_or-append}
 use lib.Seq.{take-length}
 use Rattle.wire.specs.Bytes.{over}
 use Rattle.wire.proofs.Bytes.{over_none, over_more}
@@ -27,6 +27,11 @@ module _ (entry : List ℕ) (at : ℕ) (from : List ℕ) where
         length-set list place (get_or from i 0) ∙ c.1.1,
       ),
     )
+
+    -- one element more, from another list that has them at its front
+    pub copying_front : (front behind : List ℕ) → front ≡ from → i < length from → at + length from ≤ length entry
+        → Copying entry at from (set list (at + i) (get_or (front ++ behind) i 0)) (i + 1)
+    copying_front front behind e h fits = rw (e, get_or-append from behind 0 i h) (copying_turn (at + i) refl h fits)
 
     -- all of them
     pub copying_end : length from ≤ i → list ≡ over entry at from

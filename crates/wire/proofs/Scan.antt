@@ -1,6 +1,6 @@
--- A loop that goes over a whole list with a flag for its answer so far. What it keeps true: the flag and the test of the elements
--- still to come, put together, are the test of all elements. A law for a turn and one for the end, for `any` and for `all`. And `any` place by
--- place: no element passes a test exactly where none at any place does.
+-- A loop that goes over a whole list with a flag for its answer so far, and a fold that does. What the loop keeps true: the flag and the test of
+-- the elements still to come, put together, are the test of all elements: a law for a turn and one for the end. And `any` place by place: no
+-- element passes a test exactly where none at any place does.
 -- Assumes nothing.
 use mathlib.Core.Path.{◌≡◌, refl, sym, ◌∙◌}
 use mathlib.Core.Bool.{Bool, false}
@@ -10,17 +10,12 @@ use native.Mathlib.Numerals.{add-one}
 use native.Mathlib.Omega.{arith}
 use lib.ListN.{length, get_or, drop}
 use lib.Seq.{drop-cons, drop-length}
+use Rattle.std.specs.List.{fold}
 use Rattle.wire.specs.Pick.{both, either, all, any}
 use Rattle.wire.proofs.Tests.{either_assoc, either_false, both_assoc, both_true, neither_first, neither_second}
 
 module _ (p : ℕ → Bool) (s : List ℕ) (flag : Bool) (i : ℕ) where
   -- one element more is passed: t is its test
-  pub any_step : (t : Bool) → i < length s → t ≡ p (get_or s i 0) → either flag (any p (drop i s)) ≡ any p s
-      → either (either flag t) (any p (drop (i + 1) s)) ≡ any p s
-  unfolding any
-  any_step t h e so_far =
-      rw (either_assoc flag t (any p (drop (i + 1) s)), e, add-one i) (rw (drop-cons s i 0 h) at so_far)
-
   pub all_step : (t : Bool) → i < length s → t ≡ p (get_or s i 0) → both flag (all p (drop i s)) ≡ all p s
       → both (both flag t) (all p (drop (i + 1) s)) ≡ all p s
   unfolding all
@@ -28,17 +23,17 @@ module _ (p : ℕ → Bool) (s : List ℕ) (flag : Bool) (i : ℕ) where
       rw (both_assoc flag t (all p (drop (i + 1) s)), e, add-one i) (rw (drop-cons s i 0 h) at so_far)
 
   -- all are passed
-  pub any_end : i ≤ length s → length s ≤ i → either flag (any p (drop i s)) ≡ any p s → flag ≡ any p s
-  unfolding any
-  any_end h k so_far =
-      let e : i ≡ length s = omega arith in
-      sym (either_false flag) ∙ (rw (e, drop-length s) at so_far)
-
   pub all_end : i ≤ length s → length s ≤ i → both flag (all p (drop i s)) ≡ all p s → flag ≡ all p s
   unfolding all
   all_end h k so_far =
       let e : i ≡ length s = omega arith in
       sym (both_true flag) ∙ (rw (e, drop-length s) at so_far)
+
+-- a fold with a flag that is set where an element passes
+pub any_fold : (p : ℕ → Bool) (flag : Bool) (s : List ℕ) → fold (λ found x. either found (p x)) flag s ≡ either flag (any p s)
+unfolding any
+any_fold p flag [] = sym (either_false flag)
+any_fold p flag (x ∷ s) = any_fold p (either flag (p x)) s ∙ either_assoc flag (p x) (any p s)
 
 -- place by place
 module _ (p : ℕ → Bool) where

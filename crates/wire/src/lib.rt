@@ -77,31 +77,23 @@ pub fn leading_bytes(direction: Direction) -> [u8; 2]
 pub fn is_optional(field: StringField) -> bool
     ensures { result ≡ is_optional field }
 {
-    match field {
-        StringField::Protocol => false,
-        StringField::ReqUri => false,
-        StringField::RemoteAddr => true,
-        StringField::RemoteHost => true,
-        StringField::ServerName => true,
-        StringField::HeaderName => false,
-        StringField::HeaderValue => true,
-        StringField::AttributeName => false,
-        StringField::AttributeValue => true,
-        StringField::Message => true,
-    }
+    !matches!(
+        field,
+        StringField::Protocol
+            | StringField::ReqUri
+            | StringField::HeaderName
+            | StringField::AttributeName
+    )
 }
 
 // Whether `count` bytes from a place on lie within `size` bytes.
 pub fn has_room(size: usize, at: usize, count: usize) -> bool
     ensures { result ≡ leb (at + count) size }
 {
-    if size < count {
-        return false;
-    }
-    at <= size - count
+    count <= size && at <= size - count
 }
 
-// The bytes from a place on, `len` of them, or as many as there are.
+// The bytes from a place on, `len` of them, or as many as there are. Two `min` were tried and are slower where strings are read.
 pub fn part_of(s: &[u8], start: usize, len: usize) -> &[u8]
     ensures { result.now ≡ part s.now start len }
 {
@@ -120,14 +112,14 @@ pub fn part_of(s: &[u8], start: usize, len: usize) -> &[u8]
 fn lacks(optional: bool, null: bool, len: usize) -> bool
     ensures { result ≡ lacks optional null len }
 {
-    !optional & (null | (len == 0))
+    !optional && (null || len == 0)
 }
 
 // Whether a byte is barred from strings: a zero, or what ends a line.
 fn is_barred(b: u8) -> bool
     ensures { result ≡ barred b }
 {
-    (b == 0) | ((b == LINE_FEED) | (b == CARRIAGE_RETURN))
+    matches!(b, 0 | LINE_FEED | CARRIAGE_RETURN)
 }
 
 // Whether a byte is below the number above all barred ones. Every barred byte is, and of the others hardly one stands in a string.
@@ -137,19 +129,15 @@ fn is_low(b: u8) -> bool
     b < ABOVE_BARRED
 }
 
-// Whether `count` bytes from a place on hold a low one. There is no early way out: for a constant count the loop becomes one comparison of a
-// vector, or two.
+// Whether `count` bytes from a place on hold a low one. There is no early way out: for a constant count the fold becomes one comparison of a
+// vector, or two, and `any`, which was tried, goes byte by byte.
 fn part_holds_low(text: &[u8], at: usize, count: usize) -> bool
     requires { at + count ≤ length text.now }
     ensures { result ≡ holds_low (part text.now at count) }
 {
-    let mut found = false;
-    let mut i = 0;
-    while i < count {
-        found = found | is_low(text[at + i]);
-        i += 1;
-    }
-    found
+    text[at..at + count]
+        .iter()
+        .fold(false, |found, &b| found | is_low(b))
 }
 
 // `holds_low` for a text of one to two blocks of `count` bytes: the first and the last block, which may overlap.
@@ -170,12 +158,10 @@ fn blocks_hold_low(text: &[u8], count: usize) -> bool
     ensures { result ≡ holds_low text.now }
 {
     let last = text.len() - count;
-    let mut i = 0;
-    while i < last {
-        if part_holds_low(text, i, count) {
+    for at in (0..last).step_by(count) {
+        if part_holds_low(text, at, count) {
             return true;
         }
-        i += count;
     }
     part_holds_low(text, last, count)
 }
@@ -200,38 +186,23 @@ fn holds_low(text: &[u8]) -> bool
     part_holds_low(text, 0, n)
 }
 
-// `holds_barred` for a text that may hold a barred byte: each byte is held against all of them.
+// `holds_barred` for a text that may hold a barred byte: each byte is held against all of them, with no early way out, as above.
 fn finds_barred(text: &[u8]) -> bool
     ensures { result ≡ holds_barred text.now }
 {
-    let mut found = false;
-    let mut i = 0;
-    while i < text.len() {
-        found = found | is_barred(text[i]);
-        i += 1;
-    }
-    found
+    text.iter().fold(false, |found, &b| found | is_barred(b))
 }
 
 // Whether a text holds a byte that no string may hold. Only a text with a low byte is looked through for one.
 pub fn holds_barred(text: &[u8]) -> bool
     ensures { result ≡ holds_barred text.now }
 {
-    if holds_low(text) {
-        return finds_barred(text);
-    }
-    false
+    holds_low(text) && finds_barred(text)
 }
 
 // Whether a string may stand in a field, judged for building as reading judges it.
 pub fn allows_string(optional: bool, null: bool, text: &[u8]) -> bool
     ensures { result ≡ string_allowed optional null text.now }
 {
-    if lacks(optional, null, text.len()) {
-        return false;
-    }
-    if null {
-        return true;
-    }
-    !holds_barred(text)
+    !lacks(optional, null, text.len()) && (null || !holds_barred(text))
 }

@@ -7,8 +7,8 @@ ghost use Rattle.wire.specs.Packet.{packet_head, Fits};
 use crate::{MAX_PACKET, NULL_LENGTH, leading_bytes};
 use packet::Direction;
 
-// Bytes as they are. They go through a local array, since the compiler does not know that the two slices never overlap and copies straight
-// from one to the other byte by byte. The two loops here, in one function, become one memmove, and the array takes no room.
+// Bytes as they are. They go through a local array, since the compiler does not know that the two slices never overlap: a copy straight from
+// one to the other asks that first, and was tried and is slower. These two copies become one memmove, and the array takes no room.
 pub fn bytes(buffer: &mut [u8], at: usize, from: &[u8]) -> usize
     requires { Fits at from.now buffer.old }
     ensures value { result ≡ at + length from.now }
@@ -16,15 +16,9 @@ pub fn bytes(buffer: &mut [u8], at: usize, from: &[u8]) -> usize
 {
     let n = from.len();
     let mut copy = [0u8; MAX_PACKET];
-    let mut i = 0;
-    while i < n {
-        copy[i] = from[i];
-        i += 1;
-    }
-    let mut j = 0;
-    while j < n {
-        buffer[at + j] = copy[j];
-        j += 1;
+    copy[..n].copy_from_slice(from);
+    for i in 0..n {
+        buffer[at + i] = copy[i];
     }
     at + n
 }
@@ -45,8 +39,9 @@ pub fn integer(buffer: &mut [u8], at: usize, value: u16) -> usize
     ensures value { result ≡ at + 2 }
     ensures buffer_after { buffer.new ≡ over buffer.old at (integer_bytes value) }
 {
-    buffer[at] = (value / 256 % 256) as u8;
-    buffer[at + 1] = (value % 256) as u8;
+    let [high, low] = value.to_be_bytes();
+    buffer[at] = high;
+    buffer[at + 1] = low;
     at + 2
 }
 
@@ -56,10 +51,7 @@ pub fn boolean(buffer: &mut [u8], at: usize, value: bool) -> usize
     ensures value { result ≡ at + 1 }
     ensures buffer_after { buffer.new ≡ over buffer.old at (boolean_bytes value) }
 {
-    if value {
-        return byte(buffer, at, 1);
-    }
-    byte(buffer, at, 0)
+    byte(buffer, at, value as u8)
 }
 
 // How many bytes a string's field takes.

@@ -53,14 +53,12 @@ pub fn number_fault(word: u32) -> u32
     unless(word <= LAST_NUMBER, status::ARGUMENT)
 }
 
-// Copies words into a lent array of as many.
+// Copies words into a lent array of as many. `copy_from_slice` was tried and is slower: the words of a local array then go through memory.
 pub fn fill(words: &mut [u32], from: &[u32])
     requires { length words.old ≡ length from.now }
     ensures { words.new ≡ from.now }
 {
-    let mut i = 0;
-    while i < from.len() {
-        words[i] = from[i];
-        i += 1;
+    for (i, &word) in from.iter().enumerate() {
+        words[i] = word;
     }
 }

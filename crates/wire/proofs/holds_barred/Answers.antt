@@ -4,5 +4,5 @@ use mathlib.Core.Path.{sym, ◌∙◌}
 use Rattle.wire.proofs.Clear.{none_barred}
 use Rattle.wire.proofs.holds_barred.Goals as goal
 
-pub returns : goal.returns
-returns c = sym (none_barred _ (sym c.holds_low.ensures ∙ c.if-holds_low.false))
+pub returns-else-holds_low : goal.returns-else-holds_low
+returns-else-holds_low c = c.if-holds_low.false ∙ sym (none_barred _ (sym c.holds_low.ensures ∙ c.if-holds_low.false))
