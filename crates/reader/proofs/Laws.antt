@@ -15,7 +15,7 @@ use Rattle.wire.specs.Bytes.{part, over}
 use Rattle.wire.proofs.Bytes.{over_none}
 use Rattle.packet.specs.declared.Direction.{Direction}
 use Rattle.places.specs.Entries.{ended}
-use Rattle.connection.specs.Cycle.{in_state, sized_step, step_of}
+use Rattle.connection.specs.Cycle.{in_state, sized_step}
 use Rattle.connection.specs.declared.Kind.{Kind}
 use Rattle.connection.specs.declared.Connection.{Connection}
 use Rattle.connection.specs.Step.{Step}
@@ -24,7 +24,6 @@ use Rattle.payload.specs.Code.{kind_at}
 use Rattle.payload.specs.Kinds.{packet_at, packet_move}
 use Rattle.payload.specs.declared.Context.{Context}
 use Rattle.payload.specs.Read.{KindRead, PacketRead}
-use Rattle.packet.specs.declared.Packet.{Packet}
 use Rattle.payload.proofs.Parsed.{parsed_kind, move_kind_lem}
 use Rattle.reader.specs.Frame.{FrameRead, frame_at}
 use Rattle.reader.specs.Meaning.{Meaning, needs, refused, accepted, places_needed}
@@ -32,13 +31,7 @@ use Rattle.reader.specs.Reading.{parse_whole, parse, context_of, stepped, accept
 use Rattle.reader.specs.Private.{needed, table_given, sizing, allowed_reading, allowed_table, whole_of, table_whole}
 use Rattle.reader.proofs.Below.{PlacesFit, places_fit}
 
--- a packet that was read, by the step
-pub accepting_is : (c : Connection) (taken : ℕ) (packet : Packet) (step : Step) → step_of c (packet_move packet) ≡ step
-    → stepped packet taken step ≡ accepting c taken (PacketRead.Packet packet)
-unfolding accepting
-accepting_is c taken packet step e = ap (stepped packet taken) (sym e)
-
--- by its size alone, which is all where its kind is allowed now
+-- a packet of a kind that is allowed now is stepped by its size alone
 pub sizing_now : (context : Context) (c : Connection) (kind : Kind) (s : List ℕ) (taken : ℕ) → in_state c kind ≡ true
     → sizing c taken (packet_at context kind s).end ≡ accepting c taken (packet_at context kind s).end
 unfolding sizing accepting

@@ -187,8 +187,10 @@ fn accept(connection: Connection, taken: usize, packet: Packet) -> Result<Receiv
     })
 }
 
-// The same, and fills the table from a list of places where it is long enough for those that the packet needs.
+// The same, and fills the table from a list of places where it is long enough for those that the packet needs. It is put into both of its
+// callers, so that the packet stays in registers.
 #[tactic(auto, unfolding(crate::specs::Private::sizing, crate::specs::Private::table_given))]
+#[inline(always)]
 fn accept_with_places(
     connection: Connection,
     taken: usize,

@@ -1,12 +1,17 @@
 -- The short ways: what is known of a packet that goes one, and that it is answered as reading any packet answers it.
 -- Assumes nothing.
-use mathlib.Core.Path.{◌≡◌, refl, sym, ap, subst, ◌∙◌}
+use mathlib.Core.Path.{◌≡◌, refl, sym, ap, ◌∙◌}
 use mathlib.Core.Bool.{Bool, true, false, false≢true}
 use mathlib.Core.List.{List, [], ◌∷◌}
 use Prim.Native.Nat.{ℕ}
 use native.Mathlib.Omega.{arith}
-use borrow.Author.Tests.{ne_eqb, eqb-false}
+use borrow.Author.Tests.{ne_eqb, eqb-true, eqb-false}
 use lib.Dec.{eqb}
+use Rattle.std.specs.Prelude.{Option, Some, None, Result}
+use Rattle.wire.specs.declared.refusal.Refusal.{Refusal}
+use Rattle.short_ways.specs.declared.ReadPart.{ReadPart}
+use Rattle.std.proofs.lemmas.Option.{none-some, same_Some}
+use Rattle.reader.proofs.Framing.{frame_inside}
 use lib.ListN.{length}
 use Rattle.wire.specs.Pick.{pick}
 use Rattle.wire.specs.Bytes.{part, integer_in}
@@ -15,40 +20,23 @@ use Rattle.packet.specs.declared.Direction.{Direction}
 use Rattle.wire.specs.Read.{NumberRead}
 use Rattle.places.specs.Entries.{Entries, ended}
 use Rattle.connection.specs.Connection.{body_due}
-use Rattle.connection.specs.Cycle.{in_state, step_of}
+use Rattle.connection.specs.Cycle.{in_state}
 use Rattle.connection.specs.declared.Kind.{Kind}
 use Rattle.connection.specs.declared.Connection.{Connection}
-use Rattle.connection.specs.Step.{Step}
 use Rattle.payload.specs.Code.{code_kind, kind_of_code, kind_at}
-use Rattle.payload.specs.Kinds.{packet_at, packet_kind, packet_move}
-use Rattle.payload.specs.declared.Context.{Context}
+use Rattle.payload.specs.Kinds.{packet_at, packet_kind}
 use Rattle.payload.specs.Read.{KindRead, PacketRead}
-use Rattle.packet.specs.declared.Part.{Part}
 use Rattle.packet.specs.declared.Packet.{Packet}
 use Rattle.payload.proofs.Laws.{kind_is}
 use Rattle.payload.proofs.Parsed.{parsed_kind}
 use Rattle.reader.specs.Frame.{FrameRead, leading_differs, length_at, frame_at}
-use Rattle.short_ways.specs.declared.PartRead.{PartRead}
-use Rattle.reader.specs.Meaning.{Meaning}
-use Rattle.reader.specs.Reading.{context_of, stepped, accepting, reading, table_after}
+use Rattle.reader.specs.Meaning.{Meaning, refused}
+use Rattle.reader.specs.Reading.{context_of, reading, table_after}
 use Rattle.short_ways.specs.Short.{whole_size, is_chunk, body_size, chunk_size, short_size, other, answered, part_meaning, short_reading}
-use Rattle.short_ways.specs.Private.{part_in, stepped_part}
+use Rattle.short_ways.specs.Private.{part_in, with_part, some_size}
 use Rattle.reader.specs.Private.{sizing}
-use Rattle.reader.proofs.Laws.{accepting_is, sizing_now, plain_is, whole_kind, read_whole}
+use Rattle.reader.proofs.Laws.{plain_is, whole_kind, read_whole}
 use Rattle.wire.specs.Packet.{code_place}
-
--- the size of a body packet, by whether one is due
-pub body_size_by : (c : Connection) (s : List ℕ) (due : Bool) → body_due c ≡ due
-    → body_size c s ≡ pick due (whole_size (frame_at Direction.ToContainer s)) 0
-unfolding body_size
-body_size_by c s due e = rw e
-
--- the size of a chunk, by whether it is allowed and whether the packet's code is a chunk's
-pub chunk_size_by : (c : Connection) (s : List ℕ) (n : ℕ) (allowed chunk : Bool) → in_state c Kind.BodyChunk ≡ allowed
-    → n ≡ whole_size (frame_at Direction.ToServer s) → is_chunk (byte_at (part s 0 n) code_place) ≡ chunk
-    → chunk_size c s ≡ pick allowed (pick chunk n 0) 0
-unfolding chunk_size
-chunk_size_by c s n allowed chunk p q e = rw (p, ← q, e)
 
 -- a packet that goes a short way: so many bytes are a whole packet of a kind that is allowed
 pub record Short (d : Direction) (c : Connection) (s : List ℕ) (kind : Kind) (n : ℕ) : Type 0 where
@@ -106,29 +94,15 @@ short_chunk c s n e h = go (in_state c Kind.BodyChunk) (is_chunk (byte_at (part 
 
 -- a packet without headers that goes a short way: it was stepped by, and the table is as it was
 pub short_is : (d : Direction) (c : Connection) (s table : List ℕ) (kind : Kind) (n : ℕ) (packet : List ℕ) (end : PacketRead) (r : Meaning)
-    → Short d c s kind n → packet ≡ part s 0 n → packet_at (context_of d c) kind packet ≡ ended end → r ≡ accepting c (length packet) end
+    → Short d c s kind n → packet ≡ part s 0 n → packet_at (context_of d c) kind packet ≡ ended end → r ≡ sizing c (length packet) end
     → (r ≡ reading d c s (length table)) × (table ≡ table_after d c s table)
 short_is d c s table kind n packet end r short p q e =
-    let same : sizing c (length packet) end ≡ accepting c (length packet) end =
-    subst (λ (x : Entries PacketRead). sizing c (length packet) x.end ≡ accepting c (length packet) x.end) q
-    (sizing_now (context_of d c) c kind packet (length packet) short.allowed) in
     read_whole d c s table n packet r table short.whole p
     (whole_kind d c packet table (context_of d c) refl kind r table (ap (kind_at (context_of d c)) p ∙ short.kind_read) short.allowed
-    (plain_is (context_of d c) c kind kind packet table end end r refl q refl (e ∙ sym same)))
-
--- a packet of a kind with a part: a body packet and a chunk are no more than theirs
-abbrev pub with_part : Kind → Packet → Part → Packet
-with_part Kind.CPing packet part = packet
-with_part Kind.CPong packet part = packet
-with_part Kind.Forward packet part = packet
-with_part Kind.Body packet part = Packet.Body part
-with_part Kind.GetBody packet part = packet
-with_part Kind.SendHeaders packet part = packet
-with_part Kind.BodyChunk packet part = Packet.BodyChunk part
-with_part Kind.End packet part = packet
+    (plain_is (context_of d c) c kind kind packet table end end r refl q refl e))
 
 -- every packet is the one of its own kind with its own part
-own : (packet : Packet) → packet ≡ with_part (packet_kind packet) packet (part_in packet)
+pub own : (packet : Packet) → with_part (packet_kind packet) packet (part_in packet) ≡ packet
 own Packet.CPing = refl
 own Packet.CPong = refl
 own (Packet.Forward forward) = refl
@@ -138,26 +112,27 @@ own (Packet.SendHeaders response) = refl
 own (Packet.BodyChunk part) = refl
 own (Packet.End reuse) = refl
 
--- a part that was stepped by means the packet that was stepped by
-part_step : (of : Part → Packet) (part : Part) (taken : ℕ) (step : Step) (m : Meaning) → stepped (of part) taken step ≡ m
-    → part_meaning of (stepped_part part taken step) ≡ answered m
-part_step of part taken (Step.Refused n) m e = ap answered e
-part_step of part taken (Step.Next after) m e = ap answered e
+-- a size as the code tells it: none, or one that is not 0
+pub size_none : (n : ℕ) → None ≡ some_size n → n ≡ 0
+size_none n = go (eqb n 0) refl
+  where
+    go : (none : Bool) → eqb n 0 ≡ none → None ≡ pick none None (Some n) → n ≡ 0
+    go true q e = eqb-true n 0 q
+    go false q e = absurd (none-some n e)
 
--- a packet that was read as of a kind with a part, and stepped by the move of the packet with that part
-pub part_stepped : (context : Context) (kind : Kind) (of : Part → Packet) (c : Connection) (s : List ℕ) (taken : ℕ) (packet : Packet) (part : Part) (step : Step)
-    (r : PartRead) → with_part kind packet part ≡ of part → (packet_at context kind s).end ≡ PacketRead.Packet packet → part ≡ part_in packet
-    → step ≡ step_of c (packet_move (of part)) → r ≡ stepped_part part taken step
-    → part_meaning of r ≡ answered (accepting c taken (packet_at context kind s).end)
-part_stepped context kind of c s taken packet part step r with_part_lem e q f is =
-    let same : packet ≡ of part =
-    own packet
-    ∙ ap (λ (k : Kind). with_part k packet (part_in packet)) (parsed_kind context kind s packet e)
-    ∙ ap (with_part kind packet) (sym q)
-    ∙ with_part_lem in
-    ap (part_meaning of) is
-    ∙ part_step of part taken step _
-    (accepting_is c taken (of part) step (sym f) ∙ ap (accepting c taken) (ap PacketRead.Packet (sym same) ∙ sym e))
+pub size_some : (n k : ℕ) → Some k ≡ some_size n → (k ≡ n) × (k ≡ 0 → ⊥)
+size_some n k = go (eqb n 0) refl
+  where
+    go : (none : Bool) → eqb n 0 ≡ none → Some k ≡ pick none None (Some n) → (k ≡ n) × (k ≡ 0 → ⊥)
+    go true q e = absurd (none-some k (sym e))
+    go false q e = let same = same_Some k n e in (same, λ z. eqb-false n 0 q (sym same ∙ z))
+
+-- a whole packet's size
+pub whole_some : (d : Direction) (s : List ℕ) (n : ℕ) → frame_at d s ≡ FrameRead.Whole n → Some n ≡ some_size (whole_size (frame_at d s))
+whole_some d s n e =
+    let inside = frame_inside d s (FrameRead.Whole n) e in
+    let some : n ≡ 0 → ⊥ = λ z. absurd (omega (arith, inside.0, z)) in
+    rw (e, ne_eqb n 0 some)
 
 -- a packet that goes no short way is another one
 pub short_other : (d : Direction) (c : Connection) (s : List ℕ) (n : ℕ) → n ≡ short_size d c s → n ≡ 0 → other ≡ short_reading d c s
@@ -165,12 +140,26 @@ unfolding short_reading
 short_other d c s n e z = rw (← e, z)
 
 -- a packet without headers that goes a short way is answered by what its fields and its step come to
-pub short_answers : (d : Direction) (c : Connection) (s : List ℕ) (kind : Kind) (n : ℕ) (packet : List ℕ) (end : PacketRead)
-    → n ≡ short_size d c s → (n ≡ 0 → ⊥) → Short d c s kind n → packet ≡ part s 0 n → packet_at (context_of d c) kind packet ≡ ended end
-    → answered (accepting c (length packet) end) ≡ short_reading d c s
-unfolding short_reading
-short_answers d c s kind n packet end e h short p q =
-    rw (← e, ne_eqb n 0 h) (ap answered (short_is d c s [] kind n packet end _ short p q refl).0)
+module _ (d : Direction) (c : Connection) (s : List ℕ) (kind : Kind) (n : ℕ) (packet : List ℕ) (end : PacketRead)
+    (size : n ≡ short_size d c s) (some : n ≡ 0 → ⊥) (short : Short d c s kind n) (is : packet ≡ part s 0 n)
+    (reads : packet_at (context_of d c) kind packet ≡ ended end) where
+  short_answers : (found : PacketRead) → found ≡ end → answered (sizing c (length packet) found) ≡ short_reading d c s
+  unfolding short_reading
+  short_answers found e = rw (← size, ne_eqb n 0 some) (ap answered (short_is d c s [] kind n packet found _ short is (rw e reads) refl).0)
+
+  -- its fields are refused
+  pub short_refused : (k : ℕ) → PacketRead.Refused k ≡ end → answered (refused k) ≡ short_reading d c s
+  unfolding sizing
+  short_refused k e = short_answers (PacketRead.Refused k) e
+
+  -- it was stepped by
+  pub short_stepped : (found : Packet) (r : Result (Option ReadPart) Refusal) → PacketRead.Packet found ≡ end
+      → part_meaning (with_part (packet_kind found) found) r ≡ answered (sizing c (length packet) (PacketRead.Packet found))
+      → part_meaning (with_part kind found) r ≡ short_reading d c s
+  short_stepped found r e m =
+      ap (λ (k : Kind). part_meaning (with_part k found) r)
+      (sym (parsed_kind (context_of d c) kind packet found (ap (λ (x : Entries PacketRead). x.end) reads ∙ sym e)))
+      ∙ m ∙ short_answers (PacketRead.Packet found) e
 
 -- what a short way answers, by its size
 answer_by : (d : Direction) (c : Connection) (s : List ℕ) (m : Meaning) → answered m ≡ short_reading d c s

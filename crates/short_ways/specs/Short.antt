@@ -1,7 +1,9 @@
 -- The short ways: a body packet and a Send Body Chunk, read apart from every other packet, are answered as reading says.
 -- Assumes nothing.
-use Rattle.std.specs.Prelude.{Bool, false, List, ℕ, eqb}
+use Rattle.std.specs.Prelude.{Bool, false, List, ℕ, eqb, Result, Ok, Err, Option, Some, None}
 use Rattle.wire.specs.Pick.{pick}
+use Rattle.wire.specs.Refusal.{number_of}
+use Rattle.wire.specs.declared.refusal.Refusal.{Refusal}
 use Rattle.wire.specs.Bytes.{part}
 use Rattle.wire.specs.Field.{byte_at}
 use Rattle.packet.specs.declared.Direction.{Direction}
@@ -13,7 +15,7 @@ use Rattle.connection.specs.declared.Kind.{Kind}
 use Rattle.connection.specs.declared.Connection.{Connection}
 use Rattle.payload.specs.Code.{code_of}
 use Rattle.reader.specs.Frame.{FrameRead, frame_at}
-use Rattle.short_ways.specs.declared.PartRead.{PartRead}
+use Rattle.short_ways.specs.declared.ReadPart.{ReadPart}
 use Rattle.reader.specs.Meaning.{Meaning, refused, accepted}
 use Rattle.reader.specs.Reading.{reading}
 use Rattle.wire.specs.Packet.{code_place}
@@ -51,11 +53,15 @@ pub data PartMeaning : Type 0 where
   other : PartMeaning
   answered : Meaning → PartMeaning
 
--- what each case of the answer says; `of` makes the packet from the part that is handed out
-abbrev pub part_meaning : (Part → Packet) → PartRead → PartMeaning
-part_meaning of PartRead.Other = other
-part_meaning of (PartRead.Refused n) = answered (refused n)
-part_meaning of (PartRead.Part part taken after) = answered (accepted (of part) taken after)
+-- what is told of a packet that was read, None of another one; `of` makes the packet from the part that is handed out
+abbrev pub found_meaning : (Part → Packet) → Option ReadPart → PartMeaning
+found_meaning of None = other
+found_meaning of (Some found) = answered (accepted (of found.part) found.taken found.connection)
+
+-- what each case of the answer says
+abbrev pub part_meaning : (Part → Packet) → Result (Option ReadPart) Refusal → PartMeaning
+part_meaning of (Err refusal) = answered (refused (number_of refusal))
+part_meaning of (Ok found) = found_meaning of found
 
 -- the answer of a short way, at the end to which packets of this direction go: another packet where it goes none, else what reading
 -- answers with a table of no places, which is what it answers with any table

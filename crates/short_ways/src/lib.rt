@@ -2,93 +2,96 @@
 // They answer what `read` answers. Each has one caller, in which the compiler keeps all of it in registers; `read` is too large for that.
 #![tactic(auto)]
 
-ghost use Rattle.std.specs.Prelude.{◌≡◌, length};
+ghost use Rattle.std.specs.Prelude.{◌≡◌};
 ghost use Rattle.wire.specs.Field.{byte_at};
 ghost use Rattle.packet.specs.declared.Direction.{Direction};
 ghost use Rattle.packet.specs.declared.Packet.{Packet};
-ghost use Rattle.payload.specs.Body.{body_at};
-ghost use Rattle.payload.specs.BodyChunk.{chunk_at};
+ghost use Rattle.payload.specs.Kinds.{packet_kind};
+ghost use Rattle.payload.specs.Read.{PacketRead};
 ghost use Rattle.reader.specs.Frame.{frame_at};
-ghost use Rattle.reader.specs.Reading.{accepting};
-ghost use Rattle.short_ways.specs.Private.{no_part, part_in, stepped_part};
+ghost use Rattle.reader.specs.Private.{sizing};
+ghost use Rattle.short_ways.specs.Private.{no_part, part_in, some_size, with_part};
 ghost use Rattle.short_ways.specs.Short.{whole_size, is_chunk, body_size, chunk_size, answered, part_meaning, short_reading};
 ghost use Rattle.wire.specs.Packet.{code_place};
 
-use connection::{Connection, Kind, Step};
+use connection::{Connection, Kind};
 use packet::{Direction, Packet, Part, Place};
 use payload::BODY_CHUNK;
-use payload::found::PacketRead;
-use reader::frame::{FrameRead, frame};
-use wire::read::{NumberRead, byte};
+use payload::movement::move_of;
+use reader::frame::{Extent, frame};
+use wire::read::byte;
+use wire::refusal::Refusal;
 use wire::{CODE_PLACE, part_of};
 
-// What a short way answers: that the packet is another one, which `read` reads; the refusal's number; or the packet's part, how many bytes
-// were taken, and the connection after it.
+// What a short way answers of a packet that goes it and is not refused: the packet's part, how many bytes were taken, and the connection
+// after it.
 #[derive(Clone, Copy)]
-pub enum PartRead {
-    Other,
-    Refused(u8),
-    Part {
-        part: Part,
-        taken: usize,
-        connection: Connection,
-    },
+pub struct ReadPart {
+    pub part: Part,
+    pub taken: usize,
+    pub connection: Connection,
 }
 
-// The container's end reads the first packet of the bytes where it is whole and a body packet is due. It has no places for the table.
-pub fn read_body(connection: Connection, bytes: &[u8]) -> PartRead
+// The container's end reads the first packet of the bytes where it is whole and a body packet is due: it has no places for the table.
+// None: the packet is another one, which `read` reads.
+pub fn read_body(connection: Connection, bytes: &[u8]) -> Result<Option<ReadPart>, Refusal>
     ensures { part_meaning Packet.Body result ≡ short_reading Direction.ToContainer connection bytes.now }
 {
-    let size = body_size(connection, bytes);
-    if size == 0 {
-        return PartRead::Other; // not whole, or no body packet is due
-    }
-    body(connection, part_of(bytes, 0, size))
+    let Some(size) = body_size(connection, bytes) else {
+        return Ok(None); // not whole, or no body packet is due
+    };
+    let body = part_of(bytes, 0, size);
+    let found = payload::body::read(body)?;
+    stepped(connection, body.len(), found)
 }
 
-// The server's end reads the first packet of the bytes where it is whole and a Send Body Chunk that is allowed, in the same way.
-pub fn read_body_chunk(connection: Connection, bytes: &[u8]) -> PartRead
+// The server's end reads the first packet of the bytes where it is whole and a Send Body Chunk that is allowed, in the same way. One function
+// over the direction for both would ask for it twice: which packets go the short way, and how they are read.
+pub fn read_body_chunk(connection: Connection, bytes: &[u8]) -> Result<Option<ReadPart>, Refusal>
     ensures { part_meaning Packet.BodyChunk result ≡ short_reading Direction.ToServer connection bytes.now }
 {
-    let size = chunk_size(connection, bytes);
-    if size == 0 {
-        return PartRead::Other; // not whole, or no chunk that is allowed
-    }
-    body_chunk(connection, part_of(bytes, 0, size))
+    let Some(size) = chunk_size(connection, bytes) else {
+        return Ok(None); // not whole, or no chunk that is allowed
+    };
+    let chunk = part_of(bytes, 0, size);
+    let found = payload::body_chunk::read(chunk)?;
+    stepped(connection, chunk.len(), found)
 }
 
-// How many bytes the first packet has where it is whole and a body packet is due, else 0.
-fn body_size(connection: Connection, bytes: &[u8]) -> usize
-    ensures { result ≡ body_size connection bytes.now }
+// How many bytes the first packet has where it is whole and a body packet is due.
+#[tactic(auto, unfolding(crate::specs::Short::body_size))]
+fn body_size(connection: Connection, bytes: &[u8]) -> Option<usize>
+    ensures { result ≡ some_size (body_size connection bytes.now) }
 {
     if !connection.is_body_due() {
-        return 0;
+        return None;
     }
     whole_size(Direction::ToContainer, bytes)
 }
 
-// How many bytes the first packet has where it is whole and a Send Body Chunk that is allowed, else 0.
-fn chunk_size(connection: Connection, bytes: &[u8]) -> usize
-    ensures { result ≡ chunk_size connection bytes.now }
+// How many bytes the first packet has where it is whole and a Send Body Chunk that is allowed.
+#[tactic(auto, unfolding(crate::specs::Short::chunk_size))]
+fn chunk_size(connection: Connection, bytes: &[u8]) -> Option<usize>
+    ensures { result ≡ some_size (chunk_size connection bytes.now) }
 {
     if !connection.allows(Kind::BodyChunk) {
-        return 0;
+        return None;
     }
-    let size = whole_size(Direction::ToServer, bytes);
+    let size = whole_size(Direction::ToServer, bytes)?;
     if !is_chunk(part_of(bytes, 0, size)) {
-        return 0;
+        return None;
     }
-    size
+    Some(size)
 }
 
-// How many bytes the first packet has where it is whole, else 0.
-fn whole_size(direction: Direction, bytes: &[u8]) -> usize
-    ensures { result ≡ whole_size (frame_at direction bytes.now) }
+// How many bytes the first packet has where it is whole.
+#[tactic(auto, using(crate::proofs::ShortWays::whole_some))]
+fn whole_size(direction: Direction, bytes: &[u8]) -> Option<usize>
+    ensures { result ≡ some_size (whole_size (frame_at direction bytes.now)) }
 {
     match frame(direction, bytes) {
-        FrameRead::Needs(n) => 0,
-        FrameRead::Refused(n) => 0,
-        FrameRead::Whole(n) => n,
+        Ok(Extent::Whole(n)) => Some(n),
+        _ => None,
     }
 }
 
@@ -97,77 +100,37 @@ fn is_chunk(packet: &[u8]) -> bool
     ensures { result ≡ is_chunk (byte_at packet.now code_place) }
 {
     match byte(packet, CODE_PLACE) {
-        NumberRead::Refused(n) => false,
-        NumberRead::Number { value, next } => value == BODY_CHUNK,
+        Ok(code) => code.value == BODY_CHUNK,
+        Err(_) => false,
     }
 }
 
-// A body packet: its size, then the step.
-fn body(connection: Connection, packet: &[u8]) -> PartRead
-    ensures { part_meaning Packet.Body result ≡ answered (accepting connection (length packet.now) (body_at packet.now)) }
+// The part of a packet that was read and whose kind is allowed now, by the step that the packet makes.
+#[tactic(auto, using(crate::proofs::ShortWays::own), unfolding(reader::specs::Private::sizing))]
+fn stepped(
+    connection: Connection,
+    taken: usize,
+    packet: Packet,
+) -> Result<Option<ReadPart>, Refusal>
+    ensures { part_meaning (with_part (packet_kind packet) packet) result ≡ answered (sizing connection taken (PacketRead.Packet packet)) }
 {
-    match payload::body::read(packet) {
-        PacketRead::Refused(n) => PartRead::Refused(n),
-        PacketRead::Packet(found) => {
-            let part = part_in(found);
-            stepped(part, packet.len(), connection.step_body(part.len as usize))
-        }
-    }
+    let after = connection.step_allowed(move_of(packet))?;
+    Ok(Some(ReadPart {
+        part: part_in(packet),
+        taken,
+        connection: after,
+    }))
 }
 
-// A Send Body Chunk, in the same way.
-fn body_chunk(connection: Connection, packet: &[u8]) -> PartRead
-    ensures { part_meaning Packet.BodyChunk result ≡ answered (accepting connection (length packet.now) (chunk_at packet.now)) }
-{
-    match payload::body_chunk::read(packet) {
-        PacketRead::Refused(n) => PartRead::Refused(n),
-        PacketRead::Packet(found) => {
-            let part = part_in(found);
-            stepped(
-                part,
-                packet.len(),
-                connection.step_body_chunk(part.len as usize),
-            )
-        }
-    }
-}
-
-// A part that was read, by the step that its packet makes.
-fn stepped(part: Part, taken: usize, step: Step) -> PartRead
-    ensures { result ≡ stepped_part part taken step }
-{
-    match step {
-        Step::Refused(n) => PartRead::Refused(n),
-        Step::Next(after) => PartRead::Part {
-            part,
-            taken,
-            connection: after,
-        },
-    }
-}
-
-// A part of no bytes: what a packet has that is neither a body packet nor a chunk.
-fn no_part() -> Part
-    ensures { result ≡ no_part }
-{
-    Part {
-        start: Place(0),
-        len: 0,
-    }
-}
-
-// The part of a packet.
+// The part of a packet: one of no bytes where it is neither a body packet nor a chunk.
 fn part_in(packet: Packet) -> Part
     ensures { result ≡ part_in packet }
 {
     match packet {
-        Packet::CPing => no_part(),
-        Packet::CPong => no_part(),
-        Packet::Forward(f) => no_part(),
-        Packet::Body(p) => p,
-        Packet::GetBody(asked) => no_part(),
-        Packet::SendHeaders(h) => no_part(),
-        Packet::BodyChunk(p) => p,
-        Packet::End(reuse) => no_part(),
+        Packet::Body(part) | Packet::BodyChunk(part) => part,
+        _ => Part {
+            start: Place(0),
+            len: 0,
+        },
     }
 }

@@ -1,16 +1,25 @@
--- `short_ways::read_body_chunk` meets its contract: an allowed Send Body Chunk is answered as reading says.
+-- `short_ways::read_body_chunk` meets its contract, by what is read and by the step.
 -- Assumes nothing.
 use mathlib.Core.Path.{refl, ◌∙◌}
 use Rattle.packet.specs.declared.Direction.{Direction}
+use Rattle.packet.specs.declared.Packet.{Packet}
 use Rattle.connection.specs.declared.Kind.{Kind}
-use Rattle.short_ways.proofs.ShortWays.{short_chunk, short_other, short_answers}
+use Rattle.wire.proofs.Exits.{exits}
+use Rattle.short_ways.specs.Short.{part_meaning}
+use Rattle.short_ways.proofs.ShortWays.{size_none, size_some, short_chunk, short_other, short_refused, short_stepped}
 use Rattle.short_ways.proofs.read_body_chunk.Goals as goal
 
-pub returns-then-size-eq0 : goal.returns-then-size-eq0
-returns-then-size-eq0 c = short_other Direction.ToServer _ _ _ c.chunk_size-size.ensures c.if-size-eq0.true
+pub returns-in_default : goal.returns-in_default
+returns-in_default c = short_other Direction.ToServer _ _ _ refl (size_none _ c.in_default.ensures)
+
+pub returns-in_err-found : goal.returns-in_err-found
+returns-in_err-found c =
+    let size = size_some _ _ c.in-Some.ensures in
+    exits (part_meaning Packet.BodyChunk) _ _ c.from_residual.ensures.1
+    ∙ short_refused Direction.ToServer _ _ Kind.BodyChunk _ _ _ size.0 size.1 (short_chunk _ _ _ size.0 size.1) c.part_of-chunk.ensures refl _ c.in_err-found.ensures
 
 pub returns : goal.returns
 returns c =
-    let goes = c.if-size-eq0.false in
-    c.body_chunk.ensures
-    ∙ short_answers Direction.ToServer _ _ Kind.BodyChunk _ _ _ c.chunk_size-size.ensures goes (short_chunk _ _ _ c.chunk_size-size.ensures goes) c.part_of.ensures refl
+    let size = size_some _ _ c.in-Some.ensures in
+    short_stepped Direction.ToServer _ _ Kind.BodyChunk _ _ _ size.0 size.1 (short_chunk _ _ _ size.0 size.1) c.part_of-chunk.ensures refl _ _ c.in_ok-found.ensures
+    c.stepped.ensures
