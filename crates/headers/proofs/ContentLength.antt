@@ -1,7 +1,7 @@
 -- Laws of content-length: its code, its digits with the invariant of the loop that reads them, and that it is refused with a number of
 -- document 01.
 -- Assumes nothing.
-use borrow.Author.Tests.{le-leb, eqb-true}
+use borrow.Author.Tests.{leb-true, eqb-true}
 use mathlib.Core.List.{List, []}
 use mathlib.Core.Path.{◌≡◌, ◌∙◌, refl}
 use mathlib.Core.Bool.{Bool, true, false}
@@ -9,10 +9,11 @@ use Prim.Native.Nat.{ℕ, ◌+◌, ◌-◌, ◌*◌, ◌^◌, ◌≤◌, ◌<◌
 use native.Mathlib.Omega.{arith}
 use native.Mathlib.Nat.{pow-suc, pow-le-pow_right}
 use native.Mathlib.Numerals.{add-one}
-use lib.Dec.{lit<}
+use lib.Dec.{leb, lit<}
 use lib.ListN.{length, get_or, drop, drop_of_length-le}
 use lib.Seq.{drop-cons}
 use Rattle.wire.specs.Pick.{pick, between}
+use Rattle.wire.proofs.Tests.{both_second}
 use Rattle.std.specs.Prelude.{Option, Some, None}
 use Rattle.std.specs.Prelude.{Option, Some, None}
 use Rattle.headers.specs.Read.{LengthRead}
@@ -28,10 +29,14 @@ unfolding digits
 digits_step n text i t h e = rw (add-one, drop-cons text i 0 h, e)
 
 -- the text has as many bytes as a length may have digits, or not
-pub decimal_long : (text : List ℕ) (t : Bool) → between 1 max_digits (length text) ≡ t
+decimal_long : (text : List ℕ) (t : Bool) → between 1 max_digits (length text) ≡ t
     → decimal_of text ≡ pick t (digits 0 text) None
 unfolding decimal_of
 decimal_long text t e = rw e
+
+-- a text of no bytes or too many
+pub no_decimal : (text : List ℕ) → between 1 max_digits (length text) ≡ false → decimal_of text ≡ None
+no_decimal text e = decimal_long text false e
 
 -- sum is below the power of ten of the digits read, and with what is left it makes the whole
 pub record Reading (text : List ℕ) (sum i : ℕ) : Type 0 where
@@ -48,14 +53,14 @@ pub room : (text : List ℕ) (sum i : ℕ) → Reading text sum i → i < length
 room text sum i R h k = omega (arith, R.small, pow-le-pow_right {n = 10} (lit< tt) {i = i} {j = max_digits - 1} (omega arith))
 
 -- one digit is read
-pub turn : (text : List ℕ) (sum i : ℕ) → Reading text sum i → i < length text → 48 ≤ get_or text i 0 → get_or text i 0 ≤ 57
-    → Reading text (sum * 10 + (get_or text i 0 - 48)) (i + 1)
-turn text sum i R h lo hi =
-    let t : between 48 57 (get_or text i 0) ≡ true = simp (le-leb 48 (get_or text i 0) lo, le-leb (get_or text i 0) 57 hi) in
+pub turn : (text : List ℕ) (sum i digit : ℕ) → Reading text sum i → i < length text → between 48 57 (get_or text i 0) ≡ true
+    → digit ≡ get_or text i 0 - 48 → Reading text (sum * 10 + digit) (i + 1)
+turn text sum i digit R h t e =
+    let hi : get_or text i 0 ≤ 57 = leb-true (get_or text i 0) 57 (both_second (leb 48 (get_or text i 0)) (leb (get_or text i 0) 57) t) in
     record {
       below = omega arith;
       small = rw (add-one i, pow-suc) (omega (arith, R.small));
-      same = R.same ∙ digits_step sum text i true h t;
+      same = rw e (R.same ∙ digits_step sum text i true h t);
     }
 
 -- a byte that is no digit

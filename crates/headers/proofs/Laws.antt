@@ -1,7 +1,7 @@
 -- Laws of the headers' definitions: each outcome stated once, that what is answered lies inside the packet, and the loop that reads them.
 -- Assumes nothing.
 use mathlib.Core.Path.{◌≡◌, refl, sym, ap, subst}
-use mathlib.Core.Bool.{Bool, true, false, not}
+use mathlib.Core.Bool.{Bool, true, false}
 use mathlib.Core.List.{List, [], ◌∷◌}
 use Prim.Native.Nat.{ℕ, zero, suc, ◌+◌, ◌-◌, ◌≤◌, ◌<◌}
 use native.Mathlib.Nat.{zero-add}
@@ -9,10 +9,10 @@ use native.Mathlib.Omega.{arith}
 use borrow.Author.Tests.{le-leb}
 use lib.Dec.{leb, eqb}
 use lib.ListN.{length, get_or}
-use Rattle.wire.specs.Pick.{pick, both, either, all}
-use Rattle.wire.specs.Refusal.{none, cut_short, string_wrong}
+use Rattle.wire.specs.Pick.{pick, all}
+use Rattle.wire.specs.Refusal.{none, cut_short}
 use Rattle.wire.specs.Bytes.{part, over}
-use Rattle.wire.specs.Field.{integer_at, null_length, is_optional, holds_barred, text_at, after_length, string_of, string_at}
+use Rattle.wire.specs.Field.{integer_at, is_optional, string_at}
 use Rattle.packet.specs.declared.Direction.{Direction}
 use Rattle.wire.specs.declared.StringField.{StringField}
 use Rattle.wire.specs.Read.{NumberRead}
@@ -20,7 +20,6 @@ use Rattle.wire.specs.Read.{StringRead}
 use Rattle.wire.specs.Facts.{NumberInside, StringInside}
 use Rattle.wire.proofs.Field.{integer_inside, string_inside}
 use Rattle.names.specs.Header.{begins_code, code_fault, spelled_fault}
-use Rattle.headers.specs.Length.{length_after}
 use Rattle.std.specs.Prelude.{Option, None}
 use Rattle.headers.specs.Read.{LengthRead}
 use Rattle.places.specs.Entries.{Entries, ended, front}
@@ -37,58 +36,11 @@ pub code_is : (d : Direction) (number : NumberRead) (code next fault : ℕ) (t :
 unfolding code_name_of
 code_is d number code next fault t p q r = rw (p, ← q, r)
 
--- a name whose code could not be read
-pub code_refused : (d : Direction) (number : NumberRead) (n : ℕ) → number ≡ NumberRead.Refused n → NameRead.Refused n ≡ code_name_of d number
-unfolding code_name_of
-code_refused d number n p = rw p
-
 -- a name that is spelled out, by its fault and the test on it
 pub spelled_is : (d : Direction) (s : List ℕ) (start len next : ℕ) (text : List ℕ) (fault : ℕ) (t : Bool) → text ≡ part s start len
     → fault ≡ spelled_fault d text → eqb fault none ≡ t → pick t (NameRead.Spelled start len next) (NameRead.Refused fault) ≡ spelled_at d s start len next
 unfolding spelled_at
 spelled_is d s start len next text fault t p q r = rw (← p, ← q, r)
-
--- what follows a spelled name's length, by its tests and by the fault of its bytes; a proof that does not reach one says `refl`
-pub text_is : (d : Direction) (s : List ℕ) (start len : ℕ) (null empty there ended : Bool) (fault : ℕ) (t : Bool)
-    → eqb len null_length ≡ null → eqb len 0 ≡ empty → leb (start + (len + 1)) (length s) ≡ there → eqb (get_or s (start + len) 0) 0 ≡ ended
-    → fault ≡ pick (holds_barred (part s start len)) string_wrong (spelled_fault d (part s start len)) → eqb fault none ≡ t
-    → pick (either null empty) (NameRead.Refused string_wrong)
-    (pick there
-    (pick ended (pick t (NameRead.Spelled start len (start + len + 1)) (NameRead.Refused fault)) (NameRead.Refused string_wrong))
-    (NameRead.Refused cut_short))
-    ≡ spelled_of d s (after_length s (is_optional StringField.HeaderName) len start)
-unfolding spelled_at after_length text_at
-text_is d s start len null empty there ended fault t p q r e f g =
-    rw (p, q, r, e) (go null empty there ended (holds_barred (part s start len)) f)
-  where
-    go : (null empty there ended barred : Bool) → fault ≡ pick barred string_wrong (spelled_fault d (part s start len))
-        → pick (either null empty) (NameRead.Refused string_wrong)
-        (pick there
-        (pick ended (pick t (NameRead.Spelled start len (start + len + 1)) (NameRead.Refused fault)) (NameRead.Refused string_wrong))
-        (NameRead.Refused cut_short))
-        ≡ spelled_of d s
-        (pick (either null empty) (StringRead.Refused string_wrong)
-        (pick null (StringRead.Null start)
-        (pick there
-        (pick (both ended (not barred)) (StringRead.Text start len (start + len + 1)) (StringRead.Refused string_wrong))
-        (StringRead.Refused cut_short))))
-    go true empty there ended barred f = refl
-    go false true there ended barred f = refl
-    go false false false ended barred f = refl
-    go false false true false barred f = refl
-    go false false true true true f = rw (← g, f)
-    go false false true true false f = rw (← g, f)
-
--- a spelled name, by what its length reads as
-pub spelled_by : (d : Direction) (s : List ℕ) (at : ℕ) (r : NumberRead) → integer_at s at ≡ r
-    → spelled_of d s (string_of s (is_optional StringField.HeaderName) r) ≡ spelled_of d s (string_at s at (is_optional StringField.HeaderName))
-unfolding string_at
-spelled_by d s at r e = ap (λ (n : NumberRead). spelled_of d s (string_of s (is_optional StringField.HeaderName) n)) (sym e)
-
--- the fault of a spelled name's bytes, by that of the name and by whether they hold a barred one
-pub fault_is : (d : Direction) (text : List ℕ) (fault : ℕ) (barred : Bool) → fault ≡ spelled_fault d text → holds_barred text ≡ barred
-    → pick barred string_wrong fault ≡ pick (holds_barred text) string_wrong (spelled_fault d text)
-fault_is d text fault barred p q = rw (q, p)
 
 -- the name at a place, by its two tests and by what its string reads as; a proof that does not reach one says `refl`
 pub name_is : (d : Direction) (s : List ℕ) (at : ℕ) (there code optional : Bool) (r : StringRead) → leb (at + 2) (length s) ≡ there
@@ -96,12 +48,6 @@ pub name_is : (d : Direction) (s : List ℕ) (at : ℕ) (there code optional : B
     → pick there (pick code (code_name_of d (integer_at s at)) (spelled_of d s r)) (NameRead.Refused cut_short) ≡ name_at d s at
 unfolding name_at
 name_is d s at there code optional r p q o e = rw (p, q, ← o, e)
-
--- what is declared after a value, by whether it declares
-pub declared_is : (is_length : Bool) (before : Option ℕ) (null : Bool) (text : List ℕ) (t : Bool) → is_length ≡ t
-    → pick t (length_after before null text) (LengthRead.Now before) ≡ declared_after is_length before null text
-unfolding declared_after
-declared_is is_length before null text t p = rw p
 
 -- a part of no bytes
 pub part_none : (s : List ℕ) → part s 0 0 ≡ []
@@ -181,11 +127,16 @@ header_of_inside d s at before (NameRead.Code code next) i = value_inside s at n
 header_of_inside d s at before (NameRead.Spelled start len next) i = value_inside s at next false before (omega (arith, i.0, i.1.0))
 
 -- a header at a place lies inside
-pub header_inside : (d : Direction) (s : List ℕ) (at : ℕ) (before : Option ℕ) (r : HeaderRead) → header_at d s at before ≡ r
+header_inside : (d : Direction) (s : List ℕ) (at : ℕ) (before : Option ℕ) (r : HeaderRead) → header_at d s at before ≡ r
     → HeaderInside (length s) at r
 unfolding header_at
 header_inside d s at before r e =
     subst (HeaderInside (length s) at) e (header_of_inside d s at before (name_at d s at) (name_inside d s at (name_at d s at) refl))
+
+-- its value begins inside, and it ends there
+pub header_bounds : (d : Direction) (s : List ℕ) (at : ℕ) (before declared : Option ℕ) (value next : ℕ)
+    → header_at d s at before ≡ HeaderRead.Header value declared next → (at + 2 ≤ value) × ((value + 2 ≤ next) × (next ≤ length s))
+header_bounds d s at before declared value next e = header_inside d s at before (HeaderRead.Header value declared next) e
 
 -- headers that were read: at most two places each, every one with two bytes or more in the packet
 record Read (n at count : ℕ) (h : Entries HeadersRead) : Type 0 where

@@ -13,32 +13,21 @@ pub fn is_content_length(code: u16) -> bool
 }
 
 // The number that a text spells: 1 to 10 digits, at most 4294967295.
+#[tactic(auto, using(crate::proofs::ContentLength::start, crate::proofs::ContentLength::stop, crate::proofs::ContentLength::done, crate::proofs::ContentLength::no_decimal))]
 pub fn decimal_of(text: &[u8]) -> Option<u32>
     ensures { result ≡ decimal_of text.now }
 {
-    if text.len() < 1 {
-        return None;
-    }
-    if 10 < text.len() {
+    if !(1..=10).contains(&text.len()) {
         return None;
     }
     let mut sum: u64 = 0;
-    let mut i = 0;
-    while i < text.len() {
-        let b = text[i];
-        if b < b'0' {
+    for &b in text {
+        if !b.is_ascii_digit() {
             return None;
         }
-        if b'9' < b {
-            return None;
-        }
-        sum = sum * 10 + (b - b'0') as u64;
-        i += 1;
+        sum = sum * 10 + u64::from(b - b'0');
     }
-    if 4294967295 < sum {
-        return None;
-    }
-    Some(sum as u32)
+    u32::try_from(sum).ok()
 }
 
 // What is declared after a content-length's value. A second one and null are refused.

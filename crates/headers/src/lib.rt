@@ -30,7 +30,7 @@ pub enum ReadName {
 }
 
 // A header as read: its value's place, what is declared after it, and the place after it.
-#[derive(Clone, Copy)]
+#[derive(Clone, Copy, Debug, PartialEq, Eq)]
 pub struct ReadHeader {
     pub value: usize,
     pub declared: Option<u32>,
@@ -38,6 +38,7 @@ pub struct ReadHeader {
 }
 
 // The header name at a place. Nothing is judged before its first two bytes are there.
+#[tactic(auto, using(wire::proofs::Bytes::room_in), unfolding(crate::specs::Headers::name_at))]
 pub fn name_at(direction: Direction, packet: &[u8], at: usize) -> Result<Field<ReadName>, Refusal>
     ensures { name_meaning result ≡ name_at direction packet.now at }
 {
@@ -51,6 +52,7 @@ pub fn name_at(direction: Direction, packet: &[u8], at: usize) -> Result<Field<R
 }
 
 // The name at a place where its code is.
+#[tactic(auto, using(wire::proofs::Exits::refused_some), unfolding(crate::specs::Headers::code_name_of))]
 fn code_name(direction: Direction, packet: &[u8], at: usize) -> Result<Field<ReadName>, Refusal>
     ensures { name_meaning result ≡ code_name_of direction (integer_at packet.now at) }
 {
@@ -63,6 +65,7 @@ fn code_name(direction: Direction, packet: &[u8], at: usize) -> Result<Field<Rea
 }
 
 // A name that is spelled out: a string, by its length.
+#[tactic(auto, unfolding(wire::specs::Field::string_at))]
 fn spelled_name(direction: Direction, packet: &[u8], at: usize) -> Result<Field<ReadName>, Refusal>
     ensures { name_meaning result ≡ spelled_of direction packet.now (string_at packet.now at (is_optional StringField.HeaderName)) }
 {
@@ -72,6 +75,7 @@ fn spelled_name(direction: Direction, packet: &[u8], at: usize) -> Result<Field<
 
 // What follows a spelled name's length, judged as `read::string` judges it, but for its bytes: they are looked through once, for all their
 // faults.
+#[tactic(auto, using(wire::proofs::Bytes::room_in, wire::proofs::Exits::refused_some), unfolding(crate::specs::Headers::spelled_at, wire::specs::Field::after_length, wire::specs::Field::text_at, wire::specs::Bytes::part))]
 fn name_text(
     direction: Direction,
     packet: &[u8],
@@ -80,10 +84,7 @@ fn name_text(
 ) -> Result<Field<ReadName>, Refusal>
     ensures { name_meaning result ≡ spelled_of direction packet.now (after_length packet.now (is_optional StringField.HeaderName) size start) }
 {
-    if size == NULL_LENGTH {
-        return Err(Refusal::StringWrong);
-    }
-    if size == 0 {
+    if size == NULL_LENGTH || size == 0 {
         return Err(Refusal::StringWrong);
     }
     let len = size as usize;
@@ -103,31 +104,28 @@ fn name_text(
 
 // The fault of a spelled name's bytes: a barred byte, then the name's own. A name without a fault holds no barred byte, so only another is
 // looked through for one.
+#[tactic(auto, using(names::proofs::Codes::spelled_clear))]
 fn text_fault(direction: Direction, text: &[u8]) -> Result<(), Refusal>
     ensures { fault_number result ≡ pick (holds_barred text.now) string_wrong (spelled_fault direction text.now) }
 {
-    match header::spelled_fault(direction, text) {
-        Ok(()) => Ok(()),
-        Err(fault) => {
-            if holds_barred(text) {
-                return Err(Refusal::StringWrong);
-            }
-            Err(fault)
+    header::spelled_fault(direction, text).map_err(|fault| {
+        if holds_barred(text) {
+            Refusal::StringWrong
+        } else {
+            fault
         }
-    }
+    })
 }
 
 // Whether a header with this code declares the length of a request's body.
 pub fn declares_length(direction: Direction, code: u16) -> bool
     ensures { result ≡ declares direction code }
 {
-    match direction {
-        Direction::ToContainer => length::is_content_length(code),
-        Direction::ToServer => false,
-    }
+    matches!(direction, Direction::ToContainer) && length::is_content_length(code)
 }
 
 // What is declared after a header's value.
+#[tactic(auto, unfolding(crate::specs::Headers::declared_after))]
 pub fn declared_after(
     declares: bool,
     before: Option<u32>,
@@ -143,6 +141,7 @@ pub fn declared_after(
 }
 
 // The value at a place, of a header whose name stands before it; `declares` says that it declares a length.
+#[tactic(auto, unfolding(crate::specs::Headers::header_value_at))]
 fn value_at(
     packet: &[u8],
     at: usize,
@@ -153,7 +152,7 @@ fn value_at(
 {
     let Field { value, next } = read::string(packet, at, StringField::HeaderValue)?;
     let declared = match value {
-        None => declared_after(declares, before, true, part_of(packet, 0, 0))?,
+        None => declared_after(declares, before, true, &[])?,
         Some(Span { start, len }) => {
             declared_after(declares, before, false, part_of(packet, start, len))?
         }
@@ -166,6 +165,7 @@ fn value_at(
 }
 
 // The header at a place; `before` is what the headers before it declare.
+#[tactic(auto, unfolding(crate::specs::Headers::header_at))]
 pub fn header_at(
     direction: Direction,
     packet: &[u8],
@@ -182,6 +182,7 @@ pub fn header_at(
 }
 
 // Reads `count` headers from a place on, and puts the places of each one's name and value into a table, from its start on.
+#[tactic(auto, using(crate::proofs::Laws::reading_start, crate::proofs::Laws::reading_turn, crate::proofs::Laws::header_bounds))]
 pub fn headers(
     direction: Direction,
     packet: &[u8],
