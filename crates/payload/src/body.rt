@@ -13,6 +13,7 @@ use wire::refusal::Refusal;
 pub const BODY_START: u16 = 6;
 
 // Reads a body packet.
+#[tactic(auto, unfolding(crate::specs::Body::body_at, wire::specs::Field::integer_at))]
 pub fn read(packet: &[u8]) -> Result<Packet, Refusal>
     ensures { packet_meaning result ≡ body_at packet.now }
 {
@@ -28,6 +29,7 @@ pub fn read(packet: &[u8]) -> Result<Packet, Refusal>
 }
 
 // A body packet of `size` bytes in all, whose own size is `len`. A size of 0 is looked for before bytes that are left over, for speed.
+#[tactic(auto, unfolding(crate::specs::Body::sized_at))]
 fn sized(size: usize, len: u16) -> Result<Packet, Refusal>
     ensures { packet_meaning result ≡ sized_at size len }
 {

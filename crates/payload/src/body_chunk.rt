@@ -5,14 +5,15 @@ ghost use Rattle.payload.specs.BodyChunk.{chunk_at, chunk_of};
 
 use crate::found::finished;
 use packet::{Packet, Part, Place};
+use wire::AFTER_CODE_PLACE;
 use wire::read::integer;
 use wire::refusal::Refusal;
-use wire::{AFTER_CODE_PLACE, has_room};
 
 // Where a chunk's bytes start: behind the code and the length.
 pub const CHUNK_START: u16 = 7;
 
 // Reads a Send Body Chunk.
+#[tactic(auto, unfolding(crate::specs::BodyChunk::chunk_at))]
 pub fn read(packet: &[u8]) -> Result<Packet, Refusal>
     ensures { packet_meaning result ≡ chunk_at packet.now }
 {
@@ -21,16 +22,16 @@ pub fn read(packet: &[u8]) -> Result<Packet, Refusal>
 }
 
 // A chunk of `len` bytes, and the zero behind them.
+#[tactic(auto, unfolding(crate::specs::BodyChunk::chunk_of))]
 fn chunk(packet: &[u8], len: u16) -> Result<Packet, Refusal>
     ensures { packet_meaning result ≡ chunk_of packet.now len }
 {
     let start = CHUNK_START as usize;
-    let n = len as usize;
-    if !has_room(packet.len(), start, n + 1) {
+    let end = start + len as usize;
+    let Some(&last) = packet.get(end) else {
         return Err(Refusal::CutShort);
-    }
-    let end = start + n;
-    if packet[end] != 0 {
+    };
+    if last != 0 {
         return Err(Refusal::StringWrong);
     }
     finished(

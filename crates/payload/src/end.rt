@@ -10,6 +10,7 @@ use wire::read::boolean;
 use wire::refusal::Refusal;
 
 // Reads an End.
+#[tactic(auto, unfolding(crate::specs::End::end_at))]
 pub fn read(packet: &[u8]) -> Result<Packet, Refusal>
     ensures { packet_meaning result ≡ end_at packet.now }
 {

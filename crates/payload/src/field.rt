@@ -12,7 +12,7 @@ use wire::refusal::Refusal;
 use wire::{AFTER_CODE_PLACE, CODE_PLACE, StringField, read};
 
 // A field as read: its place, its number, 0 for a string, and the place after it.
-#[derive(Clone, Copy)]
+#[derive(Clone, Copy, Debug, PartialEq, Eq)]
 pub struct Placed {
     pub at: usize,
     pub value: u16,
@@ -41,6 +41,7 @@ pub fn after_code() -> Placed
 }
 
 // The string behind a field.
+#[tactic(auto, unfolding(crate::specs::Sequence::string_after, crate::specs::Sequence::string_field_at))]
 pub fn string_after(packet: &[u8], field: StringField, before: Placed) -> Result<Placed, Refusal>
     ensures { field_meaning result ≡ string_after packet.now field (placed before) }
 {
@@ -54,6 +55,7 @@ pub fn string_after(packet: &[u8], field: StringField, before: Placed) -> Result
 }
 
 // The boolean behind a field; its number is 1 for true.
+#[tactic(auto, unfolding(crate::specs::Sequence::boolean_after, crate::specs::Sequence::boolean_field_at))]
 pub fn boolean_after(packet: &[u8], before: Placed) -> Result<Placed, Refusal>
     ensures { field_meaning result ≡ boolean_after packet.now (placed before) }
 {
@@ -66,7 +68,9 @@ pub fn boolean_after(packet: &[u8], before: Placed) -> Result<Placed, Refusal>
     })
 }
 
-// The byte behind a field, which is from `low` to `high`, else it is refused with `fault`.
+// The byte behind a field, which is from `low` to `high`, else it is refused with `fault`. Apart from `integer_after`: both end in
+// `bounded`, and one function of the two would take the call that reads as a closure, which is longer.
+#[tactic(auto, unfolding(crate::specs::Sequence::byte_after))]
 pub fn byte_after(
     packet: &[u8],
     low: u16,
@@ -80,7 +84,8 @@ pub fn byte_after(
     bounded(at, low, high, fault, read::byte(packet, at)?)
 }
 
-// The integer behind a field, which may be any.
+// The integer behind a field, which may be any: no bounds, and no fault of its own.
+#[tactic(auto, unfolding(crate::specs::Sequence::any_integer_after))]
 pub fn any_integer_after(packet: &[u8], before: Placed) -> Result<Placed, Refusal>
     ensures { field_meaning result ≡ any_integer_after packet.now (placed before) }
 {
@@ -90,6 +95,7 @@ pub fn any_integer_after(packet: &[u8], before: Placed) -> Result<Placed, Refusa
 }
 
 // The integer behind a field, which is from `low` to `high`, else it is refused with `fault`.
+#[tactic(auto, unfolding(crate::specs::Sequence::integer_after))]
 pub fn integer_after(
     packet: &[u8],
     low: u16,
@@ -114,10 +120,7 @@ fn bounded(
     ensures { field_meaning result ≡ bounded at low high (number_of fault) (NumberRead.Number number.value number.next) }
 {
     let Field { value, next } = number;
-    if value < low {
-        return Err(fault);
-    }
-    if high < value {
+    if !(low..=high).contains(&value) {
         return Err(fault);
     }
     Ok(Placed { at, value, next })

@@ -21,6 +21,7 @@ pub const FIRST_METHOD: u16 = 1;
 pub const LAST_METHOD: u16 = 27;
 
 // Reads a Forward. The table has room for all places, and is filled from its start on.
+#[tactic(auto, using(wire::proofs::Bytes::over_none, crate::proofs::Fields::string_place, crate::proofs::Fields::integer_counts), unfolding(crate::specs::Forward::forward_at, crate::specs::Forward::forward_reads, crate::specs::Lists::lists_at, crate::specs::Lists::headers_after, crate::specs::Sequence::string_after, crate::specs::Sequence::boolean_after, crate::specs::Sequence::any_integer_after, crate::specs::Sequence::integer_after))]
 pub fn read(packet: &[u8], table: &mut [u16]) -> Result<Packet, Refusal>
     requires { (length packet.now ≤ max_packet) × (max_places ≤ length table.old) }
     ensures value { packet_meaning result ≡ (forward_at packet.now).end }

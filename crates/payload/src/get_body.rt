@@ -9,7 +9,9 @@ use wire::AFTER_CODE_PLACE;
 use wire::read::integer;
 use wire::refusal::Refusal;
 
-// Reads a Get Body Chunk.
+// Reads a Get Body Chunk. Apart from `end::read`: both end in `finished`, and one function of the two would take the call that reads and the
+// packet's variant as closures, which is longer.
+#[tactic(auto, unfolding(crate::specs::GetBody::get_at))]
 pub fn read(packet: &[u8]) -> Result<Packet, Refusal>
     ensures { packet_meaning result ≡ get_at packet.now }
 {

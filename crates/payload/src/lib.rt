@@ -43,7 +43,7 @@ pub const CPONG: u16 = 9;
 pub const CPING: u16 = 10;
 
 // What is known of a packet beside its bytes: which way it goes, and whether it is read as a body packet.
-#[derive(Clone, Copy)]
+#[derive(Clone, Copy, Debug, PartialEq, Eq)]
 pub struct Context {
     pub direction: Direction,
     pub body: bool,
@@ -66,6 +66,7 @@ pub fn code_of(kind: Kind) -> u16
 }
 
 // The kind of a packet, by its code as read.
+#[tactic(auto, unfolding(crate::specs::Code::code_kind))]
 fn kind_of_code(direction: Direction, code: u16) -> Result<Kind, Refusal>
     ensures { kind_meaning result ≡ code_kind direction code }
 {
@@ -88,6 +89,7 @@ fn kind_of_code(direction: Direction, code: u16) -> Result<Kind, Refusal>
 }
 
 // The kind of a packet: a body packet where it is read as one, else by its code.
+#[tactic(auto, unfolding(crate::specs::Code::kind_at))]
 pub fn kind_of(context: Context, packet: &[u8]) -> Result<Kind, Refusal>
     ensures { kind_meaning result ≡ kind_at context packet.now }
 {

@@ -16,13 +16,14 @@ use wire::read::Field;
 use wire::refusal::Refusal;
 
 // What follows a Forward's fixed fields: the declared length of the body, and how many attributes there are.
-#[derive(Clone, Copy)]
+#[derive(Clone, Copy, Debug, PartialEq, Eq)]
 pub struct ReadLists {
     pub declared: BodyLeft,
     pub attributes: u16,
 }
 
 // The headers behind their count.
+#[tactic(auto, unfolding(crate::specs::Lists::headers_after))]
 pub fn headers_after(
     direction: Direction,
     packet: &[u8],
@@ -37,6 +38,7 @@ pub fn headers_after(
 }
 
 // The attributes behind the headers, which are a Forward's last field.
+#[tactic(auto, using(crate::proofs::Below::attributes_few), unfolding(crate::specs::Lists::attributes_behind))]
 fn attributes_behind(
     packet: &[u8],
     declared: Option<u32>,
@@ -59,6 +61,7 @@ fn attributes_behind(
 }
 
 // The headers and attributes behind the count of headers.
+#[tactic(auto, unfolding(crate::specs::Lists::lists_at))]
 pub fn lists(packet: &[u8], count: Placed, table: &mut [u16]) -> Result<ReadLists, Refusal>
     requires { (length packet.now ≤ max_packet) × (Counts max_headers (placed count) × (max_places ≤ length table.old)) }
     ensures value { lists_meaning result ≡ (lists_at packet.now (placed count)).end }

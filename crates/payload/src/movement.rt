@@ -10,9 +10,10 @@ use packet::{Forward, Packet};
 fn forward_move(f: Forward) -> ForwardMove
     ensures { result ≡ forward_move f }
 {
-    let declared = f.declared;
-    let head = is_head(f.method);
-    ForwardMove { declared, head }
+    ForwardMove {
+        declared: f.declared,
+        head: is_head(f.method),
+    }
 }
 
 // The move that a packet makes.
@@ -25,7 +26,7 @@ pub fn move_of(packet: Packet) -> Move
         Packet::Forward(f) => Move::Forward(forward_move(f)),
         Packet::Body(p) => Move::Body(p.len as usize),
         Packet::GetBody(asked) => Move::GetBody(asked),
-        Packet::SendHeaders(h) => Move::SendHeaders,
+        Packet::SendHeaders(_) => Move::SendHeaders,
         Packet::BodyChunk(p) => Move::BodyChunk(p.len as usize),
         Packet::End(reuse) => Move::End(reuse),
     }

@@ -20,6 +20,7 @@ pub const LEAST_STATUS: u16 = 100;
 pub const GREATEST_STATUS: u16 = 599;
 
 // Reads Send Headers. The table has room for all places, and is filled from its start on.
+#[tactic(auto, using(wire::proofs::Bytes::over_none, crate::proofs::Fields::string_place, crate::proofs::Fields::integer_counts), unfolding(crate::specs::SendHeaders::send_headers_at, crate::specs::SendHeaders::send_headers_reads, crate::specs::Lists::headers_after, crate::specs::Sequence::string_after, crate::specs::Sequence::integer_after))]
 pub fn read(packet: &[u8], table: &mut [u16]) -> Result<Packet, Refusal>
     requires { (length packet.now ≤ max_packet) × (max_places ≤ length table.old) }
     ensures value { packet_meaning result ≡ (send_headers_at packet.now).end }
