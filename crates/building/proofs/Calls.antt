@@ -1,18 +1,21 @@
 -- A call's outcome and its buffer, by the fault that was found: what every call that builds cites at its returns.
 -- Assumes nothing.
+use native.Mathlib.Omega.{arith}
 use borrow.Author.Tests.{le-leb, lt-leb, eq-eqb, ne_eqb, eqb-true}
 use mathlib.Core.Path.{◌≡◌, refl, sym, ap, ◌∙◌}
 use mathlib.Core.Bool.{Bool, true, false}
-use mathlib.Core.List.{List}
+use mathlib.Core.List.{List, append_assoc, append-nil}
 use Prim.Native.Nat.{ℕ, ◌+◌, ◌<◌, ◌≤◌}
 use lib.Dec.{eqb}
-use lib.ListN.{length, take, drop}
+use lib.ListN.{length, take, drop, length-append}
 use Rattle.wire.specs.Pick.{pick}
 use Rattle.wire.specs.Bytes.{part, over}
 use Rattle.wire.proofs.Bytes.{length_over, over_before, over_behind, over_there}
-use Rattle.wire.specs.Refusal.{buffer_too_short, too_long}
+use Rattle.wire.specs.Refusal.{none, buffer_too_short, too_long}
 use Rattle.wire.specs.Packet.{Fits}
 use Rattle.connection.specs.Connection.{max_packet}
+use Rattle.std.proofs.lemmas.Bool.Decides.{nat_tests}
+use Rattle.wire.proofs.Exits.{refused_some}
 use Rattle.building.specs.Fault.{or_else, first_fault, fit_fault}
 use Rattle.building.specs.Field.{size_told}
 use Rattle.building.specs.Call.{Call, refused, done, refusal_of, outcome_by, outcome, buffer_after}
@@ -58,6 +61,50 @@ module _ {A : Type 0} (call : Call A) (buffer : List ℕ) (found : ℕ) (is : fo
       let end : ℕ = call.at + length call.bytes in
       let both = fit_none end (length buffer) (or_second (first_fault call.faults) (fit_fault end (length buffer)) (sym is ∙ h)) in
       (both.1, both.0)
+
+-- a size that is told as one which a packet may have is exact
+told_within : (size end : ℕ) → end ≡ size_told size → end ≤ max_packet → end ≡ size
+unfolding size_told
+told_within size end told within = omega arith
+
+-- a call with a fault of its own is refused with the first of them, and the buffer is as it was
+module _ {A : Type 0} (call : Call A) (some : eqb (first_fault call.faults) none ≡ false) where
+  pub own_answer : (room : ℕ) → outcome call room ≡ refused (first_fault call.faults)
+  unfolding outcome refusal_of
+  own_answer room = rw (some, some)
+
+  pub own_buffer : (buffer : List ℕ) → buffer_after call buffer ≡ buffer
+  unfolding buffer_after refusal_of
+  own_buffer buffer = rw (some, some)
+
+-- one that has none is refused where its bytes do not fit, by the end that was told, and the buffer is as it was
+module _ {A : Type 0} (call : Call A) (end : ℕ) (own : first_fault call.faults ≡ none) (told : end ≡ size_told (call.at + length call.bytes)) where
+  fit_is : (room : ℕ) → fit_fault end room ≡ refusal_of call room
+  fit_is room = found_by call room none (fit_fault end room) end (fit_fault end room) (sym own) refl told refl
+
+  pub fit_answer : (room : ℕ) → eqb (fit_fault end room) none ≡ false → outcome call room ≡ refused (fit_fault end room)
+  unfolding outcome
+  fit_answer room some = rw (← fit_is room, some)
+
+  pub fit_buffer : (buffer : List ℕ) → eqb (fit_fault end (length buffer)) none ≡ false → buffer_after call buffer ≡ buffer
+  unfolding buffer_after
+  fit_buffer buffer some = rw (← fit_is (length buffer), some)
+
+  -- where they fit, the call is done with the answer that is made of the end, and its bytes are written
+  pub done_made : (make : ℕ → A) (room : ℕ) → call.answer ≡ make (call.at + length call.bytes) → fit_fault end room ≡ none
+      → outcome call room ≡ done (make end)
+  unfolding outcome
+  done_made make room answer fits =
+      let exact : end ≡ call.at + length call.bytes = told_within (call.at + length call.bytes) end told (fit_none end room fits).0 in
+      rw (← fit_is room, fits, exact, answer)
+
+  pub done_answered : (room : ℕ) → fit_fault end room ≡ none → outcome call room ≡ done call.answer
+  unfolding outcome
+  done_answered room fits = rw (← fit_is room, fits)
+
+  pub done_written : (buffer : List ℕ) → fit_fault end (length buffer) ≡ none → buffer_after call buffer ≡ over buffer call.at call.bytes
+  unfolding buffer_after
+  done_written buffer fits = rw (← fit_is (length buffer), fits)
 
 -- the buffer after a call by the number that it is refused with, 0 for none
 after_by : {A : Type 0} (call : Call A) (buffer : List ℕ) (t : Bool) → eqb (refusal_of call (length buffer)) 0 ≡ t
@@ -118,3 +165,6 @@ pub long_refused : {A : Type 0} (call : Call A) (room : ℕ) → first_fault cal
     → outcome call room ≡ refused too_long
 long_refused call room own long =
     outcome_by_lem call room too_long own (sym (fit_by (call.at + length call.bytes) room false _ (lt-leb _ max_packet long) refl))
+
+-- what a call that looks for its faults, then whether its bytes fit, and then writes, needs at its returns
+pub ruleset calls = (nat_tests, append_assoc, append-nil, length-append, refused_some, own_answer, own_buffer, fit_answer, fit_buffer, done_answered, done_written)

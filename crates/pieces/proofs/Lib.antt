@@ -1,5 +1,4 @@
-pub mod Laws
-pub mod Pieces
 pub mod Possible
 pub mod Nulls
 pub mod Refusals
+pub mod Calls

@@ -1,7 +1,7 @@
 -- A header: its name, by code or spelled, and its value, judged as reading judges them.
 -- Document 01, 'Server to container', Header, and 'Building'. A second content-length is found when the packet is closed.
 -- Assumes nothing.
-use Rattle.std.specs.Prelude.{Bool, false, List, [], ◌∷◌, ◌++◌, ℕ, ◌+◌, length}
+use Rattle.std.specs.Prelude.{Bool, false, List, [], ◌∷◌, ◌++◌, ℕ, ◌+◌, length, Option, Some, None}
 use Rattle.wire.specs.Refusal.{none}
 use Rattle.wire.specs.Bytes.{integer_bytes}
 use Rattle.wire.specs.Field.{string_bytes}
@@ -9,8 +9,6 @@ use Rattle.packet.specs.declared.Direction.{Direction}
 use Rattle.wire.specs.declared.StringField.{StringField}
 use Rattle.names.specs.Header.{header_names, code_fault, spelled_fault}
 use Rattle.names.specs.Names.{code_in}
-use Rattle.std.specs.Prelude.{Option, Some, None}
-use Rattle.std.specs.Prelude.{None}
 use Rattle.headers.specs.Read.{LengthRead}
 use Rattle.headers.specs.Headers.{declares, declared_after}
 use Rattle.building.specs.Fault.{or_else, string_fault}

@@ -1,11 +1,13 @@
 -- What the answer of a piece says, in document 01's terms: refused with a number, or the next building record.
 -- Document 01, 'Building'.
 -- Assumes nothing.
+use Rattle.std.specs.Prelude.{Result, Ok, Err}
+use Rattle.wire.specs.Refusal.{number_of}
+use Rattle.wire.specs.declared.refusal.Refusal.{Refusal}
 use Rattle.building.specs.Call.{Outcome, refused, done}
 use Rattle.building_record.specs.declared.Building.{Building}
-use Rattle.pieces.specs.declared.Added.{Added}
 
 -- what each case of the answer says
-abbrev pub added_outcome : Added → Outcome Building
-added_outcome (Added.Refused n) = refused n
-added_outcome (Added.Next r) = done r
+abbrev pub added_outcome : Result Building Refusal → Outcome Building
+added_outcome (Err refusal) = refused (number_of refusal)
+added_outcome (Ok r) = done r

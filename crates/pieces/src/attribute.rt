@@ -1,9 +1,12 @@
 // An attribute of a Forward: with a string, an integer, or a name and a value.
+#![tactic(auto, using(crate::proofs::Calls::pieces), unfolding(building::specs::Fault::fit_fault, building::specs::Field::size_told, crate::specs::Attribute::text_call, crate::specs::Attribute::integer_call, crate::specs::Attribute::pair_call))]
+
 ghost use Rattle.std.specs.Prelude.{◌≡◌, ◌∷◌, ◌++◌, ◌≤◌, length};
 ghost use Rattle.wire.specs.Bytes.{over, integer_bytes};
 ghost use Rattle.wire.specs.Field.{string_bytes};
 ghost use Rattle.wire.specs.Refusal.{attribute_wrong};
 ghost use Rattle.wire.specs.Packet.{Fits};
+ghost use Rattle.wire.specs.Read.{fault_number};
 ghost use Rattle.names.specs.Attribute.{attribute_kind};
 ghost use Rattle.building.specs.Fault.{unless, or_else, first_fault};
 ghost use Rattle.building.specs.Field.{needed_at};
@@ -12,12 +15,13 @@ ghost use Rattle.building_record.specs.Record.{attribute_now};
 ghost use Rattle.pieces.specs.Meaning.{added_outcome};
 ghost use Rattle.pieces.specs.Attribute.{is_text, is_integer, is_pair, text_fields, integer_fields, pair_fields, text_call, integer_call, pair_call};
 
-use crate::{Added, with_attribute};
+use crate::with_attribute;
 use building::{fault, size};
 use building_record::Building;
 use names::attribute::kind_of;
 use packet::AttributeKind;
-use wire::{StringField, refusal, write};
+use wire::refusal::Refusal;
+use wire::{StringField, write};
 
 // The greatest code that a byte holds.
 const MAX_CODE: u16 = 255;
@@ -36,36 +40,21 @@ fn kind_of_code(code: u16) -> AttributeKind
 fn is_text(kind: AttributeKind) -> bool
     ensures { result ≡ is_text kind }
 {
-    match kind {
-        AttributeKind::NotServed => false,
-        AttributeKind::Text => true,
-        AttributeKind::Integer => false,
-        AttributeKind::Pair => false,
-    }
+    matches!(kind, AttributeKind::Text)
 }
 
 // Whether a kind of value is an integer.
 fn is_integer(kind: AttributeKind) -> bool
     ensures { result ≡ is_integer kind }
 {
-    match kind {
-        AttributeKind::NotServed => false,
-        AttributeKind::Text => false,
-        AttributeKind::Integer => true,
-        AttributeKind::Pair => false,
-    }
+    matches!(kind, AttributeKind::Integer)
 }
 
 // Whether a kind of value is a name and a value.
 fn is_pair(kind: AttributeKind) -> bool
     ensures { result ≡ is_pair kind }
 {
-    match kind {
-        AttributeKind::NotServed => false,
-        AttributeKind::Text => false,
-        AttributeKind::Integer => false,
-        AttributeKind::Pair => true,
-    }
+    matches!(kind, AttributeKind::Pair)
 }
 
 // How many bytes a buffer needs for an attribute with a string, 8193 where no packet has room for it.
@@ -99,28 +88,30 @@ pub fn pair_needs(
 }
 
 // The first fault of an attribute up to its value: the record, and a code that takes no value of this kind.
-fn code_fault(building: Building, buffer: &[u8], takes: bool) -> u8
-    ensures { result ≡ or_else (attribute_now building buffer.now) (unless takes attribute_wrong) }
+fn code_fault(building: Building, buffer: &[u8], takes: bool) -> Result<(), Refusal>
+    ensures { fault_number result ≡ or_else (attribute_now building buffer.now) (unless takes attribute_wrong) }
 {
-    fault::or_else(
-        building.attribute_now(buffer),
-        fault::unless(takes, refusal::ATTRIBUTE_WRONG),
-    )
+    building.attribute_now(buffer)?;
+    fault::unless(takes, Refusal::AttributeWrong)
 }
 
 // The first fault of an attribute with a string.
-fn text_fault(building: Building, buffer: &[u8], code: u16, null: bool, value: &[u8]) -> u8
-    ensures { result ≡ first_fault (text_call building buffer.now code null value.now).faults }
+fn text_fault(
+    building: Building,
+    buffer: &[u8],
+    code: u16,
+    null: bool,
+    value: &[u8],
+) -> Result<(), Refusal>
+    ensures { fault_number result ≡ first_fault (text_call building buffer.now code null value.now).faults }
 {
-    fault::or_else(
-        code_fault(building, buffer, is_text(kind_of_code(code))),
-        fault::string(StringField::AttributeValue, null, value),
-    )
+    code_fault(building, buffer, is_text(kind_of_code(code)))?;
+    fault::string(StringField::AttributeValue, null, value)
 }
 
 // The first fault of an attribute with an integer.
-fn integer_fault(building: Building, buffer: &[u8], code: u16, value: u16) -> u8
-    ensures { result ≡ first_fault (integer_call building buffer.now code value).faults }
+fn integer_fault(building: Building, buffer: &[u8], code: u16, value: u16) -> Result<(), Refusal>
+    ensures { fault_number result ≡ first_fault (integer_call building buffer.now code value).faults }
 {
     code_fault(building, buffer, is_integer(kind_of_code(code)))
 }
@@ -134,17 +125,12 @@ fn pair_fault(
     name: &[u8],
     novalue: bool,
     value: &[u8],
-) -> u8
-    ensures { result ≡ first_fault (pair_call building buffer.now code noname name.now novalue value.now).faults }
+) -> Result<(), Refusal>
+    ensures { fault_number result ≡ first_fault (pair_call building buffer.now code noname name.now novalue value.now).faults }
 {
-    let found = fault::or_else(
-        code_fault(building, buffer, is_pair(kind_of_code(code))),
-        fault::string(StringField::AttributeName, noname, name),
-    );
-    fault::or_else(
-        found,
-        fault::string(StringField::AttributeValue, novalue, value),
-    )
+    code_fault(building, buffer, is_pair(kind_of_code(code)))?;
+    fault::string(StringField::AttributeName, noname, name)?;
+    fault::string(StringField::AttributeValue, novalue, value)
 }
 
 // Writes an attribute with a string.
@@ -183,33 +169,38 @@ fn write_pair(
 }
 
 // Adds an attribute with a string.
-pub fn text(building: Building, buffer: &mut [u8], code: u16, null: bool, value: &[u8]) -> Added
+pub fn text(
+    building: Building,
+    buffer: &mut [u8],
+    code: u16,
+    null: bool,
+    value: &[u8],
+) -> Result<Building, Refusal>
     ensures result_value { added_outcome result ≡ outcome (text_call building buffer.old code null value.now) (length buffer.old) }
     ensures buffer_after { buffer.new ≡ buffer_after (text_call building buffer.old code null value.now) buffer.old }
 {
     let end = text_needs(building, code, null, value);
-    let found = text_fault(building, buffer, code, null, value);
-    let found = fault::or_else(found, fault::fit(end, buffer.len()));
-    if found != refusal::NONE {
-        return Added::Refused(found);
-    }
+    text_fault(building, buffer, code, null, value)?;
+    fault::fit(end, buffer.len())?;
     write_text(buffer, building.next.index(), code, null, value);
-    Added::Next(with_attribute(building, end))
+    Ok(with_attribute(building, end))
 }
 
 // Adds an attribute with an integer.
-pub fn integer(building: Building, buffer: &mut [u8], code: u16, value: u16) -> Added
+pub fn integer(
+    building: Building,
+    buffer: &mut [u8],
+    code: u16,
+    value: u16,
+) -> Result<Building, Refusal>
     ensures result_value { added_outcome result ≡ outcome (integer_call building buffer.old code value) (length buffer.old) }
     ensures buffer_after { buffer.new ≡ buffer_after (integer_call building buffer.old code value) buffer.old }
 {
     let end = integer_needs(building, code, value);
-    let found = integer_fault(building, buffer, code, value);
-    let found = fault::or_else(found, fault::fit(end, buffer.len()));
-    if found != refusal::NONE {
-        return Added::Refused(found);
-    }
+    integer_fault(building, buffer, code, value)?;
+    fault::fit(end, buffer.len())?;
     write_integer(buffer, building.next.index(), code, value);
-    Added::Next(with_attribute(building, end))
+    Ok(with_attribute(building, end))
 }
 
 // Adds an attribute with a name and a value. `noname` and `novalue` say that the string is null; the text given for it then does not
@@ -222,16 +213,13 @@ pub fn pair(
     name: &[u8],
     novalue: bool,
     value: &[u8],
-) -> Added
+) -> Result<Building, Refusal>
     ensures result_value { added_outcome result ≡ outcome (pair_call building buffer.old code noname name.now novalue value.now) (length buffer.old) }
     ensures buffer_after { buffer.new ≡ buffer_after (pair_call building buffer.old code noname name.now novalue value.now) buffer.old }
 {
     let end = pair_needs(building, code, noname, name, novalue, value);
-    let found = pair_fault(building, buffer, code, noname, name, novalue, value);
-    let found = fault::or_else(found, fault::fit(end, buffer.len()));
-    if found != refusal::NONE {
-        return Added::Refused(found);
-    }
+    pair_fault(building, buffer, code, noname, name, novalue, value)?;
+    fault::fit(end, buffer.len())?;
     write_pair(
         buffer,
         building.next.index(),
@@ -241,5 +229,5 @@ pub fn pair(
         novalue,
         value,
     );
-    Added::Next(with_attribute(building, end))
+    Ok(with_attribute(building, end))
 }

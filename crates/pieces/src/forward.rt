@@ -1,7 +1,10 @@
 // The fixed fields of a Forward.
+#![tactic(auto, using(crate::proofs::Calls::pieces), unfolding(building::specs::Fault::range_fault, building::specs::Fault::fit_fault, building::specs::Field::size_told, crate::specs::Fixed::forward_call))]
+
 ghost use Rattle.std.specs.Prelude.{◌≡◌, ◌+◌, ◌≤◌, length};
 ghost use Rattle.wire.specs.Bytes.{over};
 ghost use Rattle.wire.specs.Packet.{Fits};
+ghost use Rattle.wire.specs.Read.{fault_number};
 ghost use Rattle.payload.specs.Forward.{last_method};
 ghost use Rattle.building.specs.Fault.{first_fault};
 ghost use Rattle.building.specs.Field.{faults_of, fields_bytes, needed_at};
@@ -11,12 +14,13 @@ ghost use Rattle.pieces.specs.Meaning.{added_outcome};
 ghost use Rattle.pieces.specs.Fixed.{no_nulls, fixed, forward_fields, forward_call};
 ghost use Rattle.pieces.specs.Private.{forward_strings, forward_tail};
 
-use crate::{Added, COUNT_SIZE, opened};
+use crate::{COUNT_SIZE, opened};
 use building::{fault, opening, size};
-use building_record::BuildingKind;
+use building_record::{Building, BuildingKind};
 use connection::Kind;
 use payload::forward::{FIRST_METHOD, LAST_METHOD};
-use wire::{AFTER_CODE_PLACE, StringField, refusal, write};
+use wire::refusal::Refusal;
+use wire::{AFTER_CODE_PLACE, StringField, write};
 
 // A Forward's fixed numbers.
 #[derive(Clone, Copy)]
@@ -85,20 +89,15 @@ fn fields_fault(
     addr: &[u8],
     host: &[u8],
     name: &[u8],
-) -> u8
-    ensures { result ≡ first_fault (faults_of (fixed BuildingKind.Forward (forward_fields numbers nulls protocol.now uri.now addr.now host.now name.now))) }
+) -> Result<(), Refusal>
+    ensures { fault_number result ≡ first_fault (faults_of (fixed BuildingKind.Forward (forward_fields numbers nulls protocol.now uri.now addr.now host.now name.now))) }
 {
-    let method = fault::range(FIRST_METHOD, LAST_METHOD, numbers.method);
-    let first = fault::string(StringField::Protocol, nulls.protocol, protocol);
-    let second = fault::string(StringField::ReqUri, nulls.req_uri, uri);
-    let third = fault::string(StringField::RemoteAddr, nulls.remote_addr, addr);
-    let fourth = fault::string(StringField::RemoteHost, nulls.remote_host, host);
-    let fifth = fault::string(StringField::ServerName, nulls.server_name, name);
-    let found = fault::or_else(method, first);
-    let found = fault::or_else(found, second);
-    let found = fault::or_else(found, third);
-    let found = fault::or_else(found, fourth);
-    fault::or_else(found, fifth)
+    fault::range(FIRST_METHOD, LAST_METHOD, numbers.method)?;
+    fault::string(StringField::Protocol, nulls.protocol, protocol)?;
+    fault::string(StringField::ReqUri, nulls.req_uri, uri)?;
+    fault::string(StringField::RemoteAddr, nulls.remote_addr, addr)?;
+    fault::string(StringField::RemoteHost, nulls.remote_host, host)?;
+    fault::string(StringField::ServerName, nulls.server_name, name)
 }
 
 // Writes the five strings and tells the place behind them.
@@ -154,8 +153,8 @@ fn write(
     tail(buffer, at, numbers);
 }
 
-// Begins a Forward with one fault more, 0 for none, that the caller found in a field: it counts behind the faults of the other fields, and
-// before 2 and 15.
+// Begins a Forward with one fault more, if there is one, that the caller found in a field: it counts behind the faults of the other fields,
+// and before 2 and 15.
 pub fn begin_with(
     buffer: &mut [u8],
     numbers: Numbers,
@@ -165,20 +164,17 @@ pub fn begin_with(
     addr: &[u8],
     host: &[u8],
     name: &[u8],
-    later: u8,
-) -> Added
-    ensures result_value { added_outcome result ≡ outcome (with_fault (forward_call numbers nulls protocol.now uri.now addr.now host.now name.now) later) (length buffer.old) }
-    ensures buffer_after { buffer.new ≡ buffer_after (with_fault (forward_call numbers nulls protocol.now uri.now addr.now host.now name.now) later) buffer.old }
+    later: Result<(), Refusal>,
+) -> Result<Building, Refusal>
+    ensures result_value { added_outcome result ≡ outcome (with_fault (forward_call numbers nulls protocol.now uri.now addr.now host.now name.now) (fault_number later)) (length buffer.old) }
+    ensures buffer_after { buffer.new ≡ buffer_after (with_fault (forward_call numbers nulls protocol.now uri.now addr.now host.now name.now) (fault_number later)) buffer.old }
 {
     let end = needs(numbers, nulls, protocol, uri, addr, host, name);
-    let found = fields_fault(numbers, nulls, protocol, uri, addr, host, name);
-    let found = fault::or_else(found, later);
-    let found = fault::or_else(found, fault::fit(end, buffer.len()));
-    if found != refusal::NONE {
-        return Added::Refused(found);
-    }
+    fields_fault(numbers, nulls, protocol, uri, addr, host, name)?;
+    later?;
+    fault::fit(end, buffer.len())?;
     write(buffer, numbers, nulls, protocol, uri, addr, host, name);
-    Added::Next(opened(BuildingKind::Forward, end))
+    Ok(opened(BuildingKind::Forward, end))
 }
 
 // Begins a Forward: writes its fixed fields at the buffer's start, its length and its count as 0, and answers the building record.
@@ -191,7 +187,7 @@ pub fn begin(
     addr: &[u8],
     host: &[u8],
     name: &[u8],
-) -> Added
+) -> Result<Building, Refusal>
     ensures result_value { added_outcome result ≡ outcome (forward_call numbers nulls protocol.now uri.now addr.now host.now name.now) (length buffer.old) }
     ensures buffer_after { buffer.new ≡ buffer_after (forward_call numbers nulls protocol.now uri.now addr.now host.now name.now) buffer.old }
 {
@@ -204,6 +200,6 @@ pub fn begin(
         addr,
         host,
         name,
-        refusal::NONE,
+        Ok(()),
     )
 }

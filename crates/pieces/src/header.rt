@@ -1,8 +1,11 @@
 // A header, of a Forward or of a Send Headers.
+#![tactic(auto, using(crate::proofs::Calls::pieces), unfolding(building::specs::Fault::fit_fault, building::specs::Field::size_told, building_record::specs::Record::count_fault, crate::specs::Header::value_fault, crate::specs::Header::coded_call, crate::specs::Header::spelled_call, crate::specs::Header::named_call))]
+
 ghost use Rattle.std.specs.Prelude.{◌≡◌, ◌++◌, length};
 ghost use Rattle.wire.specs.Bytes.{over, integer_bytes};
 ghost use Rattle.wire.specs.Field.{string_bytes};
 ghost use Rattle.wire.specs.Packet.{Fits};
+ghost use Rattle.wire.specs.Read.{fault_number};
 ghost use Rattle.names.specs.Header.{header_names};
 ghost use Rattle.names.specs.Names.{code_in};
 ghost use Rattle.building.specs.Fault.{first_fault};
@@ -10,18 +13,17 @@ ghost use Rattle.building.specs.Field.{needed_at};
 ghost use Rattle.building.specs.Call.{outcome, buffer_after};
 ghost use Rattle.building_record.specs.Record.{direction_in};
 ghost use Rattle.pieces.specs.Meaning.{added_outcome};
-ghost use Rattle.pieces.specs.Header.{length_fault, value_fault, spelled_name, coded_fields, spelled_fields, coded_call, spelled_call, named_call, named_needs};
+ghost use Rattle.pieces.specs.Header.{value_fault, spelled_name, coded_fields, spelled_fields, coded_call, spelled_call, named_call, named_needs};
 
 use crate::code::of_header;
-use crate::{Added, with_header};
+use crate::with_header;
 use building::{fault, size};
 use building_record::Building;
-use headers::length::{Declared, LengthRead};
 use headers::{declared_after, declares_length};
 use names::header::{code_fault, spelled_fault};
-use names::{token};
 use packet::Direction;
-use wire::{StringField, refusal, write};
+use wire::refusal::Refusal;
+use wire::{StringField, write};
 
 // How many bytes a buffer needs for a header with a code for its name, 8193 where no packet has room for it.
 pub fn coded_needs(building: Building, code: u16, null: bool, value: &[u8]) -> usize
@@ -55,55 +57,44 @@ pub fn spelled_needs(
 pub fn named_needs(building: Building, name: &[u8], null: bool, value: &[u8]) -> usize
     ensures { result ≡ named_needs building name.now null value.now (code_in (header_names (direction_in building)) name.now) }
 {
-    let kind = building.kind;
-    match of_header(kind, name) {
+    match of_header(building.kind, name) {
         Some(code) => coded_needs(building, code, null, value),
         None => spelled_needs(building, false, name, null, value),
     }
 }
 
-// The fault of what a value declares.
-fn length_fault(length: LengthRead) -> u8
-    ensures { result ≡ length_fault length }
-{
-    match length {
-        LengthRead::Refused(n) => n,
-        LengthRead::Now(_) => refusal::NONE,
-    }
-}
-
 // The fault of a header's value.
-fn value_fault(declares: bool, null: bool, text: &[u8]) -> u8
-    ensures { result ≡ value_fault declares null text.now }
+fn value_fault(declares: bool, null: bool, text: &[u8]) -> Result<(), Refusal>
+    ensures { fault_number result ≡ value_fault declares null text.now }
 {
-    fault::or_else(
-        fault::string(StringField::HeaderValue, null, text),
-        length_fault(declared_after(declares, Declared::Absent, null, text)),
-    )
+    fault::string(StringField::HeaderValue, null, text)?;
+    declared_after(declares, None, null, text)?;
+    Ok(())
 }
 
 // The fault of a header's spelled name.
-fn name_fault(direction: Direction, null: bool, text: &[u8]) -> u8
-    ensures { result ≡ (spelled_name direction null text.now).fault }
+fn name_fault(direction: Direction, null: bool, text: &[u8]) -> Result<(), Refusal>
+    ensures { fault_number result ≡ (spelled_name direction null text.now).fault }
 {
-    let flags = token::flags();
-    fault::or_else(
-        fault::string(StringField::HeaderName, null, text),
-        spelled_fault(direction, text, &flags),
-    )
+    fault::string(StringField::HeaderName, null, text)?;
+    spelled_fault(direction, text)
 }
 
 // The first fault of a header by code: the record, the name, the value, the number of headers.
-fn coded_header_fault(building: Building, buffer: &[u8], code: u16, null: bool, value: &[u8]) -> u8
-    ensures { result ≡ first_fault (coded_call building buffer.now code null value.now).faults }
+fn coded_header_fault(
+    building: Building,
+    buffer: &[u8],
+    code: u16,
+    null: bool,
+    value: &[u8],
+) -> Result<(), Refusal>
+    ensures { fault_number result ≡ first_fault (coded_call building buffer.now code null value.now).faults }
 {
     let direction = building.direction();
-    let named = fault::or_else(building.header_now(buffer), code_fault(direction, code));
-    let valued = fault::or_else(
-        named,
-        value_fault(declares_length(direction, code), null, value),
-    );
-    fault::or_else(valued, building.count_fault())
+    building.header_now(buffer)?;
+    code_fault(direction, code)?;
+    value_fault(declares_length(direction, code), null, value)?;
+    building.count_fault()
 }
 
 // The first fault of a header with a spelled name.
@@ -114,15 +105,13 @@ fn spelled_header_fault(
     name: &[u8],
     novalue: bool,
     value: &[u8],
-) -> u8
-    ensures { result ≡ first_fault (spelled_call building buffer.now noname name.now novalue value.now).faults }
+) -> Result<(), Refusal>
+    ensures { fault_number result ≡ first_fault (spelled_call building buffer.now noname name.now novalue value.now).faults }
 {
-    let found = fault::or_else(
-        building.header_now(buffer),
-        name_fault(building.direction(), noname, name),
-    );
-    let found = fault::or_else(found, value_fault(false, novalue, value));
-    fault::or_else(found, building.count_fault())
+    building.header_now(buffer)?;
+    name_fault(building.direction(), noname, name)?;
+    value_fault(false, novalue, value)?;
+    building.count_fault()
 }
 
 // Writes a header with a code for its name.
@@ -135,18 +124,21 @@ fn write_coded(buffer: &mut [u8], at: usize, code: u16, null: bool, value: &[u8]
 }
 
 // Adds a header with a code for its name.
-pub fn coded(building: Building, buffer: &mut [u8], code: u16, null: bool, value: &[u8]) -> Added
+pub fn coded(
+    building: Building,
+    buffer: &mut [u8],
+    code: u16,
+    null: bool,
+    value: &[u8],
+) -> Result<Building, Refusal>
     ensures result_value { added_outcome result ≡ outcome (coded_call building buffer.old code null value.now) (length buffer.old) }
     ensures buffer_after { buffer.new ≡ buffer_after (coded_call building buffer.old code null value.now) buffer.old }
 {
     let end = coded_needs(building, code, null, value);
-    let found = coded_header_fault(building, buffer, code, null, value);
-    let found = fault::or_else(found, fault::fit(end, buffer.len()));
-    if found != refusal::NONE {
-        return Added::Refused(found);
-    }
+    coded_header_fault(building, buffer, code, null, value)?;
+    fault::fit(end, buffer.len())?;
     write_coded(buffer, building.next.index(), code, null, value);
-    Added::Next(with_header(building, end))
+    Ok(with_header(building, end))
 }
 
 // Adds a header with a spelled name. `noname` and `novalue` say that the string is null; the text given for it then does not matter.
@@ -157,27 +149,29 @@ pub fn spelled(
     name: &[u8],
     novalue: bool,
     value: &[u8],
-) -> Added
+) -> Result<Building, Refusal>
     ensures result_value { added_outcome result ≡ outcome (spelled_call building buffer.old noname name.now novalue value.now) (length buffer.old) }
     ensures buffer_after { buffer.new ≡ buffer_after (spelled_call building buffer.old noname name.now novalue value.now) buffer.old }
 {
     let end = spelled_needs(building, noname, name, novalue, value);
-    let found = spelled_header_fault(building, buffer, noname, name, novalue, value);
-    let found = fault::or_else(found, fault::fit(end, buffer.len()));
-    if found != refusal::NONE {
-        return Added::Refused(found);
-    }
+    spelled_header_fault(building, buffer, noname, name, novalue, value)?;
+    fault::fit(end, buffer.len())?;
     write::two_strings(buffer, building.next.index(), noname, name, novalue, value);
-    Added::Next(with_header(building, end))
+    Ok(with_header(building, end))
 }
 
 // Adds a header whose name is given as a text: by its code where the name is listed, else spelled out.
-pub fn named(building: Building, buffer: &mut [u8], name: &[u8], null: bool, value: &[u8]) -> Added
+pub fn named(
+    building: Building,
+    buffer: &mut [u8],
+    name: &[u8],
+    null: bool,
+    value: &[u8],
+) -> Result<Building, Refusal>
     ensures result_value { added_outcome result ≡ outcome (named_call building buffer.old name.now null value.now) (length buffer.old) }
     ensures buffer_after { buffer.new ≡ buffer_after (named_call building buffer.old name.now null value.now) buffer.old }
 {
-    let kind = building.kind;
-    match of_header(kind, name) {
+    match of_header(building.kind, name) {
         Some(code) => coded(building, buffer, code, null, value),
         None => spelled(building, buffer, false, name, null, value),
     }

@@ -19,26 +19,15 @@ pub mod forward;
 pub mod header;
 pub mod send_headers;
 
-// What a piece answers: the refusal's number, or the next building record.
-#[derive(Clone, Copy)]
-pub enum Added {
-    Refused(u8),
-    Next(Building),
-}
-
 // The record behind a header that ends at a place.
 fn with_header(building: Building, end: usize) -> Building
     requires { (end ≤ max_packet) × (building.headers < max_headers) }
     ensures { result ≡ with_header building end }
 {
-    let kind = building.kind;
-    let count = building.count;
     Building {
-        kind,
         next: Place(end as u16),
-        count,
         headers: building.headers + 1,
-        attributes: building.attributes,
+        ..building
     }
 }
 
@@ -47,14 +36,10 @@ fn with_attribute(building: Building, end: usize) -> Building
     requires { end ≤ max_packet }
     ensures { result ≡ with_attribute building end }
 {
-    let kind = building.kind;
-    let count = building.count;
     Building {
-        kind,
         next: Place(end as u16),
-        count,
-        headers: building.headers,
         attributes: true,
+        ..building
     }
 }
 

@@ -1,7 +1,10 @@
 // The fixed fields of a Send Headers.
+#![tactic(auto, using(crate::proofs::Calls::pieces), unfolding(building::specs::Fault::fit_fault, building::specs::Field::size_told, crate::specs::Fixed::send_headers_call))]
+
 ghost use Rattle.std.specs.Prelude.{◌≡◌, length};
 ghost use Rattle.wire.specs.Bytes.{over};
 ghost use Rattle.wire.specs.Packet.{Fits};
+ghost use Rattle.wire.specs.Read.{fault_number};
 ghost use Rattle.building.specs.Fault.{first_fault};
 ghost use Rattle.building.specs.Field.{faults_of, fields_bytes, needed_at};
 ghost use Rattle.building.specs.Call.{outcome, buffer_after};
@@ -9,12 +12,13 @@ ghost use Rattle.building_record.specs.declared.BuildingKind.{BuildingKind};
 ghost use Rattle.pieces.specs.Meaning.{added_outcome};
 ghost use Rattle.pieces.specs.Fixed.{fixed, send_headers_fields, send_headers_call};
 
-use crate::{Added, COUNT_SIZE, opened};
+use crate::{COUNT_SIZE, opened};
 use building::{fault, opening, size};
-use building_record::BuildingKind;
+use building_record::{Building, BuildingKind};
 use connection::Kind;
 use payload::send_headers::{GREATEST_STATUS, LEAST_STATUS};
-use wire::{AFTER_CODE_PLACE, StringField, refusal, write};
+use wire::refusal::Refusal;
+use wire::{AFTER_CODE_PLACE, StringField, write};
 
 // The bytes in front of the message: four, the code and the status.
 const BEFORE_MESSAGE: usize = AFTER_CODE_PLACE + size::INTEGER;
@@ -27,13 +31,11 @@ pub fn needs(status: u16, null: bool, message: &[u8]) -> usize
 }
 
 // The first fault of the fixed fields.
-fn fields_fault(status: u16, null: bool, message: &[u8]) -> u8
-    ensures { result ≡ first_fault (faults_of (fixed BuildingKind.SendHeaders (send_headers_fields status null message.now))) }
+fn fields_fault(status: u16, null: bool, message: &[u8]) -> Result<(), Refusal>
+    ensures { fault_number result ≡ first_fault (faults_of (fixed BuildingKind.SendHeaders (send_headers_fields status null message.now))) }
 {
-    fault::or_else(
-        fault::range(LEAST_STATUS, GREATEST_STATUS, status),
-        fault::string(StringField::Message, null, message),
-    )
+    fault::range(LEAST_STATUS, GREATEST_STATUS, status)?;
+    fault::string(StringField::Message, null, message)
 }
 
 // Writes the fixed fields.
@@ -48,18 +50,18 @@ fn write(buffer: &mut [u8], status: u16, null: bool, message: &[u8])
 }
 
 // Begins a Send Headers: writes its fixed fields at the buffer's start, its length and its count as 0, and answers the building record.
-pub fn begin(buffer: &mut [u8], status: u16, null: bool, message: &[u8]) -> Added
+pub fn begin(
+    buffer: &mut [u8],
+    status: u16,
+    null: bool,
+    message: &[u8],
+) -> Result<Building, Refusal>
     ensures result_value { added_outcome result ≡ outcome (send_headers_call status null message.now) (length buffer.old) }
     ensures buffer_after { buffer.new ≡ buffer_after (send_headers_call status null message.now) buffer.old }
 {
     let end = needs(status, null, message);
-    let found = fault::or_else(
-        fields_fault(status, null, message),
-        fault::fit(end, buffer.len()),
-    );
-    if found != refusal::NONE {
-        return Added::Refused(found);
-    }
+    fields_fault(status, null, message)?;
+    fault::fit(end, buffer.len())?;
     write(buffer, status, null, message);
-    Added::Next(opened(BuildingKind::SendHeaders, end))
+    Ok(opened(BuildingKind::SendHeaders, end))
 }
