@@ -32,26 +32,6 @@ use Rattle.reading_laws.proofs.Refusals.{reading_refusal}
 use Rattle.capture.specs.Course.{direction_in, first_in, Seen, Course, stopped, before, all_before, course_then, course_by, course, fed, fed_all, joined, seen_bytes, total, one_each, size_of}
 use Rattle.capture.specs.Facts.{TakenInside, AtMostBytes}
 
--- which way the first packet goes, by the test on the first byte
-pub direction_is : (s bytes : List ℕ) (t : Bool) → bytes ≡ leading Direction.ToServer → eqb (get_or s 0 0) (get_or bytes 0 0) ≡ t
-    → pick t Direction.ToServer Direction.ToContainer ≡ direction_in s
-unfolding direction_in
-direction_is s bytes t b e =
-    ap (λ (test : Bool). pick test Direction.ToServer Direction.ToContainer)
-    (sym e ∙ ap (λ (l : List ℕ). eqb (get_or s 0 0) (get_or l 0 0)) b)
-
--- no bytes are taken for a packet to the container
-pub direction_none : (s : List ℕ) → length s ≡ 0 → Direction.ToContainer ≡ direction_in s
-unfolding direction_in
-direction_none [] e = refl
-direction_none (x ∷ s) e = absurd (let z : suc (length s) ≡ 0 = e in omega arith)
-
--- what reading answers, by the direction and the table's length
-pub first_is : (c : Connection) (s : List ℕ) (direction : Direction) (room : ℕ) → direction ≡ direction_in s → room ≡ max_places
-    → reading direction c s room ≡ first_in c s
-unfolding first_in
-first_is c s direction room d r = rw (d, r)
-
 -- the answer to the first packet
 module _ (c : Connection) (s : List ℕ) where
   -- an accepted packet has at least 4 bytes, at most 8192, and all are there
