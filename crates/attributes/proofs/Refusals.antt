@@ -10,8 +10,7 @@ use Rattle.wire.specs.Pick.{pick, one_of}
 use Rattle.wire.specs.Refusal.{none, cut_short, too_many, is_refusal}
 use Rattle.wire.specs.Field.{integer_at, string_at, is_optional}
 use Rattle.wire.specs.declared.StringField.{StringField}
-use Rattle.wire.specs.Read.{NumberRead}
-use Rattle.wire.specs.Read.{StringRead}
+use Rattle.wire.specs.Read.{NumberRead, StringRead}
 use Rattle.wire.proofs.Refusals.{fault_refusal, NumberRefusal, integer_refusal, StringRefusal, string_refusal}
 use Rattle.names.specs.Attribute.{attribute_kind, attribute_fault}
 use Rattle.names.proofs.Refusals.{attribute_fault_lem}

@@ -6,8 +6,7 @@ use Rattle.wire.specs.Pick.{pick, one_of}
 use Rattle.wire.specs.Refusal.{none, cut_short, string_wrong, attribute_wrong, too_many, number_of}
 use Rattle.wire.specs.Field.{integer_at, string_at, is_optional}
 use Rattle.wire.specs.declared.StringField.{StringField}
-use Rattle.wire.specs.Read.{NumberRead}
-use Rattle.wire.specs.Read.{StringRead}
+use Rattle.wire.specs.Read.{NumberRead, StringRead}
 use Rattle.names.specs.Attribute.{attribute_kind, attribute_fault}
 use Rattle.packet.specs.declared.AttributeKind.{AttributeKind}
 use Rattle.places.specs.Entries.{Entries, ended, front}

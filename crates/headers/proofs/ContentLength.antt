@@ -15,7 +15,6 @@ use lib.Seq.{drop-cons}
 use Rattle.wire.specs.Pick.{pick, between}
 use Rattle.wire.proofs.Tests.{both_second}
 use Rattle.std.specs.Prelude.{Option, Some, None}
-use Rattle.std.specs.Prelude.{Option, Some, None}
 use Rattle.headers.specs.Read.{LengthRead}
 use Rattle.wire.specs.Refusal.{is_refusal}
 use Rattle.names.specs.declared.NameList.{NameList}

@@ -15,20 +15,16 @@ use Rattle.wire.specs.Bytes.{part, over}
 use Rattle.wire.specs.Field.{integer_at, is_optional, string_at}
 use Rattle.packet.specs.declared.Direction.{Direction}
 use Rattle.wire.specs.declared.StringField.{StringField}
-use Rattle.wire.specs.Read.{NumberRead}
-use Rattle.wire.specs.Read.{StringRead}
+use Rattle.wire.specs.Read.{NumberRead, StringRead}
 use Rattle.wire.specs.Facts.{NumberInside, StringInside}
 use Rattle.wire.proofs.Field.{integer_inside, string_inside}
 use Rattle.names.specs.Header.{begins_code, code_fault, spelled_fault}
 use Rattle.std.specs.Prelude.{Option, None}
-use Rattle.headers.specs.Read.{LengthRead}
+use Rattle.headers.specs.Read.{LengthRead, NameRead, HeaderRead, HeadersRead}
 use Rattle.places.specs.Entries.{Entries, ended, front}
 use Rattle.places.proofs.Filling.{Filling, filling_start, filling_turn, filling_stop, filling_end}
 use Rattle.headers.specs.Headers.{code_name_of, spelled_at, spelled_of, name_at, declared_after, header_valued, header_value_of, header_value_at, header_of, header_at, header_then, headers_at}
 use Rattle.headers.specs.Facts.{NameInside, HeaderInside, HeadersInside}
-use Rattle.headers.specs.Read.{NameRead}
-use Rattle.headers.specs.Read.{HeaderRead}
-use Rattle.headers.specs.Read.{HeadersRead}
 
 -- a name by its code, by the fault of the code and the test on it
 pub code_is : (d : Direction) (number : NumberRead) (code next fault : ℕ) (t : Bool) → number ≡ NumberRead.Number code next

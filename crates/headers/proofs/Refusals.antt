@@ -11,20 +11,16 @@ use Rattle.wire.specs.Refusal.{none, cut_short, is_refusal, is_fault}
 use Rattle.wire.specs.Bytes.{part}
 use Rattle.wire.specs.Field.{integer_at, string_at, is_optional}
 use Rattle.wire.specs.declared.StringField.{StringField}
-use Rattle.wire.specs.Read.{NumberRead}
-use Rattle.wire.specs.Read.{StringRead}
+use Rattle.wire.specs.Read.{NumberRead, StringRead}
 use Rattle.wire.proofs.Refusals.{fault_refusal, NumberRefusal, integer_refusal, StringRefusal, string_refusal}
 use Rattle.packet.specs.declared.Direction.{Direction}
 use Rattle.names.specs.Header.{begins_code, code_fault, spelled_fault}
 use Rattle.std.specs.Prelude.{Option}
-use Rattle.headers.specs.Read.{LengthRead}
+use Rattle.headers.specs.Read.{LengthRead, NameRead, HeaderRead, HeadersRead}
 use Rattle.names.proofs.Refusals.{code_fault_lem, spelled_fault_lem}
 use Rattle.headers.proofs.ContentLength.{LengthRefusal, length_refusal}
 use Rattle.places.specs.Entries.{Entries}
 use Rattle.headers.specs.Headers.{name_unless, code_name_of, spelled_at, spelled_of, name_at, declares, declared_after, header_valued, header_value_of, header_value_at, header_of, header_at, header_then, headers_at}
-use Rattle.headers.specs.Read.{NameRead}
-use Rattle.headers.specs.Read.{HeaderRead}
-use Rattle.headers.specs.Read.{HeadersRead}
 
 -- a name, where it is refused
 abbrev pub NameRefusal : NameRead → Type 0

@@ -1,9 +1,7 @@
 -- What the laws of reading headers say: what is answered lies inside a packet of n bytes.
 -- Assumes nothing.
 use Rattle.std.specs.Prelude.{◌≡◌, List, ℕ, ◌+◌, ◌≤◌, length}
-use Rattle.headers.specs.Read.{NameRead}
-use Rattle.headers.specs.Read.{HeaderRead}
-use Rattle.headers.specs.Read.{HeadersRead}
+use Rattle.headers.specs.Read.{NameRead, HeaderRead, HeadersRead}
 
 -- a name at a place, with its end behind its code or behind its zero
 abbrev pub NameInside : ℕ → ℕ → NameRead → Type 0

@@ -1,23 +1,18 @@
 -- A header is a name and then a value string; headers stand one after the other.
 -- Document 01, 'Server to container', Header, and 'Refusal numbers': where a name's and a length's faults are told.
 -- Assumes nothing.
-use Rattle.std.specs.Prelude.{Bool, true, false, List, [], ℕ, zero, suc, ◌+◌, leb, eqb, length, get_or}
+use Rattle.std.specs.Prelude.{Bool, true, false, List, [], ℕ, zero, suc, ◌+◌, leb, eqb, length, get_or, Option}
 use Rattle.wire.specs.Pick.{pick, both}
 use Rattle.wire.specs.Refusal.{none, cut_short, string_wrong}
 use Rattle.wire.specs.Bytes.{part}
 use Rattle.wire.specs.Field.{integer_at, string_at, is_optional}
 use Rattle.packet.specs.declared.Direction.{Direction}
 use Rattle.wire.specs.declared.StringField.{StringField}
-use Rattle.wire.specs.Read.{NumberRead}
-use Rattle.wire.specs.Read.{StringRead}
+use Rattle.wire.specs.Read.{NumberRead, StringRead}
 use Rattle.names.specs.Header.{begins_code, code_fault, spelled_fault, is_request}
 use Rattle.headers.specs.Length.{is_content_length, length_after}
-use Rattle.std.specs.Prelude.{Option}
-use Rattle.headers.specs.Read.{LengthRead}
+use Rattle.headers.specs.Read.{LengthRead, NameRead, HeaderRead, HeadersRead}
 use Rattle.places.specs.Entries.{Entries, ended, front}
-use Rattle.headers.specs.Read.{NameRead}
-use Rattle.headers.specs.Read.{HeaderRead}
-use Rattle.headers.specs.Read.{HeadersRead}
 
 -- a name, unless it has a fault
 abbrev pub name_unless : ℕ → NameRead → NameRead

@@ -1,11 +1,9 @@
 -- The declared length of a request's body: the value of content-length.
 -- Document 01, 'Server to container', Header, and row 10 of its refusals.
 -- Assumes nothing.
-use Rattle.std.specs.Prelude.{Bool, List, [], ◌∷◌, ℕ, ◌+◌, ◌-◌, ◌*◌, leb, eqb, length}
+use Rattle.std.specs.Prelude.{Bool, List, [], ◌∷◌, ℕ, ◌+◌, ◌-◌, ◌*◌, leb, eqb, length, Option, Some, None}
 use Rattle.wire.specs.Pick.{pick, between}
 use Rattle.wire.specs.Refusal.{content_length_wrong}
-use Rattle.std.specs.Prelude.{Option, Some, None}
-use Rattle.std.specs.Prelude.{Option, Some, None}
 use Rattle.headers.specs.Read.{LengthRead}
 
 -- the greatest length that can be declared

@@ -14,14 +14,12 @@ use Rattle.wire.specs.Refusal.{string_wrong}
 use Rattle.wire.specs.Bytes.{integer_in}
 use Rattle.wire.specs.Field.{integer_at, null_length, is_optional, lacks, holds_barred, after_length, string_at, string_allowed}
 use Rattle.wire.specs.declared.StringField.{StringField}
-use Rattle.wire.specs.Read.{NumberRead}
-use Rattle.wire.specs.Read.{StringRead}
+use Rattle.wire.specs.Read.{NumberRead, StringRead}
 use Rattle.wire.proofs.Field.{number_read, string_is, after_is, text_barred}
 use Rattle.packet.specs.declared.Direction.{Direction}
 use Rattle.names.specs.Header.{begins_code, spelled_fault}
 use Rattle.headers.specs.Headers.{spelled_of, name_at, declared_after, header_value_of, header_value_at}
-use Rattle.headers.specs.Read.{NameRead}
-use Rattle.headers.specs.Read.{HeaderRead}
+use Rattle.headers.specs.Read.{NameRead, HeaderRead}
 use Rattle.std.specs.Prelude.{Option, None}
 use Rattle.building.specs.Fault.{or_else, string_fault}
 use Rattle.pieces.specs.Header.{length_fault, value_fault}

@@ -30,7 +30,6 @@ use Rattle.names.specs.Names.{code_in}
 use Rattle.std.specs.Prelude.{Option, Some, None}
 use Rattle.headers.specs.Headers.{name_at, declares}
 use Rattle.headers.specs.Read.{NameRead}
-use Rattle.std.specs.Prelude.{Option, None}
 use Rattle.connection.specs.declared.Connection.{Connection}
 use Rattle.places.specs.Entries.{max_places}
 use Rattle.payload.specs.Forward.{forward_at}

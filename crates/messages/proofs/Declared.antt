@@ -20,13 +20,10 @@ use Rattle.names.specs.Header.{code_fault, is_found, unlisted_fault, spelled_fau
 use Rattle.names.specs.Token.{is_token}
 use Rattle.headers.specs.Length.{digits, decimal_of, decimal_declared, is_content_length, declared_length}
 use Rattle.names.specs.declared.NameList.{NameList}
-use Rattle.std.specs.Prelude.{Some}
-use Rattle.std.specs.Prelude.{Option, Some, None}
-use Rattle.std.specs.Prelude.{Option, Some, None}
-use Rattle.headers.specs.Read.{LengthRead}
+use Rattle.std.specs.Prelude.{Some, Option, None}
+use Rattle.headers.specs.Read.{LengthRead, NameRead}
 use Rattle.names.proofs.Rule.{agree}
 use Rattle.headers.specs.Headers.{name_at, declared_after}
-use Rattle.headers.specs.Read.{NameRead}
 use Rattle.connection.specs.declared.Connection.{Connection}
 use Rattle.packet.specs.declared.Forward.{Forward}
 use Rattle.packet.specs.declared.Packet.{Packet}

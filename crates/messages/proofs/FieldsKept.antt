@@ -12,9 +12,7 @@ use Rattle.wire.specs.Bytes.{part, integer_in, integer_bytes}
 use Rattle.wire.specs.Field.{byte_at, integer_at, boolean_at, boolean_bytes, string_at, is_optional, string_allowed}
 use Rattle.packet.specs.declared.Direction.{Direction}
 use Rattle.wire.specs.declared.StringField.{StringField}
-use Rattle.wire.specs.Read.{NumberRead}
-use Rattle.wire.specs.Read.{BooleanRead}
-use Rattle.wire.specs.Read.{StringRead}
+use Rattle.wire.specs.Read.{NumberRead, BooleanRead, StringRead}
 use Rattle.wire.proofs.Bytes.{part_none, part_one}
 use Rattle.wire.proofs.Field.{boolean_inside, text_read, null_read}
 use Rattle.wire.specs.Facts.{TextRead, NullRead, Bytes}
@@ -24,9 +22,8 @@ use Rattle.names.specs.Header.{code_fault, spelled_fault}
 use Rattle.names.specs.Attribute.{attribute_kind}
 use Rattle.packet.specs.declared.AttributeKind.{AttributeKind}
 use Rattle.std.specs.Prelude.{Option, Some, None}
-use Rattle.headers.specs.Read.{LengthRead}
+use Rattle.headers.specs.Read.{LengthRead, NameRead}
 use Rattle.headers.specs.Headers.{name_at, declares, declared_after}
-use Rattle.headers.specs.Read.{NameRead}
 use Rattle.attributes.specs.Attributes.{last_mark}
 use Rattle.payload.specs.Handed.{StringEnds, NumberEnds, NameEnds, StringThere, read_null, read_bytes, DeclaresThen, HeadersHanded, ValueThere, AttributesHanded}
 use Rattle.payload.proofs.Handed.{NameFine, name_fine, number_found}

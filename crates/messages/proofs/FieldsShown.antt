@@ -13,8 +13,7 @@ use Rattle.wire.specs.Bytes.{part, integer_bytes}
 use Rattle.wire.specs.Field.{integer_at, string_at, is_optional, string_bytes}
 use Rattle.packet.specs.declared.Direction.{Direction}
 use Rattle.wire.specs.declared.StringField.{StringField}
-use Rattle.wire.specs.Read.{NumberRead}
-use Rattle.wire.specs.Read.{StringRead}
+use Rattle.wire.specs.Read.{NumberRead, StringRead}
 use Rattle.wire.proofs.Field.{size_text}
 use Rattle.wire.proofs.RoundTrip.{integer_written}
 use Rattle.wire.specs.Refusal.{attribute_wrong}

@@ -14,8 +14,7 @@ use Rattle.wire.specs.Bytes.{integer_bytes}
 use Rattle.wire.specs.Field.{byte_at, integer_at, boolean_at, boolean_bytes, string_at, string_bytes, is_optional, boolean_number}
 use Rattle.packet.specs.declared.Direction.{Direction}
 use Rattle.wire.specs.declared.StringField.{StringField}
-use Rattle.wire.specs.Read.{NumberRead}
-use Rattle.wire.specs.Read.{StringRead}
+use Rattle.wire.specs.Read.{NumberRead, StringRead}
 use Rattle.wire.proofs.RoundTrip.{integer_written, byte_written, boolean_written}
 use Rattle.wire.specs.Refusal.{out_of_range, too_many}
 use Rattle.connection.specs.Connection.{max_packet}
@@ -24,8 +23,7 @@ use Rattle.payload.specs.Sequence.{after_code, behind, string_as_field, string_f
 use Rattle.payload.specs.Lists.{headers_after, lists_at}
 use Rattle.payload.specs.Forward.{first_method, last_method, ForwardReads, forward_reads, forward_of, forward_at}
 use Rattle.payload.specs.SendHeaders.{least_status, greatest_status, SendHeadersReads, send_headers_reads, send_headers_of, send_headers_at}
-use Rattle.payload.specs.Read.{FieldRead}
-use Rattle.payload.specs.Read.{PacketRead}
+use Rattle.payload.specs.Read.{FieldRead, PacketRead}
 use Rattle.building.specs.Fault.{unless, or_else, first_fault, string_fault, range_fault}
 use Rattle.building.specs.Field.{opening, faults_of}
 use Rattle.building.proofs.Sizes.{boolean_one}

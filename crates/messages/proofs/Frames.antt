@@ -23,8 +23,7 @@ use Rattle.wire.proofs.RoundTrip.{integer_kept}
 use Rattle.wire.specs.Facts.{Bytes}
 use Rattle.wire.specs.Refusal.{leading_wrong, too_long}
 use Rattle.connection.specs.Connection.{max_packet, max_payload}
-use Rattle.reader.specs.Frame.{differs, leading_differs, length_at, frame_at}
-use Rattle.reader.specs.Frame.{FrameRead}
+use Rattle.reader.specs.Frame.{differs, leading_differs, length_at, frame_at, FrameRead}
 use Rattle.reader.proofs.Framing.{frame_inside, length_is, frame_is}
 
 -- what the frame of a whole packet is: the direction's leading bytes, a length, and so many bytes behind it

@@ -17,8 +17,7 @@ use Rattle.wire.specs.Bytes.{part, integer_bytes}
 use Rattle.wire.specs.Field.{integer_at, string_at, is_optional, string_bytes, string_allowed}
 use Rattle.packet.specs.declared.Direction.{Direction}
 use Rattle.wire.specs.declared.StringField.{StringField}
-use Rattle.wire.specs.Read.{NumberRead}
-use Rattle.wire.specs.Read.{StringRead}
+use Rattle.wire.specs.Read.{NumberRead, StringRead}
 use Rattle.wire.proofs.Bytes.{part_middle}
 use Rattle.wire.proofs.Field.{size_null, size_text}
 use Rattle.wire.proofs.RoundTrip.{integer_written}
@@ -28,18 +27,13 @@ use Rattle.headers.specs.Length.{decimal_of, decimal_declared}
 use Rattle.names.specs.Attribute.{attribute_kind, may_repeat, is_served, attribute_fault}
 use Rattle.packet.specs.declared.AttributeKind.{AttributeKind}
 use Rattle.std.specs.Prelude.{Option, Some, None}
-use Rattle.std.specs.Prelude.{Option, Some, None}
-use Rattle.headers.specs.Read.{LengthRead}
+use Rattle.headers.specs.Read.{LengthRead, NameRead, HeaderRead}
 use Rattle.names.specs.declared.NameList.{NameList}
 use Rattle.connection.specs.Connection.{max_packet}
 use Rattle.headers.specs.Headers.{declares, declared_after, header_valued, header_value_of, header_value_at, spelled_of, name_at, header_of, header_at, name_unless}
-use Rattle.headers.specs.Read.{NameRead}
-use Rattle.headers.specs.Read.{HeaderRead}
 use Rattle.headers.proofs.Laws.{code_is, spelled_is, name_is, value_is, header_is}
-use Rattle.attributes.specs.Attributes.{text_value_of, text_value_at, pair_value_of, pair_value_at, with_value, attribute_at, last_mark}
+use Rattle.attributes.specs.Attributes.{text_value_of, text_value_at, pair_value_of, pair_value_at, with_value, attribute_at, last_mark, ValueRead, AttributeRead}
 use Rattle.attributes.specs.Attributes as attributes
-use Rattle.attributes.specs.Attributes.{ValueRead}
-use Rattle.attributes.specs.Attributes.{AttributeRead}
 use Rattle.attributes.proofs.Laws.{text_value, integer_value, pair_value, coded_by, attribute_by}
 use Rattle.building.specs.Fault.{unless, or_else, first_fault, string_fault}
 use Rattle.building.specs.Field.{Field, faults_of, fields_bytes}

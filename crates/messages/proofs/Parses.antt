@@ -35,17 +35,15 @@ use Rattle.places.specs.Entries.{max_places}
 use Rattle.payload.specs.Code.{code_of, code_kind, kind_of_code, kind_at, ping_code, shutdown_code}
 use Rattle.payload.specs.Kinds.{packet_at, packet_kind, packet_move}
 use Rattle.payload.specs.declared.Context.{Context}
-use Rattle.payload.specs.Read.{KindRead}
+use Rattle.payload.specs.Read.{KindRead, PacketRead}
 use Rattle.packet.specs.declared.Packet.{Packet}
-use Rattle.payload.specs.Read.{PacketRead}
 use Rattle.payload.proofs.Laws.{kind_is, code_found, kind_direction}
 use Rattle.payload.proofs.Parsed.{parsed_kind, move_kind_lem}
 use Rattle.building_record.specs.Record as building
 use Rattle.building_record.specs.declared.BuildingKind.{BuildingKind}
-use Rattle.reader.specs.Frame.{frame_at}
+use Rattle.reader.specs.Frame.{frame_at, FrameRead}
 use Rattle.reader.specs.Meaning.{refused, accepted, places_needed}
 use Rattle.reader.specs.Reading.{parse_whole, parse, read_as_body, context_of, accepting, reading}
-use Rattle.reader.specs.Frame.{FrameRead}
 use Rattle.reader.proofs.Framing.{frame_inside}
 use Rattle.reading_laws.proofs.Acceptance.{accepted_by, accepted_is}
 use Rattle.reading_laws.specs.Acceptance.{Answered}

@@ -11,8 +11,7 @@ use Rattle.wire.specs.Bytes.{integer_bytes}
 use Rattle.wire.specs.Field.{byte_at, integer_at, boolean_at, boolean_bytes}
 use Rattle.packet.specs.declared.Direction.{Direction}
 use Rattle.wire.specs.declared.StringField.{StringField}
-use Rattle.wire.specs.Read.{NumberRead}
-use Rattle.wire.specs.Read.{BooleanRead}
+use Rattle.wire.specs.Read.{NumberRead, BooleanRead}
 use Rattle.wire.proofs.RoundTrip.{byte_written, integer_written, boolean_written}
 use Rattle.std.specs.Prelude.{None}
 use Rattle.connection.specs.declared.Kind.{Kind}

@@ -30,13 +30,11 @@ use Rattle.connection.specs.declared.Move.{Move}
 use Rattle.payload.specs.Code.{code_of, code_kind, kind_of_code, kind_at}
 use Rattle.payload.specs.Kinds.{packet_kind, packet_move}
 use Rattle.payload.specs.Body.{body_start, body_of_size, body_at}
-use Rattle.payload.specs.Read.{KindRead}
-use Rattle.payload.specs.Read.{PacketRead}
+use Rattle.payload.specs.Read.{KindRead, PacketRead}
 use Rattle.payload.proofs.Laws.{body_sized, sized_by}
-use Rattle.reader.specs.Frame.{frame_at}
+use Rattle.reader.specs.Frame.{frame_at, FrameRead}
 use Rattle.reader.specs.Meaning.{refused, accepted}
 use Rattle.reader.specs.Reading.{parse_whole, parse, context_of, reading, table_after}
-use Rattle.reader.specs.Frame.{FrameRead}
 use Rattle.reading_laws.specs.Acceptance.{Answered}
 use Rattle.reading_laws.proofs.Acceptance.{refused_keeps}
 use Rattle.reading_laws.proofs.Later.{later_answer}

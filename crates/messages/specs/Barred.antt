@@ -2,7 +2,7 @@
 -- name (8, 10) and that of a length (10).
 -- Document 02, A3: no line ends in strings.
 -- Assumes nothing.
-use Rattle.std.specs.Prelude.{◌≡◌, Bool, true, false, List, ℕ, ◌+◌, ◌≤◌, length, get_or}
+use Rattle.std.specs.Prelude.{◌≡◌, Bool, true, false, List, ℕ, ◌+◌, ◌≤◌, length, get_or, Option}
 use Rattle.wire.specs.Refusal.{string_wrong}
 use Rattle.wire.specs.Bytes.{part, integer_in}
 use Rattle.wire.specs.Field.{null_length, is_optional, holds_barred, string_at}
@@ -11,9 +11,7 @@ use Rattle.wire.specs.Read.{StringRead}
 use Rattle.packet.specs.declared.Direction.{Direction}
 use Rattle.names.specs.Header.{begins_code}
 use Rattle.headers.specs.Headers.{name_at, header_value_at}
-use Rattle.headers.specs.Read.{NameRead}
-use Rattle.headers.specs.Read.{HeaderRead}
-use Rattle.std.specs.Prelude.{Option}
+use Rattle.headers.specs.Read.{NameRead, HeaderRead}
 use Rattle.building.specs.Fault.{string_fault}
 use Rattle.pieces.specs.Header.{spelled_name, value_fault}
 

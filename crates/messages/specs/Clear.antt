@@ -2,7 +2,7 @@
 -- a second header. Which strings a message has, which a piece writes, and the three sentences about them.
 -- Document 02, A3: no line ends in strings.
 -- Assumes nothing.
-use Rattle.std.specs.Prelude.{◌≡◌, Bool, List, [], ◌∷◌, ◌++◌, ℕ, ◌≤◌, length}
+use Rattle.std.specs.Prelude.{◌≡◌, Bool, List, [], ◌∷◌, ◌++◌, ℕ, ◌≤◌, length, Option, Some, None}
 use Rattle.wire.specs.Pick.{pick}
 use Rattle.wire.specs.Bytes.{part}
 use Rattle.wire.specs.Facts.{Clear}
@@ -10,7 +10,6 @@ use Rattle.packet.specs.declared.Direction.{Direction}
 use Rattle.packet.specs.declared.Packet.{Packet}
 use Rattle.names.specs.Header.{header_names}
 use Rattle.names.specs.Names.{code_in}
-use Rattle.std.specs.Prelude.{Option, Some, None}
 use Rattle.connection.specs.declared.Connection.{Connection}
 use Rattle.places.specs.Entries.{max_places}
 use Rattle.building.specs.Call.{Call, with_fault, done, outcome}

@@ -19,17 +19,15 @@ use Rattle.connection.specs.declared.Move.{Move}
 use Rattle.payload.specs.BodyChunk.{chunk_start, chunk_at}
 use Rattle.payload.specs.Code.{kind_of_code}
 use Rattle.payload.specs.Packet.{part_from}
-use Rattle.payload.specs.Read.{KindRead}
-use Rattle.payload.specs.Read.{PacketRead}
+use Rattle.payload.specs.Read.{KindRead, PacketRead}
 use Rattle.building.specs.Call.{refused, done, outcome}
 use Rattle.building.specs.Sent.{Written}
 use Rattle.building_record.specs.declared.Building.{Building}
 use Rattle.building_record.specs.declared.BuildingKind.{BuildingKind}
 use Rattle.writer.specs.Sending.{chunk_call}
-use Rattle.reader.specs.Frame.{frame_at}
+use Rattle.reader.specs.Frame.{frame_at, FrameRead}
 use Rattle.reader.specs.Meaning as read
 use Rattle.reader.specs.Reading.{reading}
-use Rattle.reader.specs.Frame.{FrameRead}
 use Rattle.closing.specs.Closing.{close_outcome, close_buffer}
 use Rattle.messages.specs.Message.{body_chunk}
 use Rattle.messages.specs.Bytes.{message_bytes}

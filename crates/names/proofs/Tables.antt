@@ -13,7 +13,7 @@ use lib.ListN.{length, get_or, get_or-eq_default}
 use denote.Ref.{Bor}
 use Rattle.std.proofs.Common.{cond, Some, None}
 use Rattle.std.specs.Bool.{IsTrue}
-use Rattle.std.specs.Prelude.{◌↔◌}
+use Rattle.std.specs.Prelude.{◌↔◌, Some, None}
 use Rattle.std.specs.Char.{to_ascii_lowercase}
 use Rattle.std.specs.Str.{bytes_eq}
 use Rattle.std.specs.Cmp.Lexicographic.{pointwise}
@@ -24,7 +24,6 @@ use Rattle.std.proofs.lemmas.Slice.Eq.{bytes_eq-Decides}
 use Rattle.wire.specs.Pick.{pick}
 use Rattle.names.proofs.Laws.{name_from, code_room}
 use Rattle.names.specs.declared.NameList.{NameList}
-use Rattle.std.specs.Prelude.{Some, None}
 use Rattle.names.specs.Names.{names_in, first_code, ignores_case, name_for, letter, same_name, code_from, code_in}
 
 -- where case is ignored, a letter is compared as the small one

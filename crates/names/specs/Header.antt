@@ -1,12 +1,11 @@
 -- What a header's name may be: a listed code, or a text that is spelled out.
 -- Document 01, 'Server to container', Header, and rows 8 and 10 of its refusals.
 -- Assumes nothing.
-use Rattle.std.specs.Prelude.{Bool, true, false, List, ℕ, eqb}
+use Rattle.std.specs.Prelude.{Bool, true, false, List, ℕ, eqb, Option, Some, None}
 use Rattle.wire.specs.Pick.{pick, both}
 use Rattle.wire.specs.Refusal.{none, name_wrong, content_length_wrong}
 use Rattle.packet.specs.declared.Direction.{Direction}
 use Rattle.names.specs.declared.NameList.{NameList}
-use Rattle.std.specs.Prelude.{Option, Some, None}
 use Rattle.names.specs.Token.{is_token}
 use Rattle.names.specs.Names.{ascii, is_listed, same_name, code_in}
 

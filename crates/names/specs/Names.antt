@@ -2,12 +2,11 @@
 -- Document 01, 'Server to container' and 'Container to server'. It names every attribute code but 0A, which has its name beside
 -- its value; `req_attribute` is what the public AJP13 text calls that code.
 -- Assumes nothing.
-use Rattle.std.specs.Prelude.{Bool, true, false, List, [], ◌∷◌, ℕ, ◌+◌, ◌-◌, leb, ltb, eqb, length, get_or}
+use Rattle.std.specs.Prelude.{Bool, true, false, List, [], ◌∷◌, ℕ, ◌+◌, ◌-◌, leb, ltb, eqb, length, get_or, Option, Some, None}
 use Prim.Native.Char.{code}
 use Prim.Native.String.{String, [] as empty, ◌∷◌ as ◌then◌}
 use Rattle.wire.specs.Pick.{pick, both, between}
 use Rattle.names.specs.declared.NameList.{NameList}
-use Rattle.std.specs.Prelude.{Option, Some, None}
 
 -- the bytes of a text
 abbrev pub ascii : String → List ℕ

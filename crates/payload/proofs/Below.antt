@@ -11,8 +11,7 @@ use Rattle.places.specs.Entries.{max_attributes}
 use Rattle.headers.specs.Headers.{headers_at}
 use Rattle.headers.specs.Read.{HeadersRead}
 use Rattle.headers.proofs.Laws.{headers_inside}
-use Rattle.attributes.specs.Attributes.{attributes_at}
-use Rattle.attributes.specs.Attributes.{AttributesRead}
+use Rattle.attributes.specs.Attributes.{attributes_at, AttributesRead}
 use Rattle.attributes.proofs.Laws.{attributes_inside}
 use Rattle.attributes.specs.Facts.{AttributesEnd}
 

@@ -11,8 +11,7 @@ use lib.ListN.{length}
 use Rattle.wire.specs.Pick.{pick, between}
 use Rattle.wire.specs.Field.{integer_at, string_at, is_optional}
 use Rattle.wire.specs.declared.StringField.{StringField}
-use Rattle.wire.specs.Read.{NumberRead}
-use Rattle.wire.specs.Read.{StringRead}
+use Rattle.wire.specs.Read.{NumberRead, StringRead}
 use Rattle.wire.proofs.Tests.{both_second}
 use Rattle.wire.specs.Facts.{StringInside}
 use Rattle.wire.proofs.Field.{string_inside}

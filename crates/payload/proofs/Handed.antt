@@ -16,9 +16,7 @@ use Rattle.wire.specs.Bytes.{part}
 use Rattle.wire.specs.Field.{number_at, byte_at, integer_at, boolean_at, string_at, is_optional, boolean_number}
 use Rattle.packet.specs.declared.Direction.{Direction}
 use Rattle.wire.specs.declared.StringField.{StringField}
-use Rattle.wire.specs.Read.{NumberRead}
-use Rattle.wire.specs.Read.{BooleanRead}
-use Rattle.wire.specs.Read.{StringRead}
+use Rattle.wire.specs.Read.{NumberRead, BooleanRead, StringRead}
 use Rattle.wire.proofs.Field.{integer_inside}
 use Rattle.headers.specs.Length.{declared_length}
 use Rattle.wire.proofs.Tests.{both_second}
@@ -27,25 +25,17 @@ use Rattle.names.specs.Header.{begins_code, code_fault, spelled_fault}
 use Rattle.names.specs.Attribute.{attribute_kind, attribute_fault}
 use Rattle.packet.specs.declared.AttributeKind.{AttributeKind}
 use Rattle.std.specs.Prelude.{Option, None}
-use Rattle.headers.specs.Read.{LengthRead}
+use Rattle.headers.specs.Read.{LengthRead, NameRead, HeaderRead, HeadersRead}
 use Rattle.places.specs.Entries.{Entries, ended, max_headers, max_attributes}
 use Rattle.headers.specs.Headers.{name_unless, code_name_of, spelled_at, spelled_of, name_at, declared_after, header_valued, header_value_of, header_value_at, header_of, header_at, header_then, headers_at}
-use Rattle.headers.specs.Read.{NameRead}
-use Rattle.headers.specs.Read.{HeaderRead}
-use Rattle.headers.specs.Read.{HeadersRead}
-use Rattle.attributes.specs.Attributes.{last_mark, text_value_of, text_value_at, integer_value_of, integer_value_at, pair_value_of, pair_value_at, attribute_value_at, with_value, coded_at, attribute_at, attribute_then, attributes_at}
-use Rattle.attributes.specs.Attributes.{ValueRead}
-use Rattle.attributes.specs.Attributes.{AttributeRead}
-use Rattle.attributes.specs.Attributes.{AttributesRead}
+use Rattle.attributes.specs.Attributes.{last_mark, text_value_of, text_value_at, integer_value_of, integer_value_at, pair_value_of, pair_value_at, attribute_value_at, with_value, coded_at, attribute_at, attribute_then, attributes_at, ValueRead, AttributeRead, AttributesRead}
 use Rattle.connection.specs.declared.Kind.{Kind}
 use Rattle.packet.specs.declared.Forward.{Forward}
 use Rattle.packet.specs.declared.SendHeaders.{SendHeaders}
 use Rattle.packet.specs.declared.Part.{Part}
 use Rattle.packet.specs.declared.Packet.{Packet}
-use Rattle.payload.specs.Read.{FieldRead}
-use Rattle.payload.specs.Read.{ListsRead}
+use Rattle.payload.specs.Read.{FieldRead, ListsRead, PacketRead}
 use Rattle.payload.specs.declared.Context.{Context}
-use Rattle.payload.specs.Read.{PacketRead}
 use Rattle.payload.specs.Sequence.{after_code, behind, string_as_field, string_field_at, string_after, boolean_as_field, boolean_field_at, boolean_after, number_as_field, any_integer_after, bounded, byte_after, integer_after, field_place, field_number}
 use Rattle.payload.specs.Facts.{ForwardPlaces, SendHeadersPlaces}
 use Rattle.payload.specs.Packet.{part_from, finished}

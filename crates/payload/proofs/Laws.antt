@@ -17,9 +17,8 @@ use Rattle.wire.specs.Read.{NumberRead}
 use Rattle.connection.specs.declared.Kind.{Kind}
 use Rattle.connection.specs.Cycle.{direction_of}
 use Rattle.payload.specs.declared.Context.{Context}
-use Rattle.payload.specs.Read.{KindRead}
+use Rattle.payload.specs.Read.{KindRead, PacketRead}
 use Rattle.packet.specs.declared.Packet.{Packet}
-use Rattle.payload.specs.Read.{PacketRead}
 use Rattle.payload.specs.Code.{code_of, shutdown_code, ping_code, code_kind, kind_of_code, kind_at}
 use Rattle.payload.specs.Packet.{part_from, finished}
 use Rattle.payload.specs.GetBody.{get_of, get_at}

@@ -11,15 +11,13 @@ use Rattle.wire.specs.Refusal.{left_over, cut_short, string_wrong}
 use Rattle.wire.specs.Field.{integer_at, boolean_at}
 use Rattle.wire.specs.Packet.{payload_place, after_code_place}
 use Rattle.packet.specs.declared.Direction.{Direction}
-use Rattle.wire.specs.Read.{NumberRead}
-use Rattle.wire.specs.Read.{BooleanRead}
+use Rattle.wire.specs.Read.{NumberRead, BooleanRead}
 use Rattle.connection.specs.declared.Kind.{Kind}
 use Rattle.connection.specs.Cycle.{move_kind}
 use Rattle.headers.specs.Read.{HeadersRead}
 use Rattle.packet.specs.declared.Packet.{Packet}
-use Rattle.payload.specs.Read.{ListsRead}
+use Rattle.payload.specs.Read.{ListsRead, PacketRead}
 use Rattle.payload.specs.declared.Context.{Context}
-use Rattle.payload.specs.Read.{PacketRead}
 use Rattle.payload.specs.Packet.{part_from, finished}
 use Rattle.payload.specs.End.{end_of, end_at}
 use Rattle.payload.specs.GetBody.{get_of, get_at}

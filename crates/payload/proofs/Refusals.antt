@@ -10,9 +10,7 @@ use Rattle.wire.specs.Pick.{pick, between}
 use Rattle.wire.specs.Refusal.{cut_short, string_wrong, out_of_range, too_many, left_over, is_refusal}
 use Rattle.wire.specs.Field.{byte_at, integer_at, boolean_at, string_at, is_optional}
 use Rattle.wire.specs.declared.StringField.{StringField}
-use Rattle.wire.specs.Read.{NumberRead}
-use Rattle.wire.specs.Read.{BooleanRead}
-use Rattle.wire.specs.Read.{StringRead}
+use Rattle.wire.specs.Read.{NumberRead, BooleanRead, StringRead}
 use Rattle.wire.proofs.Refusals.{NumberRefusal, byte_refusal, integer_refusal, BooleanRefusal, boolean_refusal, StringRefusal, string_refusal}
 use Rattle.packet.specs.declared.Direction.{Direction}
 use Rattle.packet.specs.declared.Packet.{Packet}
@@ -22,14 +20,10 @@ use Rattle.connection.specs.declared.Kind.{Kind}
 use Rattle.places.specs.Entries.{max_headers, max_attributes}
 use Rattle.headers.specs.Read.{HeadersRead}
 use Rattle.headers.proofs.Refusals.{HeadersRefusal, headers_refusal}
-use Rattle.attributes.specs.Attributes.{attributes_at}
-use Rattle.attributes.specs.Attributes.{AttributesRead}
+use Rattle.attributes.specs.Attributes.{attributes_at, AttributesRead}
 use Rattle.attributes.proofs.Refusals.{AttributesRefusal, attributes_refusal}
-use Rattle.payload.specs.Read.{KindRead}
-use Rattle.payload.specs.Read.{FieldRead}
-use Rattle.payload.specs.Read.{ListsRead}
+use Rattle.payload.specs.Read.{KindRead, FieldRead, ListsRead, PacketRead}
 use Rattle.payload.specs.declared.Context.{Context}
-use Rattle.payload.specs.Read.{PacketRead}
 use Rattle.payload.specs.Code.{kind_of_code, kind_at}
 use Rattle.payload.specs.Sequence.{after_code, behind, string_as_field, string_field_at, string_after, boolean_as_field, boolean_field_at, boolean_after, number_as_field, any_integer_after, bounded, byte_after, integer_after}
 use Rattle.payload.specs.Packet.{part_from, finished}

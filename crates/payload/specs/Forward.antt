@@ -5,10 +5,8 @@ use Rattle.std.specs.Prelude.{true, List, ℕ, eqb}
 use Rattle.wire.specs.Refusal.{out_of_range, too_many}
 use Rattle.wire.specs.declared.StringField.{StringField}
 use Rattle.places.specs.Entries.{Entries, ending, max_headers}
-use Rattle.payload.specs.Read.{FieldRead}
-use Rattle.payload.specs.Read.{ListsRead}
+use Rattle.payload.specs.Read.{FieldRead, ListsRead, PacketRead}
 use Rattle.packet.specs.declared.Packet.{Packet}
-use Rattle.payload.specs.Read.{PacketRead}
 use Rattle.payload.specs.Sequence.{after_code, string_after, boolean_after, byte_after, any_integer_after, integer_after, field_place, field_number}
 use Rattle.payload.specs.Lists.{lists_at}
 use Rattle.wire.specs.Field.{boolean_number}

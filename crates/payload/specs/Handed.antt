@@ -2,24 +2,20 @@
 -- to stand, and every field begins where the one before it ends, from behind the code to the packet's last byte.
 -- Document 01, 'Server to container', 'Container to server', and 'Refusal numbers': what acceptance tells, and the table of places.
 -- Assumes nothing.
-use Rattle.std.specs.Prelude.{◌≡◌, Bool, true, false, List, [], ◌∷◌, ◌++◌, ℕ, ◌+◌, ◌≤◌, eqb, length, get_or}
+use Rattle.std.specs.Prelude.{◌≡◌, Bool, true, false, List, [], ◌∷◌, ◌++◌, ℕ, ◌+◌, ◌≤◌, eqb, length, get_or, Option, None}
 use Rattle.wire.specs.Pick.{pick, between}
 use Rattle.wire.specs.Bytes.{part}
 use Rattle.wire.specs.Field.{byte_at, integer_at, boolean_at, string_at, is_optional}
 use Rattle.wire.specs.Packet.{payload_place, after_code_place}
 use Rattle.packet.specs.declared.Direction.{Direction}
 use Rattle.wire.specs.declared.StringField.{StringField}
-use Rattle.wire.specs.Read.{NumberRead}
-use Rattle.wire.specs.Read.{BooleanRead}
-use Rattle.wire.specs.Read.{StringRead}
+use Rattle.wire.specs.Read.{NumberRead, BooleanRead, StringRead}
 use Rattle.names.specs.Attribute.{attribute_kind}
 use Rattle.packet.specs.declared.AttributeKind.{AttributeKind}
 use Rattle.places.specs.Entries.{max_headers, max_attributes}
 use Rattle.headers.specs.Length.{declared_length}
 use Rattle.headers.specs.Headers.{name_at, declares, declared_after}
-use Rattle.std.specs.Prelude.{Option, None}
-use Rattle.headers.specs.Read.{LengthRead}
-use Rattle.headers.specs.Read.{NameRead}
+use Rattle.headers.specs.Read.{LengthRead, NameRead}
 use Rattle.attributes.specs.Attributes.{last_mark}
 use Rattle.packet.specs.declared.Forward.{Forward}
 use Rattle.packet.specs.declared.SendHeaders.{SendHeaders}

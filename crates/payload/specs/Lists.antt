@@ -1,19 +1,16 @@
 -- What stands behind the count of headers: the headers and, in a Forward, the attributes.
 -- Document 01, 'Server to container', Forward Request, 'Container to server', Send Headers, and row 12 of 'Refusal numbers'.
 -- Assumes nothing.
-use Rattle.std.specs.Prelude.{List, [], ℕ, eqb, length}
+use Rattle.std.specs.Prelude.{List, [], ℕ, eqb, length, Option, None}
 use Rattle.wire.specs.Pick.{pick}
 use Rattle.wire.specs.Refusal.{left_over}
 use Rattle.packet.specs.declared.Direction.{Direction}
 use Rattle.headers.specs.Length.{declared_length}
-use Rattle.std.specs.Prelude.{Option, None}
 use Rattle.places.specs.Entries.{Entries, ended, followed, ending, max_attributes}
 use Rattle.headers.specs.Headers.{headers_at}
 use Rattle.headers.specs.Read.{HeadersRead}
-use Rattle.attributes.specs.Attributes.{attributes_at}
-use Rattle.attributes.specs.Attributes.{AttributesRead}
-use Rattle.payload.specs.Read.{FieldRead}
-use Rattle.payload.specs.Read.{ListsRead}
+use Rattle.attributes.specs.Attributes.{attributes_at, AttributesRead}
+use Rattle.payload.specs.Read.{FieldRead, ListsRead}
 
 -- the headers behind their count
 unfoldable pub headers_after : Direction → List ℕ → FieldRead → Entries HeadersRead

@@ -7,9 +7,8 @@ use Rattle.packet.specs.declared.Direction.{Direction}
 use Rattle.wire.specs.declared.StringField.{StringField}
 use Rattle.places.specs.Entries.{Entries, ending, max_headers}
 use Rattle.headers.specs.Read.{HeadersRead}
-use Rattle.payload.specs.Read.{FieldRead}
+use Rattle.payload.specs.Read.{FieldRead, PacketRead}
 use Rattle.packet.specs.declared.Packet.{Packet}
-use Rattle.payload.specs.Read.{PacketRead}
 use Rattle.payload.specs.Sequence.{after_code, string_after, integer_after, field_place, field_number}
 use Rattle.payload.specs.Packet.{finished}
 use Rattle.payload.specs.Lists.{headers_after}

@@ -5,9 +5,7 @@ use Rattle.std.specs.Prelude.{List, ℕ}
 use Rattle.wire.specs.Pick.{pick, between}
 use Rattle.wire.specs.Field.{byte_at, integer_at, boolean_at, string_at, is_optional, boolean_number}
 use Rattle.wire.specs.declared.StringField.{StringField}
-use Rattle.wire.specs.Read.{NumberRead}
-use Rattle.wire.specs.Read.{BooleanRead}
-use Rattle.wire.specs.Read.{StringRead}
+use Rattle.wire.specs.Read.{NumberRead, BooleanRead, StringRead}
 use Rattle.packet.specs.declared.Place.{Place}
 use Rattle.payload.specs.Read.{FieldRead}
 use Rattle.wire.specs.Packet.{code_place, after_code_place}

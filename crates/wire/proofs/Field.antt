@@ -15,9 +15,7 @@ use Rattle.wire.specs.Field.{number_at, byte_at, integer_at, boolean_of, boolean
 use Rattle.wire.specs.Packet.{leading, packet_head}
 use Rattle.wire.specs.Facts.{NumberInside, BooleanInside, StringInside, TextRead, NullRead}
 use Rattle.packet.specs.declared.Direction.{Direction}
-use Rattle.wire.specs.Read.{NumberRead}
-use Rattle.wire.specs.Read.{BooleanRead}
-use Rattle.wire.specs.Read.{StringRead}
+use Rattle.wire.specs.Read.{NumberRead, BooleanRead, StringRead}
 use Rattle.wire.proofs.Bytes.{length_part}
 
 -- a number, where its bytes are there and where they are not

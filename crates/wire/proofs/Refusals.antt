@@ -10,9 +10,7 @@ use Rattle.wire.specs.Pick.{pick, both, either}
 use Rattle.wire.specs.Refusal.{none, cut_short, string_wrong, out_of_range, is_refusal, is_fault}
 use Rattle.wire.specs.Bytes.{part, integer_in}
 use Rattle.wire.specs.Field.{number_at, byte_at, integer_at, boolean_of, boolean_at, null_length, lacks, holds_barred, text_at, after_length, string_of, string_at}
-use Rattle.wire.specs.Read.{NumberRead}
-use Rattle.wire.specs.Read.{BooleanRead}
-use Rattle.wire.specs.Read.{StringRead}
+use Rattle.wire.specs.Read.{NumberRead, BooleanRead, StringRead}
 
 -- a fault that is not none is a refusal
 pub fault_refusal : (n : ℕ) → is_fault n ≡ true → eqb n none ≡ false → is_refusal n ≡ true

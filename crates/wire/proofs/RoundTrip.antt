@@ -13,9 +13,7 @@ use Rattle.wire.specs.Pick.{pick}
 use Rattle.wire.specs.Bytes.{part, integer_in, integer_bytes}
 use Rattle.wire.specs.Refusal.{cut_short, out_of_range}
 use Rattle.wire.specs.Field.{byte_at, integer_at, boolean_of, boolean_at, boolean_bytes, null_length, lacks, holds_barred, text_at, after_length, string_at, string_bytes, string_allowed}
-use Rattle.wire.specs.Read.{NumberRead}
-use Rattle.wire.specs.Read.{BooleanRead}
-use Rattle.wire.specs.Read.{StringRead}
+use Rattle.wire.specs.Read.{NumberRead, BooleanRead, StringRead}
 use Rattle.wire.proofs.Tests.{both_first, both_second}
 use Rattle.wire.proofs.Bytes.{length_part, part_middle, part_add, part_one}
 use Rattle.wire.proofs.Field.{number_read, boolean_is, string_is, after_is, text_closed, text_read, null_read}

@@ -5,9 +5,7 @@ use Rattle.std.specs.Prelude.{◌≡◌, Bool, true, false, List, ℕ, ◌+◌, 
 use Rattle.wire.specs.Pick.{pick}
 use Rattle.wire.specs.Bytes.{part, integer_in}
 use Rattle.wire.specs.Field.{null_length, string_allowed}
-use Rattle.wire.specs.Read.{NumberRead}
-use Rattle.wire.specs.Read.{BooleanRead}
-use Rattle.wire.specs.Read.{StringRead}
+use Rattle.wire.specs.Read.{NumberRead, BooleanRead, StringRead}
 
 -- a number of a width at a place lies inside a packet of n bytes
 abbrev pub NumberInside : ℕ → ℕ → ℕ → NumberRead → Type 0

@@ -7,9 +7,7 @@ use Rattle.std.specs.Prelude.{Bool, true, false, not, List, [], ◌∷◌, ◌++
 use Rattle.wire.specs.Pick.{pick, both, either, any}
 use Rattle.wire.specs.Refusal.{cut_short, string_wrong, out_of_range}
 use Rattle.wire.specs.Bytes.{part, integer_in, integer_bytes}
-use Rattle.wire.specs.Read.{NumberRead}
-use Rattle.wire.specs.Read.{BooleanRead}
-use Rattle.wire.specs.Read.{StringRead}
+use Rattle.wire.specs.Read.{NumberRead, BooleanRead, StringRead}
 use Rattle.wire.specs.declared.StringField.{StringField}
 
 -- a number that takes `width` bytes

@@ -6,8 +6,7 @@ use lib.ListN.{length, get_or}
 use Rattle.wire.specs.Field.{byte_at}
 use Rattle.wire.proofs.Bytes.{room_in, room_out}
 use Rattle.wire.proofs.Field.{number_read, number_short}
-use Rattle.std.proofs.Common.{not}
-use Rattle.std.proofs.Common.{ap}
+use Rattle.std.proofs.Common.{not, ap}
 use Rattle.wire.proofs.read.byte.Goals as goal
 
 pub returns-then-not-has_room : goal.returns-then-not-has_room
