@@ -23,7 +23,7 @@ use wire::{NULL_LENGTH, StringField, has_room, holds_barred, part_of, read};
 pub mod length;
 
 // A header's name as read: its code, or where its bytes stand.
-#[derive(Clone, Copy)]
+#[derive(Clone, Copy, Debug, PartialEq, Eq)]
 pub enum ReadName {
     Code(u16),
     Spelled(Span),

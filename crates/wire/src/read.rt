@@ -14,7 +14,7 @@ pub struct Field<T> {
 }
 
 // Where a string's bytes start, and how many they are.
-#[derive(Clone, Copy)]
+#[derive(Clone, Copy, Debug, PartialEq, Eq)]
 pub struct Span {
     pub start: usize,
     pub len: usize,
