@@ -66,6 +66,12 @@ module _ (s : List ℕ) (start len : ℕ) where
       go true e = text_closed true h (eqb-true (get_or s (start + len) 0) 0 e) (sym held)
       go false e = text_open h (eqb-false (get_or s (start + len) 0) 0 e)
 
+-- null may stand where the field is optional
+pub allowed_null : (optional : Bool) → optional ≡ string_allowed optional true []
+unfolding string_allowed
+allowed_null true = refl
+allowed_null false = refl
+
 -- the test on a string to be written, by its tests; a proof that does not reach a test says `refl`
 pub allowed_is : (optional null : Bool) (text : List ℕ) (lack none barred : Bool) → lacks optional null (length text) ≡ lack → null ≡ none
     → holds_barred text ≡ barred → both (not lack) (either none (not barred)) ≡ string_allowed optional null text

@@ -7,3 +7,4 @@ pub mod Packet
 pub mod Facts
 pub mod Bits
 pub mod Private
+pub mod Text

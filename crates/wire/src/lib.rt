@@ -6,6 +6,7 @@
 ghost use Rattle.std.specs.Prelude.{◌≡◌, ◌+◌, ◌≤◌, ◌<◌, leb, length};
 ghost use Rattle.wire.specs.Bytes.{part};
 ghost use Rattle.wire.specs.Field.{is_optional, lacks, barred, holds_barred, string_allowed};
+ghost use Rattle.wire.specs.Text.{is_null, bytes_in};
 ghost use Rattle.wire.specs.Packet.{leading};
 ghost use Rattle.wire.specs.Private.{low, holds_low};
 
@@ -200,9 +201,12 @@ pub fn holds_barred(text: &[u8]) -> bool
     holds_low(text) && finds_barred(text)
 }
 
-// Whether a string may stand in a field, judged for building as reading judges it.
-pub fn allows_string(optional: bool, null: bool, text: &[u8]) -> bool
-    ensures { result ≡ string_allowed optional null text.now }
+// Whether a string may stand in a field, None for null, judged for building as reading judges it.
+pub fn allows_string(optional: bool, text: Option<&[u8]>) -> bool
+    ensures { result ≡ string_allowed optional (is_null text.entry) (bytes_in text.entry) }
 {
-    !lacks(optional, null, text.len()) && (null || !holds_barred(text))
+    match text {
+        None => optional,
+        Some(text) => !lacks(optional, false, text.len()) && !holds_barred(text),
+    }
 }

@@ -2,6 +2,7 @@
 ghost use Rattle.std.specs.Prelude.{◌≡◌, [], ◌∷◌, ◌++◌, ◌+◌, length};
 ghost use Rattle.wire.specs.Bytes.{over, integer_bytes};
 ghost use Rattle.wire.specs.Field.{boolean_bytes, string_bytes};
+ghost use Rattle.wire.specs.Text.{is_null, bytes_in};
 ghost use Rattle.wire.specs.Packet.{packet_head, Fits};
 
 use crate::{MAX_PACKET, NULL_LENGTH, leading_bytes};
@@ -54,25 +55,25 @@ pub fn boolean(buffer: &mut [u8], at: usize, value: bool) -> usize
     byte(buffer, at, value as u8)
 }
 
-// How many bytes a string's field takes.
-pub fn string_size(null: bool, text: &[u8]) -> usize
-    ensures { result ≡ length (string_bytes null text.now) }
+// How many bytes a string's field takes, None for null.
+pub fn string_size(text: Option<&[u8]>) -> usize
+    ensures { result ≡ length (string_bytes (is_null text.entry) (bytes_in text.entry)) }
 {
-    if null {
-        return 2;
+    match text {
+        None => 2,
+        Some(text) => text.len() + 3,
     }
-    text.len() + 3
 }
 
 // A string: its length, its bytes and a zero, or null.
-pub fn string(buffer: &mut [u8], at: usize, null: bool, text: &[u8]) -> usize
-    requires { Fits at (string_bytes null text.now) buffer.old }
-    ensures value { result ≡ at + length (string_bytes null text.now) }
-    ensures buffer_after { buffer.new ≡ over buffer.old at (string_bytes null text.now) }
+pub fn string(buffer: &mut [u8], at: usize, text: Option<&[u8]>) -> usize
+    requires { Fits at (string_bytes (is_null text) (bytes_in text)) buffer.old }
+    ensures value { result ≡ at + length (string_bytes (is_null text.entry) (bytes_in text.entry)) }
+    ensures buffer_after { buffer.new ≡ over buffer.old at (string_bytes (is_null text.entry) (bytes_in text.entry)) }
 {
-    if null {
+    let Some(text) = text else {
         return integer(buffer, at, NULL_LENGTH);
-    }
+    };
     let start = integer(buffer, at, text.len() as u16);
     let end = bytes(buffer, start, text);
     byte(buffer, end, 0)
@@ -82,17 +83,15 @@ pub fn string(buffer: &mut [u8], at: usize, null: bool, text: &[u8]) -> usize
 pub fn two_strings(
     buffer: &mut [u8],
     at: usize,
-    nofirst: bool,
-    first: &[u8],
-    nosecond: bool,
-    second: &[u8],
+    first: Option<&[u8]>,
+    second: Option<&[u8]>,
 ) -> usize
-    requires { Fits at (string_bytes nofirst first.now ++ string_bytes nosecond second.now) buffer.old }
-    ensures value { result ≡ at + length (string_bytes nofirst first.now ++ string_bytes nosecond second.now) }
-    ensures buffer_after { buffer.new ≡ over buffer.old at (string_bytes nofirst first.now ++ string_bytes nosecond second.now) }
+    requires { Fits at (string_bytes (is_null first) (bytes_in first) ++ string_bytes (is_null second) (bytes_in second)) buffer.old }
+    ensures value { result ≡ at + length (string_bytes (is_null first.entry) (bytes_in first.entry) ++ string_bytes (is_null second.entry) (bytes_in second.entry)) }
+    ensures buffer_after { buffer.new ≡ over buffer.old at (string_bytes (is_null first.entry) (bytes_in first.entry) ++ string_bytes (is_null second.entry) (bytes_in second.entry)) }
 {
-    let next = string(buffer, at, nofirst, first);
-    string(buffer, next, nosecond, second)
+    let next = string(buffer, at, first);
+    string(buffer, next, second)
 }
 
 // A packet's first four bytes, at the buffer's start: its leading bytes and how long its payload is.
