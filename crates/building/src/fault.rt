@@ -1,5 +1,6 @@
 // Faults: the refusal of what a call is given, by one test after the other.
 ghost use Rattle.std.specs.Prelude.{◌≡◌};
+ghost use Rattle.wire.specs.Text.{is_null, bytes_in};
 ghost use Rattle.wire.specs.Read.{fault_number};
 ghost use Rattle.wire.specs.Refusal.{number_of};
 ghost use Rattle.building.specs.Fault.{unless, string_fault, range_fault, fit_fault};
@@ -15,12 +16,12 @@ pub fn unless(holds: bool, refusal: Refusal) -> Result<(), Refusal>
     if holds { Ok(()) } else { Err(refusal) }
 }
 
-// The fault of a string in a field.
-pub fn string(field: StringField, null: bool, text: &[u8]) -> Result<(), Refusal>
-    ensures { fault_number result ≡ string_fault field null text.now }
+// The fault of a string in a field, None for null.
+pub fn string(field: StringField, text: Option<&[u8]>) -> Result<(), Refusal>
+    ensures { fault_number result ≡ string_fault field (is_null text.entry) (bytes_in text.entry) }
 {
     unless(
-        allows_string(is_optional(field), null, text),
+        allows_string(is_optional(field), text),
         Refusal::StringWrong,
     )
 }

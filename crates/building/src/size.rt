@@ -1,6 +1,7 @@
 // How many bytes fields take. A size is exact up to 8192, and 8193 where it is more: no packet is so long.
 ghost use Rattle.std.specs.Prelude.{◌≡◌, ◌+◌, length};
 ghost use Rattle.wire.specs.Field.{string_bytes};
+ghost use Rattle.wire.specs.Text.{is_null, bytes_in};
 ghost use Rattle.building.specs.Field.{size_told};
 
 use connection::Connection;
@@ -21,9 +22,9 @@ pub fn plus(size: usize, more: usize) -> usize
     size.saturating_add(more).min(OVER_PACKET)
 }
 
-// A size and a string behind it.
-pub fn string(size: usize, null: bool, text: &[u8]) -> usize
-    ensures { result ≡ size_told (size + length (string_bytes null text.now)) }
+// A size and a string behind it, None for null.
+pub fn string(size: usize, text: Option<&[u8]>) -> usize
+    ensures { result ≡ size_told (size + length (string_bytes (is_null text.entry) (bytes_in text.entry))) }
 {
-    plus(size, string_size(null, text))
+    plus(size, string_size(text))
 }
