@@ -1,5 +1,6 @@
 // The declared length of a request's body.
-ghost use Rattle.std.specs.Prelude.{◌≡◌, None};
+ghost use Rattle.std.specs.Prelude.{◌≡◌};
+ghost use Rattle.wire.specs.Text.{is_null, bytes_in};
 ghost use Rattle.headers.specs.Read.{length_meaning};
 ghost use Rattle.headers.specs.Length.{is_content_length, decimal_of, length_after, declared_length};
 
@@ -31,24 +32,16 @@ pub fn decimal_of(text: &[u8]) -> Option<u32>
 }
 
 // What is declared after a content-length's value. A second one and null are refused.
-pub fn length_after(before: Option<u32>, null: bool, text: &[u8]) -> Result<Option<u32>, Refusal>
-    ensures { length_meaning result ≡ length_after before null text.now }
+pub fn length_after(before: Option<u32>, value: Option<&[u8]>) -> Result<Option<u32>, Refusal>
+    ensures { length_meaning result ≡ length_after before (is_null value.entry) (bytes_in value.entry) }
 {
-    match before {
-        Some(_) => Err(Refusal::ContentLengthWrong),
-        None => first_length(null, text),
+    match (before, value) {
+        (None, Some(text)) => {
+            let length = decimal_of(text).ok_or(Refusal::ContentLengthWrong)?;
+            Ok(Some(length))
+        }
+        _ => Err(Refusal::ContentLengthWrong),
     }
-}
-
-// What the first content-length declares.
-fn first_length(null: bool, text: &[u8]) -> Result<Option<u32>, Refusal>
-    ensures { length_meaning result ≡ length_after None null text.now }
-{
-    if null {
-        return Err(Refusal::ContentLengthWrong);
-    }
-    let length = decimal_of(text).ok_or(Refusal::ContentLengthWrong)?;
-    Ok(Some(length))
 }
 
 // The length that a request declared, 0 where it declared none.

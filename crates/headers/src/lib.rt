@@ -10,6 +10,7 @@ ghost use Rattle.wire.specs.Field.{is_optional, holds_barred, after_length, stri
 ghost use Rattle.wire.specs.Read.{fault_number};
 ghost use Rattle.names.specs.Header.{spelled_fault};
 ghost use Rattle.places.specs.Private.{max_place};
+ghost use Rattle.wire.specs.Text.{is_null, bytes_in};
 ghost use Rattle.headers.specs.Read.{length_meaning, name_meaning, header_meaning, headers_meaning};
 ghost use Rattle.headers.specs.Headers.{name_at, code_name_of, spelled_of, declares, declared_after, header_value_at, header_at, headers_at};
 
@@ -129,13 +130,12 @@ pub fn declares_length(direction: Direction, code: u16) -> bool
 pub fn declared_after(
     declares: bool,
     before: Option<u32>,
-    null: bool,
-    text: &[u8],
+    value: Option<&[u8]>,
 ) -> Result<Option<u32>, Refusal>
-    ensures { length_meaning result ≡ declared_after declares before null text.now }
+    ensures { length_meaning result ≡ declared_after declares before (is_null value.entry) (bytes_in value.entry) }
 {
     if declares {
-        return length::length_after(before, null, text);
+        return length::length_after(before, value);
     }
     Ok(before)
 }
@@ -151,12 +151,11 @@ fn value_at(
     ensures { header_meaning result ≡ header_value_at packet.now at declares before }
 {
     let Field { value, next } = read::string(packet, at, StringField::HeaderValue)?;
-    let declared = match value {
-        None => declared_after(declares, before, true, &[])?,
-        Some(Span { start, len }) => {
-            declared_after(declares, before, false, part_of(packet, start, len))?
-        }
+    let text = match value {
+        None => None,
+        Some(Span { start, len }) => Some(part_of(packet, start, len)),
     };
+    let declared = declared_after(declares, before, text)?;
     Ok(ReadHeader {
         value: at,
         declared,
