@@ -6,6 +6,7 @@ ghost use Rattle.wire.specs.Bytes.{over, integer_bytes};
 ghost use Rattle.wire.specs.Field.{string_bytes};
 ghost use Rattle.wire.specs.Refusal.{attribute_wrong};
 ghost use Rattle.wire.specs.Packet.{Fits};
+ghost use Rattle.wire.specs.Text.{is_null, bytes_in};
 ghost use Rattle.wire.specs.Read.{fault_number};
 ghost use Rattle.names.specs.Attribute.{attribute_kind};
 ghost use Rattle.building.specs.Fault.{unless, or_else, first_fault};
@@ -58,10 +59,10 @@ fn is_pair(kind: AttributeKind) -> bool
 }
 
 // How many bytes a buffer needs for an attribute with a string, 8193 where no packet has room for it.
-pub fn text_needs(building: Building, code: u16, null: bool, value: &[u8]) -> usize
-    ensures { result ≡ needed_at building.next.0 (text_fields code null value.now) }
+pub fn text_needs(building: Building, code: u16, value: Option<&[u8]>) -> usize
+    ensures { result ≡ needed_at building.next.0 (text_fields code (is_null value.entry) (bytes_in value.entry)) }
 {
-    size::string(size::plus(building.next.index(), size::BYTE), null, value)
+    size::string(size::plus(building.next.index(), size::BYTE), value)
 }
 
 // How many bytes a buffer needs for an attribute with an integer, 8193 where no packet has room for it.
@@ -72,19 +73,12 @@ pub fn integer_needs(building: Building, code: u16, value: u16) -> usize
 }
 
 // How many bytes a buffer needs for an attribute with a name and a value, 8193 where no packet has room for it.
-pub fn pair_needs(
-    building: Building,
-    code: u16,
-    noname: bool,
-    name: &[u8],
-    novalue: bool,
-    value: &[u8],
-) -> usize
-    ensures { result ≡ needed_at building.next.0 (pair_fields code noname name.now novalue value.now) }
+pub fn pair_needs(building: Building, code: u16, name: Option<&[u8]>, value: Option<&[u8]>) -> usize
+    ensures { result ≡ needed_at building.next.0 (pair_fields code (is_null name.entry) (bytes_in name.entry) (is_null value.entry) (bytes_in value.entry)) }
 {
     let at = size::plus(building.next.index(), size::BYTE);
-    let at = size::string(at, noname, name);
-    size::string(at, novalue, value)
+    let at = size::string(at, name);
+    size::string(at, value)
 }
 
 // The first fault of an attribute up to its value: the record, and a code that takes no value of this kind.
@@ -100,13 +94,12 @@ fn text_fault(
     building: Building,
     buffer: &[u8],
     code: u16,
-    null: bool,
-    value: &[u8],
+    value: Option<&[u8]>,
 ) -> Result<(), Refusal>
-    ensures { fault_number result ≡ first_fault (text_call building buffer.now code null value.now).faults }
+    ensures { fault_number result ≡ first_fault (text_call building buffer.now code (is_null value.entry) (bytes_in value.entry)).faults }
 {
     code_fault(building, buffer, is_text(kind_of_code(code)))?;
-    fault::string(StringField::AttributeValue, null, value)
+    fault::string(StringField::AttributeValue, value)
 }
 
 // The first fault of an attribute with an integer.
@@ -121,25 +114,23 @@ fn pair_fault(
     building: Building,
     buffer: &[u8],
     code: u16,
-    noname: bool,
-    name: &[u8],
-    novalue: bool,
-    value: &[u8],
+    name: Option<&[u8]>,
+    value: Option<&[u8]>,
 ) -> Result<(), Refusal>
-    ensures { fault_number result ≡ first_fault (pair_call building buffer.now code noname name.now novalue value.now).faults }
+    ensures { fault_number result ≡ first_fault (pair_call building buffer.now code (is_null name.entry) (bytes_in name.entry) (is_null value.entry) (bytes_in value.entry)).faults }
 {
     code_fault(building, buffer, is_pair(kind_of_code(code)))?;
-    fault::string(StringField::AttributeName, noname, name)?;
-    fault::string(StringField::AttributeValue, novalue, value)
+    fault::string(StringField::AttributeName, name)?;
+    fault::string(StringField::AttributeValue, value)
 }
 
 // Writes an attribute with a string.
-fn write_text(buffer: &mut [u8], at: usize, code: u16, null: bool, value: &[u8])
-    requires { (code ≤ 255) × Fits at (code ∷ string_bytes null value.now) buffer.old }
-    ensures { buffer.new ≡ over buffer.old at (code ∷ string_bytes null value.now) }
+fn write_text(buffer: &mut [u8], at: usize, code: u16, value: Option<&[u8]>)
+    requires { (code ≤ 255) × Fits at (code ∷ string_bytes (is_null value) (bytes_in value)) buffer.old }
+    ensures { buffer.new ≡ over buffer.old at (code ∷ string_bytes (is_null value.entry) (bytes_in value.entry)) }
 {
     let at = write::byte(buffer, at, code as u8);
-    write::string(buffer, at, null, value);
+    write::string(buffer, at, value);
 }
 
 // Writes an attribute with an integer.
@@ -152,20 +143,12 @@ fn write_integer(buffer: &mut [u8], at: usize, code: u16, value: u16)
 }
 
 // Writes an attribute with a name and a value.
-fn write_pair(
-    buffer: &mut [u8],
-    at: usize,
-    code: u16,
-    noname: bool,
-    name: &[u8],
-    novalue: bool,
-    value: &[u8],
-)
-    requires { (code ≤ 255) × Fits at (code ∷ (string_bytes noname name.now ++ string_bytes novalue value.now)) buffer.old }
-    ensures { buffer.new ≡ over buffer.old at (code ∷ (string_bytes noname name.now ++ string_bytes novalue value.now)) }
+fn write_pair(buffer: &mut [u8], at: usize, code: u16, name: Option<&[u8]>, value: Option<&[u8]>)
+    requires { (code ≤ 255) × Fits at (code ∷ (string_bytes (is_null name) (bytes_in name) ++ string_bytes (is_null value) (bytes_in value))) buffer.old }
+    ensures { buffer.new ≡ over buffer.old at (code ∷ (string_bytes (is_null name.entry) (bytes_in name.entry) ++ string_bytes (is_null value.entry) (bytes_in value.entry))) }
 {
     let at = write::byte(buffer, at, code as u8);
-    write::two_strings(buffer, at, noname, name, novalue, value);
+    write::two_strings(buffer, at, name, value);
 }
 
 // Adds an attribute with a string.
@@ -173,16 +156,15 @@ pub fn text(
     building: Building,
     buffer: &mut [u8],
     code: u16,
-    null: bool,
-    value: &[u8],
+    value: Option<&[u8]>,
 ) -> Result<Building, Refusal>
-    ensures result_value { added_outcome result ≡ outcome (text_call building buffer.old code null value.now) (length buffer.old) }
-    ensures buffer_after { buffer.new ≡ buffer_after (text_call building buffer.old code null value.now) buffer.old }
+    ensures result_value { added_outcome result ≡ outcome (text_call building buffer.old code (is_null value.entry) (bytes_in value.entry)) (length buffer.old) }
+    ensures buffer_after { buffer.new ≡ buffer_after (text_call building buffer.old code (is_null value.entry) (bytes_in value.entry)) buffer.old }
 {
-    let end = text_needs(building, code, null, value);
-    text_fault(building, buffer, code, null, value)?;
+    let end = text_needs(building, code, value);
+    text_fault(building, buffer, code, value)?;
     fault::fit(end, buffer.len())?;
-    write_text(buffer, building.next.index(), code, null, value);
+    write_text(buffer, building.next.index(), code, value);
     Ok(with_attribute(building, end))
 }
 
@@ -203,31 +185,20 @@ pub fn integer(
     Ok(with_attribute(building, end))
 }
 
-// Adds an attribute with a name and a value. `noname` and `novalue` say that the string is null; the text given for it then does not
-// matter.
+// Adds an attribute with a name and a value.
 pub fn pair(
     building: Building,
     buffer: &mut [u8],
     code: u16,
-    noname: bool,
-    name: &[u8],
-    novalue: bool,
-    value: &[u8],
+    name: Option<&[u8]>,
+    value: Option<&[u8]>,
 ) -> Result<Building, Refusal>
-    ensures result_value { added_outcome result ≡ outcome (pair_call building buffer.old code noname name.now novalue value.now) (length buffer.old) }
-    ensures buffer_after { buffer.new ≡ buffer_after (pair_call building buffer.old code noname name.now novalue value.now) buffer.old }
+    ensures result_value { added_outcome result ≡ outcome (pair_call building buffer.old code (is_null name.entry) (bytes_in name.entry) (is_null value.entry) (bytes_in value.entry)) (length buffer.old) }
+    ensures buffer_after { buffer.new ≡ buffer_after (pair_call building buffer.old code (is_null name.entry) (bytes_in name.entry) (is_null value.entry) (bytes_in value.entry)) buffer.old }
 {
-    let end = pair_needs(building, code, noname, name, novalue, value);
-    pair_fault(building, buffer, code, noname, name, novalue, value)?;
+    let end = pair_needs(building, code, name, value);
+    pair_fault(building, buffer, code, name, value)?;
     fault::fit(end, buffer.len())?;
-    write_pair(
-        buffer,
-        building.next.index(),
-        code,
-        noname,
-        name,
-        novalue,
-        value,
-    );
+    write_pair(buffer, building.next.index(), code, name, value);
     Ok(with_attribute(building, end))
 }

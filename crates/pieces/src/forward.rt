@@ -11,8 +11,9 @@ ghost use Rattle.building.specs.Field.{faults_of, fields_bytes, needed_at};
 ghost use Rattle.building.specs.Call.{with_fault, outcome, buffer_after};
 ghost use Rattle.building_record.specs.declared.BuildingKind.{BuildingKind};
 ghost use Rattle.pieces.specs.Meaning.{added_outcome};
-ghost use Rattle.pieces.specs.Fixed.{no_nulls, fixed, forward_fields, forward_call};
-ghost use Rattle.pieces.specs.Private.{forward_strings, forward_tail};
+ghost use Rattle.pieces.specs.Fixed.{fixed};
+ghost use Rattle.pieces.specs.Strings.{fields_with, strings_with, forward_with};
+ghost use Rattle.pieces.specs.Private.{forward_tail};
 
 use crate::{COUNT_SIZE, opened};
 use building::{fault, opening, size};
@@ -30,29 +31,14 @@ pub struct Numbers {
     pub is_ssl: bool,
 }
 
-// Which of a Forward's strings are null; the text given for such a one does not matter.
+// A Forward's strings, None for null.
 #[derive(Clone, Copy)]
-pub struct Nulls {
-    pub protocol: bool,
-    pub req_uri: bool,
-    pub remote_addr: bool,
-    pub remote_host: bool,
-    pub server_name: bool,
-}
-
-impl Nulls {
-    // None of them is null.
-    pub fn none() -> Nulls
-        ensures { result ≡ no_nulls }
-    {
-        Nulls {
-            protocol: false,
-            req_uri: false,
-            remote_addr: false,
-            remote_host: false,
-            server_name: false,
-        }
-    }
+pub struct Strings<'a> {
+    pub protocol: Option<&'a [u8]>,
+    pub req_uri: Option<&'a [u8]>,
+    pub remote_addr: Option<&'a [u8]>,
+    pub remote_host: Option<&'a [u8]>,
+    pub server_name: Option<&'a [u8]>,
 }
 
 // The bytes in front of the first string: four, the code and the method. Behind the last one: port, is_ssl and the count.
@@ -61,65 +47,40 @@ const BEFORE_STRINGS: usize = AFTER_CODE_PLACE + size::BYTE;
 const BEHIND_STRINGS: usize = size::INTEGER + size::BYTE + COUNT_SIZE;
 
 // How many bytes a buffer needs for the fixed fields, 8193 where no packet has room for them.
-pub fn needs(
-    numbers: Numbers,
-    nulls: Nulls,
-    protocol: &[u8],
-    uri: &[u8],
-    addr: &[u8],
-    host: &[u8],
-    name: &[u8],
-) -> usize
-    ensures { result ≡ needed_at 0 (fixed BuildingKind.Forward (forward_fields numbers nulls protocol.now uri.now addr.now host.now name.now)) }
+pub fn needs(numbers: Numbers, strings: Strings<'_>) -> usize
+    ensures { result ≡ needed_at 0 (fixed BuildingKind.Forward (fields_with numbers strings.entry)) }
 {
-    let at = size::string(BEFORE_STRINGS, nulls.protocol, protocol);
-    let at = size::string(at, nulls.req_uri, uri);
-    let at = size::string(at, nulls.remote_addr, addr);
-    let at = size::string(at, nulls.remote_host, host);
-    let at = size::string(at, nulls.server_name, name);
+    let at = size::string(BEFORE_STRINGS, strings.protocol);
+    let at = size::string(at, strings.req_uri);
+    let at = size::string(at, strings.remote_addr);
+    let at = size::string(at, strings.remote_host);
+    let at = size::string(at, strings.server_name);
     size::plus(at, BEHIND_STRINGS)
 }
 
 // The first fault of the fixed fields.
-fn fields_fault(
-    numbers: Numbers,
-    nulls: Nulls,
-    protocol: &[u8],
-    uri: &[u8],
-    addr: &[u8],
-    host: &[u8],
-    name: &[u8],
-) -> Result<(), Refusal>
-    ensures { fault_number result ≡ first_fault (faults_of (fixed BuildingKind.Forward (forward_fields numbers nulls protocol.now uri.now addr.now host.now name.now))) }
+fn fields_fault(numbers: Numbers, strings: Strings<'_>) -> Result<(), Refusal>
+    ensures { fault_number result ≡ first_fault (faults_of (fixed BuildingKind.Forward (fields_with numbers strings.entry))) }
 {
     fault::range(FIRST_METHOD, LAST_METHOD, numbers.method)?;
-    fault::string(StringField::Protocol, nulls.protocol, protocol)?;
-    fault::string(StringField::ReqUri, nulls.req_uri, uri)?;
-    fault::string(StringField::RemoteAddr, nulls.remote_addr, addr)?;
-    fault::string(StringField::RemoteHost, nulls.remote_host, host)?;
-    fault::string(StringField::ServerName, nulls.server_name, name)
+    fault::string(StringField::Protocol, strings.protocol)?;
+    fault::string(StringField::ReqUri, strings.req_uri)?;
+    fault::string(StringField::RemoteAddr, strings.remote_addr)?;
+    fault::string(StringField::RemoteHost, strings.remote_host)?;
+    fault::string(StringField::ServerName, strings.server_name)
 }
 
 // Writes the five strings and tells the place behind them.
-fn strings(
-    buffer: &mut [u8],
-    at: usize,
-    nulls: Nulls,
-    protocol: &[u8],
-    uri: &[u8],
-    addr: &[u8],
-    host: &[u8],
-    name: &[u8],
-) -> usize
-    requires { Fits at (fields_bytes (forward_strings nulls protocol.now uri.now addr.now host.now name.now)) buffer.old }
-    ensures value { result ≡ at + length (fields_bytes (forward_strings nulls protocol.now uri.now addr.now host.now name.now)) }
-    ensures buffer_after { buffer.new ≡ over buffer.old at (fields_bytes (forward_strings nulls protocol.now uri.now addr.now host.now name.now)) }
+fn write_strings(buffer: &mut [u8], at: usize, strings: Strings<'_>) -> usize
+    requires { Fits at (fields_bytes (strings_with strings)) buffer.old }
+    ensures value { result ≡ at + length (fields_bytes (strings_with strings.entry)) }
+    ensures buffer_after { buffer.new ≡ over buffer.old at (fields_bytes (strings_with strings.entry)) }
 {
-    let at = write::string(buffer, at, nulls.protocol, protocol);
-    let at = write::string(buffer, at, nulls.req_uri, uri);
-    let at = write::string(buffer, at, nulls.remote_addr, addr);
-    let at = write::string(buffer, at, nulls.remote_host, host);
-    write::string(buffer, at, nulls.server_name, name)
+    let at = write::string(buffer, at, strings.protocol);
+    let at = write::string(buffer, at, strings.req_uri);
+    let at = write::string(buffer, at, strings.remote_addr);
+    let at = write::string(buffer, at, strings.remote_host);
+    write::string(buffer, at, strings.server_name)
 }
 
 // Writes what stands behind the strings: port, is_ssl, and 0 for the count.
@@ -134,22 +95,13 @@ fn tail(buffer: &mut [u8], at: usize, numbers: Numbers) -> usize
 }
 
 // Writes the fixed fields.
-fn write(
-    buffer: &mut [u8],
-    numbers: Numbers,
-    nulls: Nulls,
-    protocol: &[u8],
-    uri: &[u8],
-    addr: &[u8],
-    host: &[u8],
-    name: &[u8],
-)
-    requires { (Fits 0 (fields_bytes (fixed BuildingKind.Forward (forward_fields numbers nulls protocol.now uri.now addr.now host.now name.now))) buffer.old) × (numbers.method ≤ last_method) }
-    ensures { buffer.new ≡ over buffer.old 0 (fields_bytes (fixed BuildingKind.Forward (forward_fields numbers nulls protocol.now uri.now addr.now host.now name.now))) }
+fn write(buffer: &mut [u8], numbers: Numbers, strings: Strings<'_>)
+    requires { (Fits 0 (fields_bytes (fixed BuildingKind.Forward (fields_with numbers strings))) buffer.old) × (numbers.method ≤ last_method) }
+    ensures { buffer.new ≡ over buffer.old 0 (fields_bytes (fixed BuildingKind.Forward (fields_with numbers strings.entry))) }
 {
     let at = opening::open(buffer, Kind::Forward, 0);
     let at = write::byte(buffer, at, numbers.method as u8);
-    let at = strings(buffer, at, nulls, protocol, uri, addr, host, name);
+    let at = write_strings(buffer, at, strings);
     tail(buffer, at, numbers);
 }
 
@@ -158,48 +110,24 @@ fn write(
 pub fn begin_with(
     buffer: &mut [u8],
     numbers: Numbers,
-    nulls: Nulls,
-    protocol: &[u8],
-    uri: &[u8],
-    addr: &[u8],
-    host: &[u8],
-    name: &[u8],
+    strings: Strings<'_>,
     later: Result<(), Refusal>,
 ) -> Result<Building, Refusal>
-    ensures result_value { added_outcome result ≡ outcome (with_fault (forward_call numbers nulls protocol.now uri.now addr.now host.now name.now) (fault_number later)) (length buffer.old) }
-    ensures buffer_after { buffer.new ≡ buffer_after (with_fault (forward_call numbers nulls protocol.now uri.now addr.now host.now name.now) (fault_number later)) buffer.old }
+    ensures result_value { added_outcome result ≡ outcome (with_fault (forward_with numbers strings.entry) (fault_number later)) (length buffer.old) }
+    ensures buffer_after { buffer.new ≡ buffer_after (with_fault (forward_with numbers strings.entry) (fault_number later)) buffer.old }
 {
-    let end = needs(numbers, nulls, protocol, uri, addr, host, name);
-    fields_fault(numbers, nulls, protocol, uri, addr, host, name)?;
+    let end = needs(numbers, strings);
+    fields_fault(numbers, strings)?;
     later?;
     fault::fit(end, buffer.len())?;
-    write(buffer, numbers, nulls, protocol, uri, addr, host, name);
+    write(buffer, numbers, strings);
     Ok(opened(BuildingKind::Forward, end))
 }
 
 // Begins a Forward: writes its fixed fields at the buffer's start, its length and its count as 0, and answers the building record.
-pub fn begin(
-    buffer: &mut [u8],
-    numbers: Numbers,
-    nulls: Nulls,
-    protocol: &[u8],
-    uri: &[u8],
-    addr: &[u8],
-    host: &[u8],
-    name: &[u8],
-) -> Result<Building, Refusal>
-    ensures result_value { added_outcome result ≡ outcome (forward_call numbers nulls protocol.now uri.now addr.now host.now name.now) (length buffer.old) }
-    ensures buffer_after { buffer.new ≡ buffer_after (forward_call numbers nulls protocol.now uri.now addr.now host.now name.now) buffer.old }
+pub fn begin(buffer: &mut [u8], numbers: Numbers, strings: Strings<'_>) -> Result<Building, Refusal>
+    ensures result_value { added_outcome result ≡ outcome (forward_with numbers strings.entry) (length buffer.old) }
+    ensures buffer_after { buffer.new ≡ buffer_after (forward_with numbers strings.entry) buffer.old }
 {
-    begin_with(
-        buffer,
-        numbers,
-        nulls,
-        protocol,
-        uri,
-        addr,
-        host,
-        name,
-        Ok(()),
-    )
+    begin_with(buffer, numbers, strings, Ok(()))
 }
