@@ -1,7 +1,7 @@
 // A Forward and a Send Headers, which are written in pieces: the fixed fields, then each header, then each attribute.
 use building_record::Building;
 use connection::{Connection, Written};
-use pieces::forward::{Nulls, Numbers};
+use pieces::forward::{Numbers, Strings};
 use pieces::{attribute, code, forward, header, send_headers};
 use wire::refusal::Refusal;
 
@@ -61,20 +61,14 @@ impl Request<'_> {
             server_port: self.server_port,
             is_ssl: self.is_ssl,
         };
-        let nulls = Nulls {
-            remote_host: true,
-            ..Nulls::none()
+        let strings = Strings {
+            protocol: Some(b"HTTP/1.1"),
+            req_uri: Some(self.req_uri.as_bytes()),
+            remote_addr: Some(b"192.0.2.15"),
+            remote_host: None,
+            server_name: Some(b"orchard.example"),
         };
-        forward::begin(
-            buffer,
-            numbers,
-            nulls,
-            b"HTTP/1.1",
-            self.req_uri.as_bytes(),
-            b"192.0.2.15",
-            b"",
-            b"orchard.example",
-        )
+        forward::begin(buffer, numbers, strings)
     }
 }
 
@@ -100,8 +94,7 @@ impl Header<'_> {
             building,
             buffer,
             self.name.as_bytes(),
-            false,
-            self.value.as_bytes(),
+            Some(self.value.as_bytes()),
         )
     }
 }
@@ -113,8 +106,7 @@ impl Attribute<'_> {
                 building,
                 buffer,
                 attribute_code(name),
-                false,
-                value.as_bytes(),
+                Some(value.as_bytes()),
             ),
             Attribute::Integer(name, value) => {
                 attribute::integer(building, buffer, attribute_code(name), value)
@@ -123,10 +115,8 @@ impl Attribute<'_> {
                 building,
                 buffer,
                 PAIR,
-                false,
-                name.as_bytes(),
-                false,
-                value.as_bytes(),
+                Some(name.as_bytes()),
+                Some(value.as_bytes()),
             ),
         }
     }

@@ -1,7 +1,7 @@
 // The commands that make a piece. Those that add one begin with the record, K,N,N,N,F, and have what they add from word 7 on.
 use crate::{record, refused};
 use building_record::Building;
-use pieces::forward::{Nulls, Numbers};
+use pieces::forward::Numbers;
 use pieces::{attribute, forward, header, send_headers};
 use std::io;
 use std::io::Write;
@@ -56,28 +56,14 @@ fn forward(case: &[u8], mut strings: Strings<'_>, buffer: &mut [u8]) -> Result<B
         server_port: parse::number(case, 8),
         is_ssl: parse::flag(case, 9),
     };
-    let protocol = strings.string(word(case, 3));
-    let req_uri = strings.string(word(case, 4));
-    let remote_addr = strings.string(word(case, 5));
-    let remote_host = strings.string(word(case, 6));
-    let server_name = strings.string(word(case, 7));
-    let nulls = Nulls {
-        protocol: protocol.is_none(),
-        req_uri: req_uri.is_none(),
-        remote_addr: remote_addr.is_none(),
-        remote_host: remote_host.is_none(),
-        server_name: server_name.is_none(),
+    let strings = forward::Strings {
+        protocol: strings.string(word(case, 3)),
+        req_uri: strings.string(word(case, 4)),
+        remote_addr: strings.string(word(case, 5)),
+        remote_host: strings.string(word(case, 6)),
+        server_name: strings.string(word(case, 7)),
     };
-    forward::begin(
-        buffer,
-        numbers,
-        nulls,
-        protocol.unwrap_or(&[]),
-        req_uri.unwrap_or(&[]),
-        remote_addr.unwrap_or(&[]),
-        remote_host.unwrap_or(&[]),
-        server_name.unwrap_or(&[]),
-    )
+    forward::begin(buffer, numbers, strings)
 }
 
 // Begins a Send Headers.
@@ -88,7 +74,7 @@ fn send_headers(
 ) -> Result<Building, Refusal> {
     let status = parse::number(case, 2);
     let message = strings.string(word(case, 3));
-    send_headers::begin(buffer, status, message.is_none(), message.unwrap_or(&[]))
+    send_headers::begin(buffer, status, message)
 }
 
 // Adds a header: word 8 is its code or its name, 9 its value.
@@ -100,13 +86,7 @@ fn header_by_code(
     let building = record::parse(part(case, 1));
     let code = parse::number(case, 8);
     let value = strings.string(word(case, 9));
-    header::coded(
-        building,
-        buffer,
-        code,
-        value.is_none(),
-        value.unwrap_or(&[]),
-    )
+    header::coded(building, buffer, code, value)
 }
 
 fn header_by_name(
@@ -117,14 +97,7 @@ fn header_by_name(
     let building = record::parse(part(case, 1));
     let name = strings.string(word(case, 8));
     let value = strings.string(word(case, 9));
-    header::spelled(
-        building,
-        buffer,
-        name.is_none(),
-        name.unwrap_or(&[]),
-        value.is_none(),
-        value.unwrap_or(&[]),
-    )
+    header::spelled(building, buffer, name, value)
 }
 
 // Adds an attribute: word 7 is its code, 9 its value, or its name before the value.
@@ -136,13 +109,7 @@ fn text_attribute(
     let building = record::parse(part(case, 1));
     let code = parse::number(case, 7);
     let value = strings.string(word(case, 9));
-    attribute::text(
-        building,
-        buffer,
-        code,
-        value.is_none(),
-        value.unwrap_or(&[]),
-    )
+    attribute::text(building, buffer, code, value)
 }
 
 fn integer_attribute(case: &[u8], buffer: &mut [u8]) -> Result<Building, Refusal> {
@@ -164,13 +131,5 @@ fn pair_attribute(
     let code = parse::number(case, 7);
     let name = strings.string(word(case, 9));
     let value = strings.string(word(case, 10));
-    attribute::pair(
-        building,
-        buffer,
-        code,
-        name.is_none(),
-        name.unwrap_or(&[]),
-        value.is_none(),
-        value.unwrap_or(&[]),
-    )
+    attribute::pair(building, buffer, code, name, value)
 }
