@@ -75,12 +75,7 @@ impl Request<'_> {
 impl Response<'_> {
     // Builds the Send Headers and closes it, in the same way.
     pub fn write(self, connection: Connection, buffer: &mut [u8]) -> Result<Written, Refusal> {
-        let mut building = send_headers::begin(
-            buffer,
-            self.status,
-            false,
-            self.message.as_bytes(),
-        )?;
+        let mut building = send_headers::begin(buffer, self.status, Some(self.message.as_bytes()))?;
         for header in self.headers {
             building = header.put(building, buffer)?;
         }
