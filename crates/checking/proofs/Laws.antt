@@ -2,32 +2,31 @@
 -- Assumes nothing.
 use mathlib.Core.Path.{◌≡◌, refl, sym, ap, ◌∙◌, subst}
 use mathlib.Core.Bool.{Bool, true, false}
-use mathlib.Core.List.{List, []}
-use Prim.Native.Nat.{ℕ, ◌+◌, ◌-◌, ◌≤◌}
+use mathlib.Core.List.{List}
+use Prim.Native.Nat.{ℕ, ◌+◌, ◌-◌, ◌≤◌, ◌<◌}
 use native.Mathlib.Omega.{arith}
 use borrow.Author.Tests.{le-leb, leb-true, eq-eqb, eqb-true}
 use lib.Dec.{leb, ltb, eqb}
-use lib.ListN.{length, drop, length-take, length-drop, drop_of_length-le}
-use lib.Seq.{take_all, drop-drop}
+use lib.ListN.{length, take, drop, length-take, length-drop}
+use lib.Seq.{take_all}
 use Rattle.wire.specs.Pick.{pick, both}
 use Rattle.wire.specs.Refusal.{none, unfinished_packet, capture_too_long}
 use Rattle.wire.specs.Bytes.{part}
-use Rattle.wire.specs.Packet.{payload_place}
 use Rattle.wire.proofs.Tests.{both_first, both_second}
 use Rattle.packet.specs.declared.Packet.{Packet}
 use Rattle.places.specs.Entries.{max_places}
 use Rattle.connection.specs.declared.Connection.{Connection}
 use Rattle.reader.specs.declared.Received.{Received}
-use Rattle.reader.specs.Meaning.{needs, refused, accepted, received_meaning}
+use Rattle.reader.specs.Meaning.{needs, refused, accepted, answer_meaning}
 use Rattle.reader.specs.Reading.{context_of}
 use Rattle.reading_laws.specs.Inside.{PacketInside}
 use Rattle.reading_laws.proofs.Acceptance.{accepted_is}
 use Rattle.reading_laws.proofs.Inside.{packet_inside}
 use Rattle.capture.specs.Course.{direction_in, first_in, stopped, course, total, one_each, size_of}
 use Rattle.capture.specs.Facts.{AtMostBytes}
-use Rattle.capture.proofs.Course.{taken_inside, taken_size, first_none, course_by_lem}
+use Rattle.capture.proofs.Course.{taken_inside, taken_size, course_by_lem}
 use Rattle.checking.specs.declared.Checking.{Checking}
-use Rattle.checking.specs.Checking.{max_capture, requests_in, body_in, requests_of, body_of, verdict, verdict_place, possible, goes_on, advanced, gone_on, finished}
+use Rattle.checking.specs.Checking.{max_capture, requests_in, body_in, requests_of, body_of, verdict, verdict_place, possible, goes_on, advanced, gone_on}
 use Rattle.checking.specs.Private.{FiguresCount, PacketCounts, counted}
 
 -- the refusal and the place that are told, by their tests; a proof that does not reach one says `refl`
@@ -40,19 +39,6 @@ pub verdict_place_by : (refusal place size : ℕ) (t : Bool) → both (eqb refus
     → pick t max_capture place ≡ verdict_place refusal place size
 unfolding verdict_place
 verdict_place_by refusal place size t p = rw p
-
--- whether a check goes on, by its tests
-pub goes_on_is : (k : Checking)
-    → both (eqb k.refusal none) (both (both (leb k.packets k.place) (leb k.requests k.place)) (leb k.body k.place)) ≡ goes_on k
-unfolding goes_on
-goes_on_is k = refl
-
--- the answer of a check, by its verdict
-pub finished_by : (k : Checking) (size refusal place : ℕ) → refusal ≡ verdict k.refusal k.place size
-    → place ≡ verdict_place k.refusal k.place size
-    → record { packets = k.packets; requests = k.requests; body = k.body; state = k.connection.state; refusal = refusal; place = place } ≡ finished k size
-unfolding finished
-finished_by k size refusal place p q = rw (p, q)
 
 -- a request is one packet, and a body is inside its packet
 packet_within : (packet : Packet) (size : ℕ) → 1 ≤ size → PacketInside size packet → (requests_in packet ≤ size) × (body_in packet ≤ size)
@@ -113,97 +99,81 @@ advanced_none k s refusal =
     same_figures k.connection refusal (k.packets + 0) (k.requests + 0) (k.body + 0) (k.place + 0) k.packets k.requests k.body k.place
     (omega arith) (omega arith) (omega arith) (omega arith)
 
--- the loop at a place in the bytes: nothing was refused, the figures can be, and what is left comes to what the whole does
-pub record Running (start : Checking) (s : List ℕ) (k : Checking) (at : ℕ) : Type 0 where
-  pub below : at ≤ length s
-  pub place_is : k.place ≡ start.place + at
+-- the loop where so many bytes are left: nothing was refused, the figures can be, and what is left comes to what the whole does
+pub record Running (start : Checking) (s : List ℕ) (k : Checking) (left : List ℕ) : Type 0 where
+  pub place_is : k.place + length left ≡ start.place + length s
   pub figures : FiguresCount k
   pub clean : k.refusal ≡ none
-  pub same : advanced start (course start.connection s) ≡ advanced k (course k.connection (drop at s))
+  pub same : advanced start (course start.connection s) ≡ advanced k (course k.connection left)
 
-pub running_start : (k : Checking) (s : List ℕ) → FiguresCount k → k.refusal ≡ none → Running k s k 0
+pub running_start : (k : Checking) (s : List ℕ) → FiguresCount k → k.refusal ≡ none → Running k s k s
 running_start k s f e = record {
-  below = omega arith;
-  place_is = omega arith;
+  place_is = refl;
   figures = f;
   clean = e;
   same = refl;
 }
 
--- what is read at a place is what is left there
-left_there : (s : List ℕ) (at : ℕ) → part s at (length s) ≡ drop at s
-unfolding part
-left_there s at = take_all (length s) (drop at s) (omega (arith, length-drop at s))
-
--- what the call that reads the first packet says of it
-pub read_is : (c : Connection) (s lent : List ℕ) (at : ℕ) (received r : Received) → lent ≡ part s at (length s)
-    → received_meaning received ≡ first_in c lent → received ≡ r → first_in c (drop at s) ≡ received_meaning r
-read_is c s lent at received r l m e = ap (first_in c) (sym (l ∙ left_there s at)) ∙ sym m ∙ ap received_meaning e
-
-module _ (start : Checking) (s : List ℕ) (k : Checking) (at : ℕ) (R : Running start s k at) where
+module _ (start : Checking) (s : List ℕ) (k : Checking) (left : List ℕ) (R : Running start s k left) where
   -- the answer, where the course stops here with this refusal
-  stops : (refusal : ℕ) → course k.connection (drop at s) ≡ stopped k.connection (drop at s) refusal
+  stops : (refusal : ℕ) → course k.connection left ≡ stopped k.connection left refusal
       → record { connection = k.connection; packets = k.packets; requests = k.requests; body = k.body; place = k.place; refusal = refusal }
       ≡ advanced start (course start.connection s)
-  stops refusal e = sym (R.same ∙ ap (advanced k) e ∙ advanced_none k (drop at s) refusal)
+  stops refusal e = sym (R.same ∙ ap (advanced k) e ∙ advanced_none k left refusal)
 
-  -- without one the check is as it was
-  stays : course k.connection (drop at s) ≡ stopped k.connection (drop at s) none → k ≡ advanced start (course start.connection s)
-  stays e =
+  -- no whole packet is left: the check is as it was
+  pub running_needs : (n : ℕ) (received : Received) → answer_meaning received ≡ first_in k.connection left → received ≡ Received.Needs n
+      → k ≡ advanced start (course start.connection s)
+  running_needs n received told is =
       ap (λ (r : ℕ). record { connection = k.connection; packets = k.packets; requests = k.requests; body = k.body; place = k.place; refusal = r }) R.clean
-      ∙ stops none e
-
-  -- no whole packet is left
-  pub running_needs : (n : ℕ) → first_in k.connection (drop at s) ≡ needs n → k ≡ advanced start (course start.connection s)
-  running_needs n e = stays (course_by_lem k.connection (drop at s) (needs n) e)
+      ∙ stops none (course_by_lem k.connection left (needs n) (sym told ∙ ap answer_meaning is))
 
   -- the next packet is refused
-  pub running_refused : (n : ℕ) → first_in k.connection (drop at s) ≡ refused n
+  pub running_refused : (n : ℕ) → first_in k.connection left ≡ refused n
       → record { connection = k.connection; packets = k.packets; requests = k.requests; body = k.body; place = k.place; refusal = n }
       ≡ advanced start (course start.connection s)
-  running_refused n e = stops n (course_by_lem k.connection (drop at s) (refused n) e)
-
-  -- nothing is left
-  pub running_done : length s ≤ at → k ≡ advanced start (course start.connection s)
-  running_done h =
-      let nothing : drop at s ≡ [] = drop_of_length-le s h in
-      running_needs payload_place (ap (first_in k.connection) nothing ∙ first_none k.connection)
+  running_refused n e = stops n (course_by_lem k.connection left (refused n) e)
 
   -- the next packet is accepted: it is inside the bytes, and can be counted
-  pub turn_inside : (packet : Packet) (taken : ℕ) (next : Connection) → first_in k.connection (drop at s) ≡ accepted packet taken next
-      → (at + taken ≤ length s) × PacketCounts k packet taken
-  turn_inside packet taken next e =
-      let inside = taken_inside k.connection (drop at s) packet taken next e in
-      let few = figures_within k.connection (drop at s) packet taken next e in
-      let there : taken ≤ length s - at = subst (λ (n : ℕ). taken ≤ n) (length-drop at s) inside.there in
-      let below = R.below in (
-        omega arith,
-        record {
-          figures = R.figures;
-          some = omega (arith, inside.some);
-          requests_within = few.0;
-          body_within = few.1;
-        },
-      )
+  module _ (packet : Packet) (taken : ℕ) (next : Connection) (received : Received) (told : answer_meaning received ≡ first_in k.connection left)
+      (is : received ≡ Received.Accepted packet taken next) where
+    there : first_in k.connection left ≡ accepted packet taken next
+    there = sym told ∙ ap answer_meaning is
 
-  pub running_turn : (packet : Packet) (taken : ℕ) (next : Connection) → first_in k.connection (drop at s) ≡ accepted packet taken next
-      → Running start s (counted k packet taken next) (at + taken)
-  running_turn packet taken next e =
-      let inside = turn_inside packet taken next e in
-      let this = inside.1 in
-      let f = R.figures in
-      record {
-        below = inside.0;
-        place_is = omega (arith, R.place_is);
-        figures = record {
-          packets_few = omega (arith, f.packets_few, this.some);
-          requests_few = omega (arith, f.requests_few, this.requests_within);
-          body_few = omega (arith, f.body_few, this.body_within);
-        };
-        clean = refl;
-        same = R.same ∙ advanced_turn k (drop at s) packet taken next e
-            ∙ ap (λ (l : List ℕ). advanced (counted k packet taken next) (course next l)) (drop-drop taken at s);
-      }
+    pub turn_inside : (taken ≤ length left) × PacketCounts k packet taken
+    turn_inside =
+        let inside = taken_inside k.connection left packet taken next there in
+        let few = figures_within k.connection left packet taken next there in (
+          inside.there,
+          record {
+            figures = R.figures;
+            some = omega (arith, inside.some);
+            requests_within = few.0;
+            body_within = few.1;
+          },
+        )
+
+    -- and what is behind it is left, which is shorter
+    behind : take (length left - taken) (drop taken left) ≡ drop taken left
+    behind = take_all (length left - taken) (drop taken left) (omega (arith, length-drop taken left))
+
+    pub turn_smaller : length (take (length left - taken) (drop taken left)) < length left
+    turn_smaller = rw behind (omega (arith, length-drop taken left, turn_inside.0, turn_inside.1.some))
+
+    pub running_turn : Running start s (counted k packet taken next) (take (length left - taken) (drop taken left))
+    running_turn =
+        let this = turn_inside.1 in
+        let f = R.figures in
+        rw behind (record {
+          place_is = omega (arith, R.place_is, turn_inside.0, length-drop taken left);
+          figures = record {
+            packets_few = omega (arith, f.packets_few, this.some);
+            requests_few = omega (arith, f.requests_few, this.requests_within);
+            body_few = omega (arith, f.body_few, this.body_within);
+          };
+          clean = refl;
+          same = R.same ∙ advanced_turn k left packet taken next there;
+        })
 
 -- a check goes on where nothing was refused and its figures can be
 pub goes_on_by : (k : Checking) → goes_on k ≡ true → FiguresCount k × (k.refusal ≡ none)

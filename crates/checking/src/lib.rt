@@ -13,13 +13,17 @@ use connection::{Connection, State};
 use packet::Packet;
 use places::MAX_PLACES;
 use reader::Received;
-use wire::{part_of, refusal};
+use wire::part_of;
+use wire::refusal::Refusal;
 
 // The most bytes of a capture: of a longer one only so many are judged.
 pub const MAX_CAPTURE: u32 = 4294967295;
 
+// What a check's refusal is where nothing was refused.
+pub const NO_REFUSAL: u8 = 0;
+
 // A check on the way: the connection and the figures of the packets that were accepted, the place behind them, and the refusal of the
-// packet that stands there, 0 for none.
+// packet that stands there, 0 for none. The refusal is a number and not a `Refusal`, so that any record gets an answer.
 #[derive(Clone, Copy)]
 pub struct Checking {
     pub connection: Connection,
@@ -54,16 +58,7 @@ pub fn check(capture: &[u8]) -> Checked
 fn requests_in(packet: Packet) -> u32
     ensures { result ≡ requests_in packet }
 {
-    match packet {
-        Packet::CPing => 0,
-        Packet::CPong => 0,
-        Packet::Forward(f) => 1,
-        Packet::Body(p) => 0,
-        Packet::GetBody(asked) => 0,
-        Packet::SendHeaders(h) => 0,
-        Packet::BodyChunk(p) => 0,
-        Packet::End(reuse) => 0,
-    }
+    matches!(packet, Packet::Forward(_)) as u32
 }
 
 // How many bytes of a request's body a packet holds.
@@ -71,14 +66,8 @@ fn body_in(packet: Packet) -> u32
     ensures { result ≡ body_in packet }
 {
     match packet {
-        Packet::CPing => 0,
-        Packet::CPong => 0,
-        Packet::Forward(f) => 0,
         Packet::Body(part) => part.len as u32,
-        Packet::GetBody(asked) => 0,
-        Packet::SendHeaders(h) => 0,
-        Packet::BodyChunk(part) => 0,
-        Packet::End(reuse) => 0,
+        _ => 0,
     }
 }
 
@@ -93,22 +82,24 @@ impl Checking {
             requests: 0,
             body: 0,
             place: 0,
-            refusal: refusal::NONE,
+            refusal: NO_REFUSAL,
         }
     }
 
     // Whether more bytes are looked at: nothing was refused, and the figures can be.
+    #[tactic(auto, unfolding(crate::specs::Checking::goes_on))]
     pub fn goes_on(self) -> bool
         ensures { result ≡ goes_on self }
     {
-        (self.refusal == refusal::NONE)
-            & ((self.packets <= self.place)
-                & (self.requests <= self.place)
-                & (self.body <= self.place))
+        self.refusal == NO_REFUSAL
+            && self.packets <= self.place
+            && self.requests <= self.place
+            && self.body <= self.place
     }
 
     // Goes on with more bytes, from this check's place on. It takes whole packets: by so many bytes its place moves, and those behind
     // them are to be given again, with more behind them. Where something was refused it stays as it is.
+    #[tactic(auto, unfolding(crate::specs::Checking::gone_on))]
     pub fn go_on(self, bytes: &[u8]) -> Checking
         ensures { result ≡ gone_on self bytes.now }
     {
@@ -130,7 +121,7 @@ impl Checking {
             requests: self.requests + requests_in(packet),
             body: self.body + body_in(packet),
             place: self.place + taken as u32,
-            refusal: refusal::NONE,
+            refusal: NO_REFUSAL,
         }
     }
 
@@ -141,34 +132,30 @@ impl Checking {
     {
         let mut table = [0u16; MAX_PLACES];
         let mut checking = self;
-        let mut at = 0;
-        while at < bytes.len() {
-            match read_first(
-                checking.connection,
-                part_of(bytes, at, bytes.len()),
-                &mut table,
-            ) {
-                Received::Needs(n) => {
-                    return checking;
-                }
-                Received::Refused(n) => {
-                    checking.refusal = n;
-                    return checking;
-                }
-                Received::Accepted {
-                    packet,
-                    taken,
-                    connection,
-                } => {
+        let mut left = bytes;
+        loop {
+            match read_first(checking.connection, left, &mut table) {
+                Ok(
+                    Received::Accepted {
+                        packet,
+                        taken,
+                        connection,
+                    },
+                ) => {
                     checking = checking.counted(packet, taken, connection);
-                    at += taken;
+                    left = &left[taken..];
+                }
+                Ok(Received::Needs(_)) => return checking,
+                Err(refusal) => {
+                    checking.refusal = refusal.number();
+                    return checking;
                 }
             }
         }
-        checking
     }
 
     // The answer at the end of a capture of `size` bytes.
+    #[tactic(auto, unfolding(crate::specs::Checking::finished))]
     pub fn finish(self, size: u64) -> Checked
         ensures { result ≡ finished self size }
     {
@@ -183,26 +170,28 @@ impl Checking {
     }
 
     // The refusal of a capture of `size` bytes.
+    #[tactic(auto, unfolding(crate::specs::Checking::verdict))]
     fn verdict(self, size: u64) -> u8
         ensures { result ≡ verdict self.refusal self.place size }
     {
-        if self.refusal != refusal::NONE {
+        if self.refusal != NO_REFUSAL {
             return self.refusal;
         }
         if (MAX_CAPTURE as u64) < size {
-            return refusal::CAPTURE_TOO_LONG;
+            return Refusal::CaptureTooLong.number();
         }
         if self.place as u64 != size {
-            return refusal::UNFINISHED_PACKET;
+            return Refusal::UnfinishedPacket.number();
         }
-        refusal::NONE
+        NO_REFUSAL
     }
 
     // The place that is told.
+    #[tactic(auto, unfolding(crate::specs::Checking::verdict_place))]
     fn verdict_place(self, size: u64) -> u32
         ensures { result ≡ verdict_place self.refusal self.place size }
     {
-        if (self.refusal == refusal::NONE) & ((MAX_CAPTURE as u64) < size) {
+        if self.refusal == NO_REFUSAL && (MAX_CAPTURE as u64) < size {
             return MAX_CAPTURE;
         }
         self.place

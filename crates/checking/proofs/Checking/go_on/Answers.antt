@@ -1,12 +1,9 @@
 -- `Checking::go_on` meets its contract.
 -- Assumes nothing.
 use mathlib.Core.Path.{sym, ◌∙◌}
-use Rattle.checking.proofs.Laws.{goes_on_by, gone_on_stays, gone_on_is, room_is}
+use Rattle.checking.proofs.Laws.{goes_on_by, gone_on_is, room_is}
 use borrow.Author.Rules.{rules}
 use Rattle.checking.proofs.Checking.go_on.Goals as goal
-
-pub returns-then-not-goes_on : goal.returns-then-not-goes_on
-returns-then-not-goes_on c = gone_on_stays _ _ (sym c.goes_on.ensures ∙ c.if-not-goes_on.true)
 
 pub run-requires : goal.run-requires
 run-requires c = let going = goes_on_by _ (sym c.goes_on.ensures ∙ c.if-not-goes_on.false) in (room_is _ _ _ (search rules) c.part_of.ensures, going)

@@ -1,59 +1,36 @@
 -- `Checking::run` meets its contract. The invariant is `Running`.
 -- Assumes nothing.
 use native.Mathlib.Omega.{arith}
-use mathlib.Core.Path.{◌≡◌}
-use Prim.Native.Nat.{◌+◌, ◌≤◌}
-use lib.ListN.{length, drop}
-use Rattle.reader.specs.Meaning.{accepted}
-use Rattle.capture.specs.Course.{first_in}
-use Rattle.checking.specs.Private.{PacketCounts}
-use Rattle.checking.proofs.Laws.{running_start, running_needs, running_refused, running_done, running_turn, turn_inside, read_is}
-use borrow.Author.Rules.{rules}
+use mathlib.Core.Path.{sym}
+use Rattle.checking.proofs.Laws.{running_start, running_needs, running_refused, running_turn, turn_inside, turn_smaller}
 use Rattle.checking.proofs.Checking.run.Goals as goal
 
-pub loop-at-init : goal.loop-at-init
-loop-at-init c = running_start _ _ c.requires.1.0 c.requires.1.1
-
-pub returns-in-Needs : goal.returns-in-Needs
-returns-in-Needs c =
-    running_needs _ _ _ _ c.loop-at.invariant _
-    (read_is _ _ _ _ _ _ c.part_of.ensures c.read_first.ensures c.in-Needs.is)
-
-pub returns-in-Refused : goal.returns-in-Refused
-returns-in-Refused c =
-    running_refused _ _ _ _ c.loop-at.invariant _
-    (read_is _ _ _ _ _ _ c.part_of.ensures c.read_first.ensures c.in-Refused.is)
+pub loop-packet-init : goal.loop-packet-init
+loop-packet-init c = running_start _ _ c.requires.1.0 c.requires.1.1
 
 pub counted-checking-requires : goal.counted-checking-requires
 counted-checking-requires c =
-    let accepted-there : first_in c.loop-at.checking.connection (drop c.loop-at.at c.args.bytes.now) ≡ accepted c.in-Accepted.packet c.in-Accepted.taken c.in-Accepted.connection =
-    read_is _ _ _ _ _ _ c.part_of.ensures c.read_first.ensures c.in-Accepted.is in
-    let inside : (c.loop-at.at + c.in-Accepted.taken ≤ length c.args.bytes.now) × PacketCounts c.loop-at.checking c.in-Accepted.packet c.in-Accepted.taken =
-    turn_inside _ _ _ _ c.loop-at.invariant _ _ _ (accepted-there) in
-    (omega (arith, (inside).0, c.loop-at.invariant.place_is, c.requires.0), (inside).1)
+    let inside = turn_inside _ _ _ _ c.loop-packet.invariant _ _ _ _ c.in-Ok-Accepted.ensures c.in-Ok-Accepted.field-0-is in
+    (omega (arith, inside.0, c.loop-packet.invariant.place_is, c.requires.0), inside.1)
 
-pub overflow_add-at : goal.overflow_add-at
-overflow_add-at c =
-    let accepted-there : first_in c.loop-at.checking.connection (drop c.loop-at.at c.args.bytes.now) ≡ accepted c.in-Accepted.packet c.in-Accepted.taken c.in-Accepted.connection =
-    read_is _ _ _ _ _ _ c.part_of.ensures c.read_first.ensures c.in-Accepted.is in
-    let inside : (c.loop-at.at + c.in-Accepted.taken ≤ length c.args.bytes.now) × PacketCounts c.loop-at.checking c.in-Accepted.packet c.in-Accepted.taken =
-    turn_inside _ _ _ _ c.loop-at.invariant _ _ _ (accepted-there) in
-    omega (arith, (inside).0)
+pub slice_bounds-left-count : goal.slice_bounds-left-count
+slice_bounds-left-count c = (turn_inside _ _ _ _ c.loop-packet.invariant _ _ _ _ c.in-Ok-Accepted.ensures c.in-Ok-Accepted.field-0-is).0
 
-pub loop-at-smaller : goal.loop-at-smaller
-loop-at-smaller c =
-    let accepted-there : first_in c.loop-at.checking.connection (drop c.loop-at.at c.args.bytes.now) ≡ accepted c.in-Accepted.packet c.in-Accepted.taken c.in-Accepted.connection =
-    read_is _ _ _ _ _ _ c.part_of.ensures c.read_first.ensures c.in-Accepted.is in
-    let inside : (c.loop-at.at + c.in-Accepted.taken ≤ length c.args.bytes.now) × PacketCounts c.loop-at.checking c.in-Accepted.packet c.in-Accepted.taken =
-    turn_inside _ _ _ _ c.loop-at.invariant _ _ _ (accepted-there) in
-    omega (arith, (inside).0, (inside).1.some)
+pub slice_bounds-left-start : goal.slice_bounds-left-start
+slice_bounds-left-start c =
+    let inside = turn_inside _ _ _ _ c.loop-packet.invariant _ _ _ _ c.in-Ok-Accepted.ensures c.in-Ok-Accepted.field-0-is in
+    omega (arith, inside.0)
 
-pub loop-at-preserved : goal.loop-at-preserved
-loop-at-preserved c =
-    let accepted-there : first_in c.loop-at.checking.connection (drop c.loop-at.at c.args.bytes.now) ≡ accepted c.in-Accepted.packet c.in-Accepted.taken c.in-Accepted.connection =
-    read_is _ _ _ _ _ _ c.part_of.ensures c.read_first.ensures c.in-Accepted.is in
+pub loop-packet-smaller : goal.loop-packet-smaller
+loop-packet-smaller c = turn_smaller _ _ _ _ c.loop-packet.invariant _ _ _ _ c.in-Ok-Accepted.ensures c.in-Ok-Accepted.field-0-is
+
+pub loop-packet-preserved : goal.loop-packet-preserved
+loop-packet-preserved c =
     rw c.counted-checking.ensures
-    (running_turn _ _ _ _ c.loop-at.invariant _ _ _ (accepted-there))
+    (running_turn _ _ _ _ c.loop-packet.invariant _ _ _ _ c.in-Ok-Accepted.ensures c.in-Ok-Accepted.field-0-is)
 
-pub returns : goal.returns
-returns c = running_done _ _ _ _ c.loop-at.invariant (search rules)
+pub returns-in-Ok-Needs : goal.returns-in-Ok-Needs
+returns-in-Ok-Needs c = running_needs _ _ _ _ c.loop-packet.invariant _ _ c.in-Ok-Needs.ensures c.in-Ok-Needs.field-0-is
+
+pub returns-in-Err : goal.returns-in-Err
+returns-in-Err c = rw c.number.ensures (running_refused _ _ _ _ c.loop-packet.invariant _ (sym c.in-Err.ensures))

@@ -1,8 +1,0 @@
--- `checking::requests_in` meets its contract, packet by packet.
--- Assumes nothing.
-use mathlib.Core.Path.{sym, ap}
-use Rattle.checking.specs.Checking.{requests_in}
-use Rattle.checking.proofs.requests_in.Goals as goal
-
-pub returns-in-Forward : goal.returns-in-Forward
-returns-in-Forward c = sym (ap requests_in c.in-Forward.is)
