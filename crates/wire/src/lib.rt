@@ -95,6 +95,7 @@ pub fn has_room(size: usize, at: usize, count: usize) -> bool
 }
 
 // The bytes from a place on, `len` of them, or as many as there are. Two `min` were tried and are slower where strings are read.
+#[tactic(auto, using(crate::proofs::Bytes::part_to, crate::proofs::Bytes::part_rest, crate::proofs::Bytes::part_past, crate::proofs::Bytes::part_none))]
 pub fn part_of(s: &[u8], start: usize, len: usize) -> &[u8]
     ensures { result.now ≡ part s.now start len }
 {
@@ -142,6 +143,7 @@ fn part_holds_low(text: &[u8], at: usize, count: usize) -> bool
 }
 
 // `holds_low` for a text of one to two blocks of `count` bytes: the first and the last block, which may overlap.
+#[tactic(auto, using(crate::proofs::Blocks::any_ends))]
 fn ends_hold_low(text: &[u8], count: usize) -> bool
     requires count_in_bounds { count ≤ length text.now }
     requires text_len_bound { length text.now ≤ count + count }
@@ -168,6 +170,7 @@ fn blocks_hold_low(text: &[u8], count: usize) -> bool
 }
 
 // Whether a text holds a low byte. Only a text that is shorter than the least block is judged byte by byte.
+#[tactic(auto, using(crate::proofs::Blocks::any_whole))]
 fn holds_low(text: &[u8]) -> bool
     ensures { result ≡ holds_low text.now }
 {
@@ -195,6 +198,7 @@ fn finds_barred(text: &[u8]) -> bool
 }
 
 // Whether a text holds a byte that no string may hold. Only a text with a low byte is looked through for one.
+#[tactic(auto, using(crate::proofs::Clear::none_barred))]
 pub fn holds_barred(text: &[u8]) -> bool
     ensures { result ≡ holds_barred text.now }
 {
@@ -202,6 +206,7 @@ pub fn holds_barred(text: &[u8]) -> bool
 }
 
 // Whether a string may stand in a field, None for null, judged for building as reading judges it.
+#[tactic(auto, unfolding(crate::specs::Field::string_allowed))]
 pub fn allows_string(optional: bool, text: Option<&[u8]>) -> bool
     ensures { result ≡ string_allowed optional (is_null text.entry) (bytes_in text.entry) }
 {

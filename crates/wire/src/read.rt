@@ -21,6 +21,7 @@ pub struct Span {
 }
 
 // The byte at a place.
+#[tactic(auto, using(crate::proofs::Bytes::room_in), unfolding(crate::specs::Field::byte_at))]
 pub fn byte(packet: &[u8], at: usize) -> Result<Field<u16>, Refusal>
     ensures { number_meaning result ≡ byte_at packet.now at }
 {
@@ -34,6 +35,7 @@ pub fn byte(packet: &[u8], at: usize) -> Result<Field<u16>, Refusal>
 }
 
 // The integer at a place, high byte first.
+#[tactic(auto, using(crate::proofs::Bytes::room_in), unfolding(crate::specs::Field::integer_at, crate::specs::Bytes::integer_in))]
 pub fn integer(packet: &[u8], at: usize) -> Result<Field<u16>, Refusal>
     ensures { number_meaning result ≡ integer_at packet.now at }
 {
@@ -49,6 +51,7 @@ pub fn integer(packet: &[u8], at: usize) -> Result<Field<u16>, Refusal>
 }
 
 // The boolean at a place.
+#[tactic(auto, unfolding(crate::specs::Field::boolean_at))]
 pub fn boolean(packet: &[u8], at: usize) -> Result<Field<bool>, Refusal>
     ensures { boolean_meaning result ≡ boolean_at packet.now at }
 {
@@ -61,6 +64,7 @@ pub fn boolean(packet: &[u8], at: usize) -> Result<Field<bool>, Refusal>
 }
 
 // The string of a field at a place, None for null; null and empty are refused unless the field is optional.
+#[tactic(auto, unfolding(crate::specs::Field::string_at))]
 pub fn string(packet: &[u8], at: usize, field: StringField) -> Result<Field<Option<Span>>, Refusal>
     ensures { string_meaning result ≡ string_at packet.now at (is_optional field) }
 {
@@ -69,6 +73,7 @@ pub fn string(packet: &[u8], at: usize, field: StringField) -> Result<Field<Opti
 }
 
 // What follows a string's length: nothing for null, else its bytes.
+#[tactic(auto, unfolding(crate::specs::Field::after_length))]
 fn after_length(
     packet: &[u8],
     optional: bool,
@@ -91,6 +96,7 @@ fn after_length(
 }
 
 // A string's bytes and its last zero.
+#[tactic(auto, using(crate::proofs::Bytes::room_in), unfolding(crate::specs::Field::text_at))]
 fn text(packet: &[u8], start: usize, len: u16) -> Result<Field<Option<Span>>, Refusal>
     ensures { string_meaning result ≡ text_at packet.now start len }
 {

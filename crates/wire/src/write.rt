@@ -10,6 +10,7 @@ use packet::Direction;
 
 // Bytes as they are. They go through a local array, since the compiler does not know that the two slices never overlap: a copy straight from
 // one to the other asks that first, and was tried and is slower. These two copies become one memmove, and the array takes no room.
+#[tactic(auto, using(crate::proofs::Copying::copying_start, crate::proofs::Copying::copying_front, crate::proofs::Copying::copying_end))]
 pub fn bytes(buffer: &mut [u8], at: usize, from: &[u8]) -> usize
     requires { Fits at from.now buffer.old }
     ensures value { result ≡ at + length from.now }
@@ -25,6 +26,7 @@ pub fn bytes(buffer: &mut [u8], at: usize, from: &[u8]) -> usize
 }
 
 // A byte.
+#[tactic(auto, using(crate::proofs::Bytes::over_set))]
 pub fn byte(buffer: &mut [u8], at: usize, value: u8) -> usize
     requires { Fits at (value ∷ []) buffer.old }
     ensures value { result ≡ at + 1 }
@@ -35,6 +37,7 @@ pub fn byte(buffer: &mut [u8], at: usize, value: u8) -> usize
 }
 
 // An integer, high byte first.
+#[tactic(auto, using(crate::proofs::Bytes::over_two))]
 pub fn integer(buffer: &mut [u8], at: usize, value: u16) -> usize
     requires { Fits at (integer_bytes value) buffer.old }
     ensures value { result ≡ at + 2 }
@@ -56,6 +59,7 @@ pub fn boolean(buffer: &mut [u8], at: usize, value: bool) -> usize
 }
 
 // How many bytes a string's field takes, None for null.
+#[tactic(auto, unfolding(crate::specs::Field::string_bytes))]
 pub fn string_size(text: Option<&[u8]>) -> usize
     ensures { result ≡ length (string_bytes (is_null text.entry) (bytes_in text.entry)) }
 {
@@ -66,6 +70,7 @@ pub fn string_size(text: Option<&[u8]>) -> usize
 }
 
 // A string: its length, its bytes and a zero, or null.
+#[tactic(auto, using(crate::proofs::Bytes::over_over), unfolding(crate::specs::Field::string_bytes))]
 pub fn string(buffer: &mut [u8], at: usize, text: Option<&[u8]>) -> usize
     requires { Fits at (string_bytes (is_null text) (bytes_in text)) buffer.old }
     ensures value { result ≡ at + length (string_bytes (is_null text.entry) (bytes_in text.entry)) }
@@ -80,6 +85,7 @@ pub fn string(buffer: &mut [u8], at: usize, text: Option<&[u8]>) -> usize
 }
 
 // Two strings, one behind the other.
+#[tactic(auto, using(crate::proofs::Rows::fits_first, crate::proofs::Rows::fits_later, crate::proofs::Rows::joined))]
 pub fn two_strings(
     buffer: &mut [u8],
     at: usize,
@@ -95,6 +101,7 @@ pub fn two_strings(
 }
 
 // A packet's first four bytes, at the buffer's start: its leading bytes and how long its payload is.
+#[tactic(auto, using(crate::proofs::Rows::fits_first, crate::proofs::Rows::fits_later, crate::proofs::Rows::joined))]
 pub fn packet_head(buffer: &mut [u8], direction: Direction, payload: u16) -> usize
     requires { Fits 0 (packet_head direction payload) buffer.old }
     ensures value { result ≡ length (packet_head direction payload) }
