@@ -3,18 +3,13 @@
 use mathlib.Core.Path.{◌≡◌, refl, sym, ap, ◌∙◌}
 use mathlib.Core.Bool.{Bool, true, false}
 use mathlib.Core.List.{List, [], ◌∷◌, ◌++◌}
-use Prim.Native.Nat.{ℕ, ◌+◌, ◌-◌, ◌≤◌, ◌<◌}
+use Prim.Native.Nat.{ℕ, ◌+◌, ◌-◌, ◌≤◌}
 use native.Mathlib.Omega.{arith}
-use lib.ListN.{length, get_or, take, drop, length-drop, take-append-drop}
-use lib.Seq.{take_all, take-add, get_or-take, get_or-drop}
+use lib.ListN.{length, take, drop, length-drop, take-append-drop}
+use lib.Seq.{take_all, take-add}
 use Rattle.wire.specs.Pick.{either, any}
 use Rattle.wire.specs.Bytes.{part}
 use Rattle.wire.proofs.Tests.{either_assoc}
-
--- an element of a part
-pub part_element : (s : List ℕ) (at len i : ℕ) → i < len → get_or (part s at len) i 0 ≡ get_or s (at + i) 0
-unfolding part
-part_element s at len i h = rw (get_or-take len (drop at s) i 0 h, get_or-drop at s i 0)
 
 -- one of three tests holds, the middle one asked twice
 either_twice : (x y z : Bool) → either (either x y) (either y z) ≡ either x (either y z)

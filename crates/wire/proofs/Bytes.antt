@@ -7,7 +7,7 @@ use Prim.Native.Nat.{ℕ, ◌+◌, ◌-◌, ◌≤◌, ◌<◌}
 use native.Mathlib.Omega.{arith}
 use native.Mathlib.Nat.{add-zero, add_assoc}
 use native.Mathlib.Numerals.{add-one}
-use borrow.Author.Tests.{le-leb, lt-leb, leb-true, leb-false, not-true, not-false}
+use borrow.Author.Tests.{leb-true, leb-false, not-false}
 use lib.Dec.{leb}
 use lib.ListN.{length, take, drop, set, get_or, length-set, length-append, length-drop, take-append-drop, drop_of_length-le}
 use lib.Seq.{set_split, take_at, take_all, drop_at, drop-cons, drop-drop, drop-append-add, length-take-le, take-suc, take-add, take-nil}
@@ -63,17 +63,6 @@ room_no r a n e t = leb-false a n (sym e ∙ t)
 
 pub room_in : (r : Bool) (a n : ℕ) → r ≡ leb a n → not r ≡ false → a ≤ n
 room_in r a n e t = room_yes r a n e (not-false r t)
-
-pub room_out : (r : Bool) (a n : ℕ) → r ≡ leb a n → not r ≡ true → n < a
-room_out r a n e t = room_no r a n e (not-true r t)
-
--- the test of room, without a sum
-pub room_shift : (at count length : ℕ) → count ≤ length → leb at (length - count) ≡ leb (at + count) length
-room_shift at count length h = go (leb at (length - count)) refl
-  where
-    go : (t : Bool) → leb at (length - count) ≡ t → t ≡ leb (at + count) length
-    go true e = sym (le-leb (at + count) length (omega (arith, leb-true at (length - count) e)))
-    go false e = sym (lt-leb (at + count) length (omega (arith, leb-false at (length - count) e)))
 
 -- no bytes laid over a list leave it
 pub over_none : (l : List ℕ) (at : ℕ) → over l at [] ≡ l

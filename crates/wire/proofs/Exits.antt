@@ -1,9 +1,9 @@
 -- The exit of a `?`: a call that passes a refusal on fails with that refusal.
 -- Assumes nothing.
 use mathlib.Core.Path.{◌≡◌, refl, ap, ◌∙◌}
-use mathlib.Core.Bool.{true, false}
+use mathlib.Core.Bool.{false}
 use lib.Dec.{eqb}
-use Rattle.wire.specs.Refusal.{none, is_refusal, number_of}
+use Rattle.wire.specs.Refusal.{none, number_of}
 use Rattle.std.specs.Prelude.{Result, Err, IsErrAnd}
 use Rattle.std.proofs.lemmas.Result.{err_from_is_err_and}
 use Rattle.wire.specs.declared.refusal.Refusal.{Refusal}
@@ -35,24 +35,3 @@ refused_some Refusal.BufferTooShort = refl
 refused_some Refusal.RecordWrong = refl
 refused_some Refusal.UnfinishedPacket = refl
 refused_some Refusal.CaptureTooLong = refl
-
--- and each has a number of the tables
-pub refused_listed : (refusal : Refusal) → is_refusal (number_of refusal) ≡ true
-refused_listed Refusal.LeadingWrong = refl
-refused_listed Refusal.TooLong = refl
-refused_listed Refusal.CutShort = refl
-refused_listed Refusal.CodeWrong = refl
-refused_listed Refusal.CodeNotServed = refl
-refused_listed Refusal.StringWrong = refl
-refused_listed Refusal.OutOfRange = refl
-refused_listed Refusal.NameWrong = refl
-refused_listed Refusal.AttributeWrong = refl
-refused_listed Refusal.ContentLengthWrong = refl
-refused_listed Refusal.TooMany = refl
-refused_listed Refusal.LeftOver = refl
-refused_listed Refusal.NotNow = refl
-refused_listed Refusal.BodySizeWrong = refl
-refused_listed Refusal.BufferTooShort = refl
-refused_listed Refusal.RecordWrong = refl
-refused_listed Refusal.UnfinishedPacket = refl
-refused_listed Refusal.CaptureTooLong = refl

@@ -3,9 +3,9 @@
 use mathlib.Core.Path.{◌≡◌, refl, sym, ap, subst, ◌∙◌}
 use mathlib.Core.Bool.{Bool, true, false, not, false≢true}
 use mathlib.Core.List.{List, [], ◌∷◌, ◌++◌}
-use Prim.Native.Nat.{ℕ, ◌+◌, ◌≤◌, ◌<◌}
+use Prim.Native.Nat.{ℕ, ◌+◌, ◌≤◌}
 use native.Mathlib.Omega.{arith}
-use borrow.Author.Tests.{le-leb, lt-leb, ne_eqb, leb-true, eqb-true, eqb-false}
+use borrow.Author.Tests.{le-leb, ne_eqb, leb-true, eqb-true, eqb-false}
 use lib.Dec.{leb, eqb}
 use lib.ListN.{length, get_or, length-append}
 use Rattle.wire.specs.Pick.{pick, both, either}
@@ -22,9 +22,6 @@ use Rattle.wire.proofs.Bytes.{length_part}
 module _ (width value : ℕ) (s : List ℕ) (at : ℕ) where
   pub number_read : at + width ≤ length s → NumberRead.Number value (at + width) ≡ number_at width value s at
   number_read h = simp (le-leb (at + width) (length s) h)
-
-  pub number_short : length s < at + width → NumberRead.Refused cut_short ≡ number_at width value s at
-  number_short h = simp (lt-leb (at + width) (length s) h)
 
 -- a boolean, by what the byte reads as
 pub boolean_is : (s : List ℕ) (at : ℕ) (r : NumberRead) → byte_at s at ≡ r → boolean_at s at ≡ boolean_of r
@@ -44,10 +41,6 @@ after_is s optional len start lack null p q = rw (p, q)
 
 -- the outcomes of a string's bytes
 module _ (s : List ℕ) (start len : ℕ) where
-  pub text_short : length s < start + (len + 1) → StringRead.Refused cut_short ≡ text_at s start len
-  unfolding text_at
-  text_short h = simp lt-leb
-
   pub text_open : start + (len + 1) ≤ length s → (get_or s (start + len) 0 ≡ 0 → ⊥) → StringRead.Refused string_wrong ≡ text_at s start len
   unfolding text_at
   text_open h z = simp (le-leb, ne_eqb)
@@ -65,12 +58,6 @@ module _ (s : List ℕ) (start len : ℕ) where
       go : (t : Bool) → eqb (get_or s (start + len) 0) 0 ≡ t → StringRead.Refused string_wrong ≡ text_at s start len
       go true e = text_closed true h (eqb-true (get_or s (start + len) 0) 0 e) (sym held)
       go false e = text_open h (eqb-false (get_or s (start + len) 0) 0 e)
-
--- null may stand where the field is optional
-pub allowed_null : (optional : Bool) → optional ≡ string_allowed optional true []
-unfolding string_allowed
-allowed_null true = refl
-allowed_null false = refl
 
 -- the test on a string to be written, by its tests; a proof that does not reach a test says `refl`
 pub allowed_is : (optional null : Bool) (text : List ℕ) (lack none barred : Bool) → lacks optional null (length text) ≡ lack → null ≡ none
