@@ -62,11 +62,6 @@ module _ {A : Type 0} (call : Call A) (buffer : List ℕ) (found : ℕ) (is : fo
       let both = fit_none end (length buffer) (or_second (first_fault call.faults) (fit_fault end (length buffer)) (sym is ∙ h)) in
       (both.1, both.0)
 
--- a size that is told as one which a packet may have is exact
-told_within : (size end : ℕ) → end ≡ size_told size → end ≤ max_packet → end ≡ size
-unfolding size_told
-told_within size end told within = omega arith
-
 -- a call with a fault of its own is refused with the first of them, and the buffer is as it was
 module _ {A : Type 0} (call : Call A) (some : eqb (first_fault call.faults) none ≡ false) where
   pub own_answer : (room : ℕ) → outcome call room ≡ refused (first_fault call.faults)
@@ -90,14 +85,7 @@ module _ {A : Type 0} (call : Call A) (end : ℕ) (own : first_fault call.faults
   unfolding buffer_after
   fit_buffer buffer some = rw (← fit_is (length buffer), some)
 
-  -- where they fit, the call is done with the answer that is made of the end, and its bytes are written
-  pub done_made : (make : ℕ → A) (room : ℕ) → call.answer ≡ make (call.at + length call.bytes) → fit_fault end room ≡ none
-      → outcome call room ≡ done (make end)
-  unfolding outcome
-  done_made make room answer fits =
-      let exact : end ≡ call.at + length call.bytes = told_within (call.at + length call.bytes) end told (fit_none end room fits).0 in
-      rw (← fit_is room, fits, exact, answer)
-
+  -- where they fit, the call is done, and its bytes are written
   pub done_answered : (room : ℕ) → fit_fault end room ≡ none → outcome call room ≡ done call.answer
   unfolding outcome
   done_answered room fits = rw (← fit_is room, fits)
@@ -105,6 +93,24 @@ module _ {A : Type 0} (call : Call A) (end : ℕ) (own : first_fault call.faults
   pub done_written : (buffer : List ℕ) → fit_fault end (length buffer) ≡ none → buffer_after call buffer ≡ over buffer call.at call.bytes
   unfolding buffer_after
   done_written buffer fits = rw (← fit_is (length buffer), fits)
+
+-- a call's outcome tells what becomes of the buffer: it is refused, and the buffer is as it was
+pub refused_keeps : {A : Type 0} (call : Call A) (buffer : List ℕ) (n : ℕ) → outcome call (length buffer) ≡ refused n → buffer_after call buffer ≡ buffer
+unfolding outcome buffer_after
+refused_keeps call buffer n e = go (eqb (refusal_of call (length buffer)) none) e
+  where
+    go : (t : Bool) → pick t (done call.answer) (refused (refusal_of call (length buffer))) ≡ refused n → pick t (over buffer call.at call.bytes) buffer ≡ buffer
+    go true e = absurd (let z : ◌≡◌ {A = ℕ} 0 1 = cc in omega arith)
+    go false e = refl
+
+-- or it is done, and then it has no fault
+pub done_faultless : {A : Type 0} (call : Call A) (room : ℕ) (answer : A) → outcome call room ≡ done answer → refusal_of call room ≡ none
+unfolding outcome
+done_faultless call room answer e = go (eqb (refusal_of call room) none) refl e
+  where
+    go : (t : Bool) → eqb (refusal_of call room) none ≡ t → pick t (done call.answer) (refused (refusal_of call room)) ≡ done answer → refusal_of call room ≡ none
+    go true h e = eqb-true (refusal_of call room) none h
+    go false h e = absurd (let z : ◌≡◌ {A = ℕ} 0 1 = cc in omega arith)
 
 -- the buffer after a call by the number that it is refused with, 0 for none
 after_by : {A : Type 0} (call : Call A) (buffer : List ℕ) (t : Bool) → eqb (refusal_of call (length buffer)) 0 ≡ t

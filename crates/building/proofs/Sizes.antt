@@ -7,12 +7,12 @@ use mathlib.Core.Bool.{Bool, true, false}
 use mathlib.Core.List.{List, [], ◌∷◌}
 use Prim.Native.Nat.{ℕ, ◌+◌, ◌<◌, ◌≤◌}
 use lib.Dec.{leb, eqb}
-use Rattle.wire.specs.Pick.{pick, both}
+use Rattle.wire.specs.Pick.{pick}
 use lib.ListN.{length}
 use Rattle.wire.specs.Field.{boolean_bytes}
-use Rattle.wire.specs.Refusal.{buffer_too_short, out_of_range, too_long}
+use Rattle.wire.specs.Refusal.{buffer_too_short, too_long}
 use Rattle.connection.specs.Connection.{max_packet}
-use Rattle.building.specs.Fault.{unless, or_else, fault_after, range_fault, fit_fault}
+use Rattle.building.specs.Fault.{unless, or_else, fault_after, fit_fault}
 use Rattle.building.specs.Field.{size_told}
 
 -- no fault behind a fault
@@ -47,18 +47,9 @@ pub told_exact : (n : ℕ) → n ≤ max_packet + 1 → size_told n ≡ n
 unfolding size_told
 told_exact n h = omega arith
 
-pub told_over : (n : ℕ) → max_packet + 1 ≤ n → size_told n ≡ max_packet + 1
+told_over : (n : ℕ) → max_packet + 1 ≤ n → size_told n ≡ max_packet + 1
 unfolding size_told
 told_over n h = omega arith
-
--- a size behind one that was told
-pub told_told : (a b : ℕ) → size_told (size_told a + b) ≡ size_told (a + b)
-unfolding size_told
-told_told a b = omega arith
-
--- and what is told of it
-pub told_behind : (before size told behind : ℕ) → told ≡ size_told before → behind ≡ size_told (told + size) → behind ≡ size_told (before + size)
-told_behind before size told behind p q = q ∙ ap (λ (n : ℕ). size_told (n + size)) p ∙ told_told before size
 
 -- bytes fit the packet and the buffer as they do by the size that is told
 pub fit_told : (n room : ℕ) → fit_fault (size_told n) room ≡ fit_fault n room
@@ -90,14 +81,10 @@ fit_enough n room h k = sym (fit_told n room) ∙ go (size_told n) h k
     go : (m : ℕ) → m ≤ max_packet → m ≤ room → fit_fault m room ≡ 0
     go m h k = rw (le-leb m max_packet h, le-leb m room k)
 
--- the faults by the values of their tests
+-- the fault by the values of its tests
 pub fit_by : (end room : ℕ) (s t : Bool) → leb end max_packet ≡ s → leb end room ≡ t → pick s (unless t buffer_too_short) too_long ≡ fit_fault end room
 unfolding fit_fault
 fit_by end room s t d e = rw (← d, ← e)
-
-pub range_by : (low high n : ℕ) (s t : Bool) → leb low n ≡ s → leb n high ≡ t → unless (both s t) out_of_range ≡ range_fault low high n
-unfolding range_fault
-range_by low high n s t d e = rw (← d, ← e)
 
 -- a boolean has one byte
 pub boolean_one : (value : Bool) → length (boolean_bytes value) ≡ 1
