@@ -57,7 +57,7 @@ pub fn body_needs(bytes: &[u8]) -> usize
 pub fn body_chunk_needs(bytes: &[u8]) -> usize
     ensures { result ≡ size_told (length (packet_of (Move.BodyChunk (length bytes.now)) (chunk_payload bytes.now))) }
 {
-    size::string(AFTER_CODE_PLACE, false, bytes)
+    size::string(AFTER_CODE_PLACE, Some(bytes))
 }
 
 // What a packet of so many bytes that makes a step comes to on a buffer with so much room: the step, then whether it fits.
@@ -93,7 +93,7 @@ fn write_body_chunk(buffer: &mut [u8], bytes: &[u8])
     ensures { buffer.new ≡ over buffer.old 0 (packet_of (Move.BodyChunk (length bytes.now)) (chunk_payload bytes.now)) }
 {
     let at = opening::open(buffer, Kind::BodyChunk, (bytes.len() + AROUND_CHUNK) as u16);
-    write::string(buffer, at, false, bytes);
+    write::string(buffer, at, Some(bytes));
 }
 
 // Writes a Get Body Chunk.
