@@ -23,6 +23,7 @@ fn byte_from(packet: &[u8], at: usize) -> u8
 }
 
 // The integer at an index, 0 where it is not there.
+#[tactic(auto, unfolding(crate::specs::View::integer_view, wire::specs::Field::integer_at))]
 fn integer_from(packet: &[u8], at: usize) -> u16
     ensures { result ≡ integer_view packet.now at }
 {
@@ -33,14 +34,14 @@ fn integer_from(packet: &[u8], at: usize) -> u16
 }
 
 // The bytes of the string at an index; none where it is null, or where its length is not there.
+#[tactic(auto, unfolding(crate::specs::View::text_view, crate::specs::View::null_view, crate::specs::View::integer_view, wire::specs::Field::integer_at, wire::specs::Bytes::part))]
 fn text_from(packet: &[u8], at: usize) -> &[u8]
     ensures { result.now ≡ text_view packet.now at }
 {
     match read::integer(packet, at) {
-        Ok(length) if length.value != NULL_LENGTH => {
-            part_of(packet, length.next, length.value as usize)
-        }
-        _ => &[],
+        Err(_) => &[],
+        Ok(length) if length.value == NULL_LENGTH => &[],
+        Ok(length) => part_of(packet, length.next, length.value as usize),
     }
 }
 
@@ -52,6 +53,7 @@ pub fn integer_at(packet: &[u8], place: Place) -> u16
 }
 
 // Whether the string at a place is null; an empty string is not.
+#[tactic(auto, unfolding(crate::specs::View::null_view))]
 pub fn is_null_at(packet: &[u8], place: Place) -> bool
     ensures { result ≡ null_view packet.now place.0 }
 {
@@ -66,6 +68,7 @@ pub fn text_at(packet: &[u8], place: Place) -> &[u8]
 }
 
 // The header's name at a place.
+#[tactic(auto, unfolding(crate::specs::View::name_view))]
 pub fn name_at(packet: &[u8], place: Place) -> HeaderName
     ensures { result ≡ name_view packet.now place.0 }
 {
