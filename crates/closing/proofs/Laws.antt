@@ -2,9 +2,9 @@
 -- set is the packet's: so "needs" is never the answer, and a packet that is closed is one that this end accepts, all of it.
 -- Assumes nothing.
 use native.Mathlib.Omega.{arith}
-use borrow.Author.Tests.{le-leb, le-ltb, eq-eqb, ne_eqb, eqb-true, not-true, not-false}
+use borrow.Author.Tests.{le-leb, le-ltb, eq-eqb, eqb-true}
 use mathlib.Core.Path.{◌≡◌, refl, sym, ap, subst, ◌∙◌}
-use mathlib.Core.Bool.{Bool, true, false, not, false≢true}
+use mathlib.Core.Bool.{Bool, true, false, false≢true}
 use mathlib.Core.List.{List}
 use Prim.Native.Nat.{ℕ, ◌+◌, ◌-◌, ◌≤◌}
 use lib.Dec.{eqb}
@@ -17,7 +17,7 @@ use Rattle.packet.specs.declared.Direction.{Direction}
 use Rattle.packet.specs.declared.Packet.{Packet}
 use Rattle.wire.specs.Read.{NumberRead}
 use Rattle.wire.proofs.Field.{number_read}
-use Rattle.wire.specs.Refusal.{leading_wrong, not_now, record_wrong}
+use Rattle.wire.specs.Refusal.{none, number_of, leading_wrong, not_now, record_wrong}
 use Rattle.connection.specs.Cycle.{direction_of, in_state}
 use Rattle.connection.specs.declared.State.{State}
 use Rattle.connection.specs.declared.Connection.{Connection}
@@ -38,8 +38,13 @@ use Rattle.building_record.specs.declared.BuildingKind.{BuildingKind}
 use Rattle.building_record.specs.declared.Building.{Building}
 use Rattle.building_record.specs.Record.{built_kind, direction_in, is_possible}
 use Rattle.building_record.proofs.Laws.{possible_yes}
-use Rattle.connection.specs.declared.Sent.{Sent}
-use Rattle.building.specs.Sent.{Written, sent_outcome, is_written}
+use Rattle.std.proofs.lemmas.Bool.Decides.{nat_tests}
+use Rattle.wire.proofs.Exits.{refused_some}
+use Rattle.wire.proofs.Bytes.{over_none}
+use Rattle.std.specs.Prelude.{Result, Ok, Err}
+use Rattle.std.specs.Result.{is_err}
+use Rattle.wire.specs.declared.refusal.Refusal.{Refusal}
+use Rattle.building.specs.Sent.{Written, sent_outcome}
 use Rattle.reader.specs.Frame.{FrameRead}
 use Rattle.reader.specs.Frame.{leading_differs, length_at, frame_of, frame_at}
 use Rattle.reader.specs.Meaning as read
@@ -55,12 +60,6 @@ use Rattle.closing.proofs.Setting.{set_length, packet_length, packet_payload, pa
 use Rattle.wire.specs.Packet.{code_place, payload_place, length_place}
 
 module _ (c : Connection) (r : Building) (buffer : List ℕ) where
-  -- the fault that is found, by the three that are looked for
-  pub fault_by : {possible state fit first : ℕ} → possible ≡ unless (is_possible r buffer) record_wrong → state ≡ unless (in_state c (built_kind r.kind)) not_now
-      → fit ≡ fit_fault (closed_length r) (length buffer) → first ≡ or_else possible state → or_else first fit ≡ closing_fault c r buffer
-  unfolding closing_fault
-  fault_by p q f e = rw (e, p, q, f)
-
   -- no fault is found exactly where that holds
   pub fault_ready : closing_fault c r buffer ≡ 0 → Ready c r buffer
   unfolding closing_fault
@@ -93,6 +92,9 @@ module _ (c : Connection) (r : Building) (buffer : List ℕ) where
         within = h.within;
         inside = h.inside;
       }
+
+  pub found_closable : none ≡ closing_fault c r buffer → Closable r buffer
+  found_closable h = ready_closable (fault_ready (sym h))
 
 -- a packet whose fields were read is not answered with "needs"
 accepting_whole : (c : Connection) (taken n : ℕ) (r : PacketRead) → accepting c taken r ≡ read.needs n → ⊥
@@ -222,53 +224,30 @@ module _ (c : Connection) (r : Building) (buffer : List ℕ) where
   unfolding judgement
   read_there d room e h = ap (λ (x : Direction). reading x c buffer room) e ∙ aside (direction_in r) c buffer room h
 
-  -- closing by the fault that was found: it is refused with it
-  pub found_refused : (found : ℕ) → found ≡ closing_fault c r buffer → (found ≡ 0 → ⊥) → refused found ≡ close_outcome c r buffer
+  -- closing with a fault that is found is refused with it
+  pub found_refused : eqb (closing_fault c r buffer) none ≡ false → close_outcome c r buffer ≡ refused (closing_fault c r buffer)
   unfolding close_outcome
-  found_refused found is h = rw (← is, ne_eqb found 0 h)
+  found_refused some = rw some
 
   -- where there is none, it is what the judge says
-  pub found_judged : (found : ℕ) → found ≡ closing_fault c r buffer → found ≡ 0
-      → verdict (closed_length r) (judgement c r (closed_packet r buffer)) ≡ close_outcome c r buffer
+  pub found_judged : closing_fault c r buffer ≡ none → close_outcome c r buffer ≡ verdict (closed_length r) (judgement c r (closed_packet r buffer))
   unfolding close_outcome
-  found_judged found is h = rw (← is, eq-eqb found 0 h)
+  found_judged h = rw (eq-eqb (closing_fault c r buffer) none h)
+
+  -- the judge is shown the packet, all of it
+  pub found_answer : {size : ℕ} {set : List ℕ} {answer : Outcome Written} → none ≡ closing_fault c r buffer → size ≡ closed_length r
+      → set ≡ closed r buffer → answer ≡ verdict (length (take size set)) (judgement c r (take size set)) → answer ≡ close_outcome c r buffer
+  unfolding closed_packet part
+  found_answer {size} {set} {answer} h p q e =
+      let packet : take size set ≡ closed_packet r buffer = rw (p, q) refl in
+      let all : length (closed_packet r buffer) ≡ closed_length r = packet_length r buffer (found_closable c r buffer h) in
+      e ∙ ap (λ (l : List ℕ). verdict (length l) (judgement c r l)) packet ∙ ap (λ (n : ℕ). verdict n (judgement c r (closed_packet r buffer))) all
+      ∙ sym (found_judged (sym h))
 
   -- the buffer by what closing comes to
   pub outcome_buffer : (o : Outcome Written) → o ≡ close_outcome c r buffer → where_done o (closed r buffer) buffer ≡ close_buffer c r buffer
   unfolding close_buffer
   outcome_buffer o e = ap (λ (x : Outcome Written). where_done x (closed r buffer) buffer) e
-
-  -- an answer is closing's, and whether it says that the packet is written tells which buffer is closing's: with the packet closed, or as it was
-  pub record Closes (sent : Sent) (written : Bool) : Type 0 where
-    pub answer : sent_outcome sent ≡ close_outcome c r buffer
-    pub stands : not written ≡ false → closed r buffer ≡ close_buffer c r buffer
-    pub kept : not written ≡ true → buffer ≡ close_buffer c r buffer
-
-  -- so it is with the judge's answer to the packet that stands there when nothing was found before
-  pub closes : (sent : Sent) (written : Bool) {size : ℕ} {set packet : List ℕ} → closing_fault c r buffer ≡ 0 → size ≡ closed_length r
-      → set ≡ closed r buffer → packet ≡ part set 0 size → sent_outcome sent ≡ verdict (length packet) (judgement c r packet) → written ≡ is_written sent → Closes sent written
-  unfolding closed_packet
-  closes sent written {size} {set} {packet} none s e p judged is =
-      let same : packet ≡ closed_packet r buffer = p ∙ ap (λ (l : List ℕ). part l 0 size) e ∙ ap (part (closed r buffer) 0) s in
-      let long : length packet ≡ closed_length r =
-      ap length same ∙ packet_length r buffer (ready_closable c r buffer (fault_ready c r buffer none)) in
-      let answer : sent_outcome sent ≡ close_outcome c r buffer =
-      judged ∙ ap (λ (n : ℕ). verdict n (judgement c r packet)) long
-      ∙ ap (λ (l : List ℕ). verdict (closed_length r) (judgement c r l)) same
-      ∙ found_judged (closing_fault c r buffer) refl none in
-      let after : where_done (sent_outcome sent) (closed r buffer) buffer ≡ close_buffer c r buffer = outcome_buffer (sent_outcome sent) answer in
-      record {
-        answer = answer;
-        stands = λ w. by_answer sent true (sym is ∙ not-false written w) ∙ after;
-        kept = λ w. by_answer sent false (sym is ∙ not-true written w) ∙ after;
-      }
-    where
-      by_answer : (sent : Sent) (written : Bool) → is_written sent ≡ written
-          → pick written (closed r buffer) buffer ≡ where_done (sent_outcome sent) (closed r buffer) buffer
-      by_answer (Sent.Refused n) true q = absurd (false≢true q)
-      by_answer (Sent.Refused n) false q = refl
-      by_answer (Sent.Written size connection) true q = refl
-      by_answer (Sent.Written size connection) false q = absurd (false≢true (sym q))
 
   -- the record that holds where the judge accepts
   done_by : Ready c r buffer → (packet : Packet) (taken : ℕ) (w : Written) → close_outcome c r buffer ≡ done w → w.size ≡ closed_length r
@@ -314,12 +293,29 @@ module _ (c : Connection) (r : Building) (buffer : List ℕ) where
   done_close ready packet taken next e =
       let w : Written = record { size = closed_length r; connection = next } in
       let o : done w ≡ close_outcome c r buffer =
-      ap (verdict (closed_length r)) (sym e) ∙ found_judged (closing_fault c r buffer) refl (ready_fault c r buffer ready) in
+      ap (verdict (closed_length r)) (sym e) ∙ sym (found_judged (ready_fault c r buffer ready)) in
       (sym o, sym (outcome_buffer (done w) o))
 
   -- a refusal leaves the buffer
   pub close_refused : (n : ℕ) → close_outcome c r buffer ≡ refused n → close_buffer c r buffer ≡ buffer
   close_refused n e = sym (outcome_buffer (refused n) (sym e))
+
+  pub found_keeps : eqb (closing_fault c r buffer) none ≡ false → close_buffer c r buffer ≡ buffer
+  found_keeps some = close_refused (closing_fault c r buffer) (found_refused some)
+
+  -- and where closing is done, the packet is closed there
+  close_stands : (w : Written) → close_outcome c r buffer ≡ done w → close_buffer c r buffer ≡ closed r buffer
+  close_stands w e = sym (outcome_buffer (done w) (sym e))
+
+  -- the same by an answer that says what closing comes to
+  pub close_kept : (sent : Result Written Refusal) → sent_outcome sent ≡ close_outcome c r buffer → is_err sent ≡ true → close_buffer c r buffer ≡ buffer
+  close_kept (Err refusal) e h = close_refused (number_of refusal) (sym e)
+  close_kept (Ok w) e h = absurd (false≢true h)
+
+  pub close_set : (sent : Result Written Refusal) → sent_outcome sent ≡ close_outcome c r buffer → is_err sent ≡ false
+      → close_buffer c r buffer ≡ closed r buffer
+  close_set (Err refusal) e h = absurd (false≢true (sym h))
+  close_set (Ok w) e h = close_stands w (sym e)
 
   -- what holds of the buffer as it was and of the buffer with the packet closed holds of the buffer after closing
   after_closing : (P : List ℕ → Type 0) → P buffer → (Closable r buffer → P (closed r buffer)) → P (close_buffer c r buffer)
@@ -338,3 +334,6 @@ module _ (c : Connection) (r : Building) (buffer : List ℕ) where
   -- and all behind the packet
   pub close_behind : drop (closed_length r) (close_buffer c r buffer) ≡ drop (closed_length r) buffer
   close_behind = after_closing (λ (l : List ℕ). drop (closed_length r) l ≡ drop (closed_length r) buffer) refl (set_behind r buffer)
+
+-- what closing cites
+pub ruleset closing = (nat_tests, refused_some, over_none, read_there, found_refused, found_keeps)

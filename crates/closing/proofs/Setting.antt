@@ -16,7 +16,6 @@ use Rattle.wire.specs.Bytes.{part, over, integer_in, integer_bytes}
 use Rattle.wire.proofs.Bytes.{length_part, part_one, length_over, over_before, over_behind, over_again, over_same}
 use Rattle.wire.proofs.RoundTrip.{integer_back, integer_kept}
 use Rattle.wire.specs.Facts.{Bytes}
-use Rattle.packet.specs.declared.Place.{Place}
 use Rattle.attributes.specs.Attributes.{last_mark}
 use Rattle.places.specs.Entries.{max_headers}
 use Rattle.building_record.specs.declared.BuildingKind.{BuildingKind}
@@ -29,26 +28,9 @@ use Rattle.closing.specs.Private.{last_with, Closable, put_back}
 use Rattle.wire.specs.Packet.{payload_place, code_place, length_place}
 
 -- with FF put behind the last piece, the last bytes stand there
-last_mark_lem : (kind : BuildingKind) → last_with kind last_mark ≡ last_bytes kind
+pub last_mark_lem : (kind : BuildingKind) → last_with kind last_mark ≡ last_bytes kind
 last_mark_lem BuildingKind.Forward = refl
 last_mark_lem BuildingKind.SendHeaders = refl
-
--- a place as an index
-pub place_seen : (at : Place) {place : Place} {index : ℕ} → place ≡ at → index ≡ place.0 → index ≡ at.0
-place_seen at e f = f ∙ ap (λ (x : Place). x.0) e
-
--- what is seen of a record's kind and of its next place: the packet's length, and where a last byte is put
-module _ (r : Building) (k : BuildingKind) {kind : BuildingKind} {place : Place} {next : ℕ} where
-  pub length_seen : kind ≡ r.kind → kind ≡ k → place ≡ r.next → next ≡ place.0 → next + length (last_bytes k) ≡ closed_length r
-  length_seen p q e f =
-      ap (λ (x : BuildingKind). next + length (last_bytes x)) (sym q ∙ p)
-      ∙ ap (λ (n : ℕ). n + length (last_bytes r.kind)) (place_seen r.next e f)
-
-  pub last_seen : (buffer : List ℕ) (byte : ℕ) → kind ≡ r.kind → kind ≡ k → place ≡ r.next → next ≡ place.0
-      → over buffer next (last_with k byte) ≡ over buffer r.next.0 (last_with r.kind byte)
-  last_seen buffer byte p q e f =
-      ap (λ (x : BuildingKind). over buffer next (last_with x byte)) (sym q ∙ p)
-      ∙ ap (λ (n : ℕ). over buffer n (last_with r.kind byte)) (place_seen r.next e f)
 
 -- what stood there, by the byte that was seen there
 last_saved : (s : List ℕ) (at byte : ℕ) (kind : BuildingKind) → at + length (last_bytes kind) ≤ length s → byte ≡ get_or s at 0
@@ -118,6 +100,10 @@ module _ (r : Building) (buffer : List ℕ) (can : Closable r buffer) where
   unfolding closed
   set_length = length_over (with_length r buffer) r.next.0 (last_bytes r.kind) last_fits ∙ length_length
 
+  -- the packet lies in it
+  pub set_inside : {set : List ℕ} {size : ℕ} → size ≡ closed_length r → set ≡ closed r buffer → size ≤ length set
+  set_inside e p = omega (arith, can.inside, e, ap length p, set_length)
+
   -- so the packet can be closed there still
   pub set_closable : {z : List ℕ} → z ≡ closed r buffer → Closable r z
   set_closable e = record {
@@ -185,37 +171,15 @@ module _ (r : Building) (buffer : List ℕ) (can : Closable r buffer) where
       (undone (with_count r buffer) length_place 2 (integer_bytes (closed_length r - payload_place)) (integer_bytes old.payload) refl length_fits size)
       ∙ undone buffer r.count.0 count_size (integer_bytes r.headers) (integer_bytes old.count) refl count_fits count
 
-  -- so it is with what is saved just before each write
-  pub set_by : (old : Old) {place spot : Place} {at headers size next : ℕ} {x y z : List ℕ}
-      → place ≡ r.count → at ≡ place.0 → headers ≡ r.headers → size ≡ closed_length r
-      → Bytes buffer → old.count ≡ integer_view buffer place.0 → x ≡ over buffer at (integer_bytes headers)
-      → Bytes x → old.payload ≡ integer_view x length_place → y ≡ over x length_place (integer_bytes (size - payload_place))
-      → spot ≡ r.next → next ≡ spot.0 → old.last ≡ get_or y next 0 → z ≡ over y r.next.0 (last_with r.kind 255)
-      → (put_back r old (closed r buffer) ≡ buffer) × (z ≡ closed r buffer)
-  unfolding closed
-  set_by old {place} {spot} {at} {headers} {size} {next} {x} {y} {z} p a h s bytes c1 e1 bytes2 c2 e2 q n c3 e3 =
-      let here : place.0 ≡ r.count.0 = place_seen r.count p refl in
-      let behind_last : next ≡ r.next.0 = place_seen r.next q n in
-      let first : x ≡ with_count r buffer =
-      e1 ∙ ap (λ (i : ℕ). over buffer i (integer_bytes headers)) (a ∙ here) ∙ ap (λ (k : ℕ). over buffer r.count.0 (integer_bytes k)) h in
-      let second : y ≡ with_length r buffer =
-      e2 ∙ ap (λ (l : List ℕ). over l length_place (integer_bytes (size - payload_place))) first ∙ ap (λ (k : ℕ). over (with_count r buffer) length_place (integer_bytes (k - payload_place))) s in
-      let third : z ≡ closed r buffer =
-      e3 ∙ ap (λ (l : List ℕ). over l r.next.0 (last_with r.kind 255)) second ∙ ap (over (with_length r buffer) r.next.0) (last_mark_lem r.kind) in
-      let count_back : integer_bytes old.count ≡ part buffer r.count.0 count_size =
-      integer_saved buffer r.count.0 old.count bytes count_fits (c1 ∙ ap (integer_view buffer) here) in
-      let length_back : integer_bytes old.payload ≡ part (with_count r buffer) length_place 2 =
-      integer_saved x length_place old.payload bytes2 (omega (arith, ap length first, length_fits)) c2 ∙ ap (λ (l : List ℕ). part l length_place 2) first in
-      let last_back : last_with r.kind old.last ≡ part (with_length r buffer) r.next.0 (length (last_bytes r.kind)) =
-      last_saved (with_length r buffer) r.next.0 old.last r.kind last_fits
-      (c3 ∙ ap (λ (l : List ℕ). get_or l next 0) second ∙ ap (λ (i : ℕ). get_or (with_length r buffer) i 0) behind_last) in
-      (set_back old count_back length_back last_back, third)
-
--- what is put back, write by write
-pub back_by : (r : Building) (old : Old) (buffer : List ℕ) {place : Place} {at : ℕ} {x y z : List ℕ} → place ≡ r.count → at ≡ place.0
-    → x ≡ over buffer r.next.0 (last_with r.kind old.last) → y ≡ over x length_place (integer_bytes old.payload)
-    → z ≡ over y at (integer_bytes old.count) → z ≡ put_back r old buffer
-back_by r old buffer {place} {at} {x} {y} {z} p a e1 e2 e3 =
-    e3 ∙ ap (λ (l : List ℕ). over l at (integer_bytes old.count)) (e2 ∙ ap (λ (l : List ℕ). over l length_place (integer_bytes old.payload)) e1)
-    ∙ ap (λ (i : ℕ). over (over (over buffer r.next.0 (last_with r.kind old.last)) length_place (integer_bytes old.payload)) i (integer_bytes old.count))
-    (place_seen r.count p a)
+  -- so it is with what is saved just before each write, at places and in buffers as they are then
+  pub saved : (old : Old) (x y : List ℕ) → Bytes buffer → Bytes x → x ≡ with_count r buffer → y ≡ with_length r buffer
+      → old.count ≡ integer_view buffer r.count.0 → old.payload ≡ integer_view x length_place → old.last ≡ get_or y r.next.0 0
+      → put_back r old (closed r buffer) ≡ buffer
+  saved old x y bytes bytes2 first second c1 c2 c3 =
+      let length_back : integer_bytes old.payload ≡ part x length_place 2 =
+      integer_saved x length_place old.payload bytes2 (omega (arith, ap length first, length_fits)) c2 in
+      let last_back : last_with r.kind old.last ≡ part y r.next.0 (length (last_bytes r.kind)) =
+      last_saved y r.next.0 old.last r.kind (omega (arith, ap length second, last_fits)) c3 in
+      set_back old (integer_saved buffer r.count.0 old.count bytes count_fits c1)
+      (length_back ∙ ap (λ (l : List ℕ). part l length_place 2) first)
+      (last_back ∙ ap (λ (l : List ℕ). part l r.next.0 (length (last_bytes r.kind))) second)

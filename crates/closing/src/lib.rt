@@ -2,10 +2,11 @@
 // length and, in a Forward, FF are set, and the packet that then stands there is judged by the reader of the end to which it goes. Where it
 // passes, its length and the connection after it are answered. A refusal leaves the buffer as it was, and the connection and the record
 // given still count. `close` answers for any connection, any record and any buffer.
-#![tactic(auto)]
+#![tactic(auto, using(crate::proofs::Laws::closing), unfolding(crate::specs::Closing::closing_fault))]
 
-ghost use Rattle.std.specs.Prelude.{◌≡◌, length, get_or};
+ghost use Rattle.std.specs.Prelude.{◌≡◌, length};
 ghost use Rattle.wire.specs.Bytes.{over};
+ghost use Rattle.wire.specs.Read.{fault_number};
 ghost use Rattle.reader.specs.Meaning as read;
 ghost use Rattle.building.specs.Sent.{sent_outcome};
 ghost use Rattle.closing.specs.Closing.{closed_length, closing_fault, closed, verdict, judgement, close_outcome, close_buffer};
@@ -13,14 +14,14 @@ ghost use Rattle.closing.specs.Private.{last_with, Closable, put_back};
 
 use attributes::LAST_MARK;
 use building::fault;
-use building::sent::is_written;
 use building::size::BYTE;
 use building_record::{Building, BuildingKind};
-use connection::{Connection, Sent};
+use connection::{Connection, Written};
 use packet::Place;
 use places::MAX_PLACES;
 use reader::{Received, read};
-use wire::{LENGTH_PLACE, PAYLOAD_PLACE, part_of, refusal, write};
+use wire::refusal::Refusal;
+use wire::{LENGTH_PLACE, PAYLOAD_PLACE, write};
 
 // What stood where closing writes: two bytes at the count and two at the length, each pair as the integer that it is, and the byte behind
 // the last piece.
@@ -35,33 +36,20 @@ struct Old {
 pub fn needs(building: Building) -> usize
     ensures { result ≡ closed_length building }
 {
-    let kind = building.kind();
     let next = building.next().index();
-    match kind {
+    match building.kind() {
         BuildingKind::Forward => next + BYTE,
         BuildingKind::SendHeaders => next,
     }
 }
 
 // What is looked for before the packet is judged: 16, 13, then 2 and 15.
-fn closing_fault(connection: Connection, building: Building, buffer: &[u8]) -> u8
-    ensures { result ≡ closing_fault connection building buffer.now }
+fn closing_fault(connection: Connection, building: Building, buffer: &[u8]) -> Result<(), Refusal>
+    ensures { fault_number result ≡ closing_fault connection building buffer.now }
 {
-    let kind = building.kind();
-    let possible = fault::unless(building.is_possible(buffer), refusal::RECORD_WRONG);
-    let state = fault::unless(connection.allows(kind.kind()), refusal::NOT_NOW);
-    let fit = fault::fit(needs(building), buffer.len());
-    fault::or_else(fault::or_else(possible, state), fit)
-}
-
-// The byte at a place, 0 where nothing is there.
-fn byte_at(buffer: &[u8], at: usize) -> u8
-    ensures { result ≡ get_or buffer.now at 0 }
-{
-    if at < buffer.len() {
-        return buffer[at];
-    }
-    0
+    fault::unless(building.is_possible(buffer), Refusal::RecordWrong)?;
+    fault::unless(connection.allows(building.kind().kind()), Refusal::NotNow)?;
+    fault::fit(needs(building), buffer.len())
 }
 
 // Puts a byte behind the last piece of a Forward; behind a Send Headers nothing stands.
@@ -69,11 +57,9 @@ fn put_last(buffer: &mut [u8], building: Building, byte: u8)
     requires { Closable building buffer.old }
     ensures { buffer.new ≡ over buffer.old building.next.0 (last_with building.kind byte) }
 {
-    let kind = building.kind();
-    let next = building.next().index();
-    match kind {
+    match building.kind() {
         BuildingKind::Forward => {
-            write::byte(buffer, next, byte);
+            write::byte(buffer, building.next().index(), byte);
         }
         BuildingKind::SendHeaders => {}
     }
@@ -92,7 +78,7 @@ fn set(building: Building, buffer: &mut [u8]) -> Old
     write::integer(buffer, place.index(), headers);
     let stood = views::integer_at(buffer, Place(LENGTH_PLACE as u16));
     write::integer(buffer, LENGTH_PLACE, payload);
-    let last = byte_at(buffer, building.next().index());
+    let last = buffer.get(building.next().index()).copied().unwrap_or(0);
     put_last(buffer, building, LAST_MARK);
     Old {
         count,
@@ -113,43 +99,43 @@ fn put_back(building: Building, old: Old, buffer: &mut [u8])
 }
 
 // What the end to which a packet goes answers to it, the table aside: it is lent one that is long enough for every packet.
-fn read_there(connection: Connection, building: Building, packet: &[u8]) -> Received
+fn read_there(
+    connection: Connection,
+    building: Building,
+    packet: &[u8],
+) -> Result<Received, Refusal>
     ensures { read.received_meaning result ≡ judgement connection building packet.now }
 {
-    let direction = building.kind().kind().direction();
+    let direction = building.direction();
     let mut places = [0u16; MAX_PLACES];
     read(direction, connection, packet, &mut places)
 }
 
 // Judges a packet by that answer.
-fn judge(connection: Connection, building: Building, packet: &[u8]) -> Sent
+fn judge(connection: Connection, building: Building, packet: &[u8]) -> Result<Written, Refusal>
     ensures { sent_outcome result ≡ verdict (length packet.now) (judgement connection building packet.now) }
 {
     let size = packet.len();
-    match read_there(connection, building, packet) {
-        Received::Needs(_) => Sent::Refused(refusal::CUT_SHORT),
-        Received::Refused(n) => Sent::Refused(n),
-        Received::Accepted {
-            packet,
-            taken,
-            connection,
-        } => Sent::Written { size, connection },
+    match read_there(connection, building, packet)? {
+        Received::Needs(_) => Err(Refusal::CutShort),
+        Received::Accepted { connection, .. } => Ok(Written { size, connection }),
     }
 }
 
 // Closes the packet that the record says.
-pub fn close(connection: Connection, building: Building, buffer: &mut [u8]) -> Sent
+pub fn close(
+    connection: Connection,
+    building: Building,
+    buffer: &mut [u8],
+) -> Result<Written, Refusal>
     ensures result_value { sent_outcome result ≡ close_outcome connection building buffer.old }
     ensures buffer_after { buffer.new ≡ close_buffer connection building buffer.old }
 {
-    let found = closing_fault(connection, building, buffer);
-    if found != refusal::NONE {
-        return Sent::Refused(found);
-    }
+    closing_fault(connection, building, buffer)?;
     let size = needs(building);
     let old = set(building, buffer);
-    let sent = judge(connection, building, part_of(buffer, 0, size));
-    if !is_written(sent) {
+    let sent = judge(connection, building, &buffer[..size]);
+    if sent.is_err() {
         put_back(building, old, buffer);
     }
     sent
