@@ -36,7 +36,7 @@ pub struct Checking {
 
 // The checker's answer: packets, requests and body bytes of accepted packets, the state after them, the refusal, 0 where the capture
 // passes, and the place where the refused packet starts, or the end.
-#[derive(Clone, Copy)]
+#[derive(Clone, Copy, Debug, PartialEq, Eq)]
 pub struct Checked {
     pub packets: u32,
     pub requests: u32,

@@ -8,7 +8,7 @@ use wire::refusal::Refusal;
 use wire::{LENGTH_PLACE, PAYLOAD_PLACE, leading_bytes, read};
 
 // How far the first packet of the bytes reaches: how many bytes it needs, or how many it has where all of them are there.
-#[derive(Clone, Copy)]
+#[derive(Clone, Copy, Debug, PartialEq, Eq)]
 pub enum Extent {
     Needs(usize),
     Whole(usize),
@@ -18,10 +18,7 @@ pub enum Extent {
 fn is_other(bytes: &[u8], at: usize, byte: u8) -> bool
     ensures { result ≡ differs bytes.now at byte }
 {
-    match bytes.get(at) {
-        Some(there) => *there != byte,
-        None => false,
-    }
+    matches!(bytes.get(at), Some(there) if *there != byte)
 }
 
 // Whether a leading byte is there and is not the direction's.
