@@ -33,7 +33,7 @@ use Rattle.reader.specs.Frame.{FrameRead, leading_differs, length_at, frame_at}
 use Rattle.reader.specs.Meaning.{Meaning, refused}
 use Rattle.reader.specs.Reading.{context_of, reading, table_after}
 use Rattle.short_ways.specs.Short.{whole_size, is_chunk, body_size, chunk_size, short_size, other, answered, part_meaning, short_reading}
-use Rattle.short_ways.specs.Private.{with_part, some_size}
+use Rattle.short_ways.specs.Private.{part_in, with_part, some_size}
 use Rattle.reader.specs.Private.{sizing}
 use Rattle.reader.proofs.Laws.{plain_is, whole_kind, read_whole}
 use Rattle.wire.specs.Packet.{code_place}
@@ -100,6 +100,17 @@ short_is d c s table kind n packet end r short p q e =
     read_whole d c s table n packet r table short.whole p
     (whole_kind d c packet table (context_of d c) refl kind r table (ap (kind_at (context_of d c)) p ∙ short.kind_read) short.allowed
     (plain_is (context_of d c) c kind kind packet table end end r refl q refl e))
+
+-- every packet is the one of its own kind with its own part
+pub own : (packet : Packet) → with_part (packet_kind packet) packet (part_in packet) ≡ packet
+own Packet.CPing = refl
+own Packet.CPong = refl
+own (Packet.Forward forward) = refl
+own (Packet.Body part) = refl
+own (Packet.GetBody asked) = refl
+own (Packet.SendHeaders response) = refl
+own (Packet.BodyChunk part) = refl
+own (Packet.End reuse) = refl
 
 -- a size as the code tells it: none, or one that is not 0
 pub size_none : (n : ℕ) → None ≡ some_size n → n ≡ 0

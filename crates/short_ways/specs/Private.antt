@@ -1,21 +1,24 @@
 -- What the functions of the short ways promise to one another. Whoever reads the promises of the public calls needs none of these.
 -- Assumes nothing.
-use Rattle.std.specs.Prelude.{Bool, true, false, ℕ, eqb, Option, Some, None}
+use Rattle.std.specs.Prelude.{ℕ, eqb, Option, Some, None}
 use Rattle.wire.specs.Pick.{pick}
 use Rattle.packet.specs.declared.Part.{Part}
 use Rattle.packet.specs.declared.Packet.{Packet}
 use Rattle.connection.specs.declared.Kind.{Kind}
 
--- the kinds of packet that are no more than a part
-abbrev pub has_part : Kind → Bool
-has_part Kind.CPing = false
-has_part Kind.CPong = false
-has_part Kind.Forward = false
-has_part Kind.Body = true
-has_part Kind.GetBody = false
-has_part Kind.SendHeaders = false
-has_part Kind.BodyChunk = true
-has_part Kind.End = false
+-- a part of no bytes, and the part of a packet: this one unless it is a body packet or a chunk
+abbrev pub no_part : Part
+no_part = record { start = record { 0 = 0 }; len = 0 }
+
+abbrev pub part_in : Packet → Part
+part_in Packet.CPing = no_part
+part_in Packet.CPong = no_part
+part_in (Packet.Forward f) = no_part
+part_in (Packet.Body p) = p
+part_in (Packet.GetBody asked) = no_part
+part_in (Packet.SendHeaders h) = no_part
+part_in (Packet.BodyChunk p) = p
+part_in (Packet.End reuse) = no_part
 
 -- a packet of a kind with a part: a body packet and a chunk are no more than theirs
 abbrev pub with_part : Kind → Packet → Part → Packet

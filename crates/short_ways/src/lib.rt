@@ -2,7 +2,7 @@
 // They answer what `read` answers. Each has one caller, in which the compiler keeps all of it in registers; `read` is too large for that.
 #![tactic(auto)]
 
-ghost use Rattle.std.specs.Prelude.{◌≡◌, IsTrue};
+ghost use Rattle.std.specs.Prelude.{◌≡◌};
 ghost use Rattle.wire.specs.Field.{byte_at};
 ghost use Rattle.packet.specs.declared.Direction.{Direction};
 ghost use Rattle.packet.specs.declared.Packet.{Packet};
@@ -10,12 +10,12 @@ ghost use Rattle.payload.specs.Kinds.{packet_kind};
 ghost use Rattle.payload.specs.Read.{PacketRead};
 ghost use Rattle.reader.specs.Frame.{frame_at};
 ghost use Rattle.reader.specs.Private.{sizing};
-ghost use Rattle.short_ways.specs.Private.{has_part, some_size, with_part};
+ghost use Rattle.short_ways.specs.Private.{no_part, part_in, some_size, with_part};
 ghost use Rattle.short_ways.specs.Short.{whole_size, is_chunk, body_size, chunk_size, answered, part_meaning, short_reading};
 ghost use Rattle.wire.specs.Packet.{code_place};
 
 use connection::{Connection, Kind};
-use packet::{Direction, Packet, Part};
+use packet::{Direction, Packet, Part, Place};
 use payload::BODY_CHUNK;
 use payload::movement::move_of;
 use reader::frame::{Extent, frame};
@@ -103,22 +103,32 @@ fn is_chunk(packet: &[u8]) -> bool
 }
 
 // The part of a packet that was read and whose kind is allowed now, by the step that the packet makes.
-#[tactic(auto, unfolding(reader::specs::Private::sizing))]
+#[tactic(auto, using(crate::proofs::ShortWays::own), unfolding(reader::specs::Private::sizing))]
 fn stepped(
     connection: Connection,
     taken: usize,
     packet: Packet,
 ) -> Result<Option<ReadPart>, Refusal>
-    requires { IsTrue (has_part (packet_kind packet)) }
     ensures { part_meaning (with_part (packet_kind packet) packet) result ≡ answered (sizing connection taken (PacketRead.Packet packet)) }
 {
-    let (Packet::Body(part) | Packet::BodyChunk(part)) = packet else {
-        unreachable!()
-    };
     let after = connection.step_allowed(move_of(packet))?;
     Ok(Some(ReadPart {
-        part,
+        part: part_in(packet),
         taken,
         connection: after,
     }))
+}
+
+// The part of a packet: one of no bytes where it is neither a body packet nor a chunk. No such packet comes here, but with `unreachable!` in
+// its place the compiler makes one number of the part's place and length, and takes it apart again.
+fn part_in(packet: Packet) -> Part
+    ensures { result ≡ part_in packet }
+{
+    match packet {
+        Packet::Body(part) | Packet::BodyChunk(part) => part,
+        _ => Part {
+            start: Place(0),
+            len: 0,
+        },
+    }
 }

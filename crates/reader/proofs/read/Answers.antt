@@ -5,5 +5,5 @@ use Rattle.reader.specs.Frame.{extent_meaning}
 use Rattle.reader.proofs.Framing.{whole_fits}
 use Rattle.reader.proofs.read.Goals as goal
 
-pub whole-requires : goal.whole-requires
-whole-requires c = whole_fits _ _ _ _ (sym c.in_ok-n.ensures ∙ ap extent_meaning c.in-Whole.is) c.part_of.ensures
+pub invariant_of-read : goal.invariant_of-read
+invariant_of-read c = record { fits = whole_fits _ _ _ _ (sym c.in_ok-n.ensures ∙ ap extent_meaning c.in-Whole.is) c.part_of.ensures }

@@ -1,13 +1,10 @@
 -- `short_ways::read_body_chunk` meets its contract, by what is read and by the step.
 -- Assumes nothing.
-use mathlib.Core.Path.{refl, sym, ◌∙◌}
+use mathlib.Core.Path.{refl, ◌∙◌}
 use Rattle.packet.specs.declared.Direction.{Direction}
 use Rattle.packet.specs.declared.Packet.{Packet}
 use Rattle.connection.specs.declared.Kind.{Kind}
 use Rattle.wire.proofs.Exits.{exits}
-use Rattle.std.proofs.Common.{rules}
-use Rattle.payload.proofs.Parsed.{parsed_kind}
-use Rattle.reader.specs.Reading.{context_of}
 use Rattle.short_ways.specs.Short.{part_meaning}
 use Rattle.short_ways.proofs.ShortWays.{size_none, size_some, short_chunk, short_other, short_refused, short_stepped}
 use Rattle.short_ways.proofs.read_body_chunk.Goals as goal
@@ -20,10 +17,6 @@ returns-in_err-found c =
     let size = size_some _ _ c.in-Some.ensures in
     exits (part_meaning Packet.BodyChunk) _ _ c.from_residual.ensures.1
     ∙ short_refused Direction.ToServer _ _ Kind.BodyChunk _ _ _ size.0 size.1 (short_chunk _ _ _ size.0 size.1) c.part_of-chunk.ensures refl _ c.in_err-found.ensures
-
-pub stepped-requires : goal.stepped-requires
-stepped-requires c =
-    rw (parsed_kind (context_of Direction.ToServer c.args.connection) Kind.BodyChunk _ _ (sym c.in_ok-found.ensures)) (search rules)
 
 pub returns : goal.returns
 returns c =
