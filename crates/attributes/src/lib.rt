@@ -24,7 +24,7 @@ use seen::Seen;
 pub const LAST_MARK: u8 = 0xFF;
 
 // An attribute as read: its code, and its value's place.
-#[derive(Clone, Copy)]
+#[derive(Clone, Copy, Debug, PartialEq, Eq)]
 pub struct ReadAttribute {
     pub code: u8,
     pub value: usize,

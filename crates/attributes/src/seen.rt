@@ -4,7 +4,7 @@ ghost use Rattle.wire.specs.Bits.{bit};
 ghost use Rattle.attributes.specs.Private.{with_bit};
 
 // A set of codes, each as a bit: one word holds it, with no heap.
-#[derive(Clone, Copy)]
+#[derive(Clone, Copy, Debug, PartialEq, Eq)]
 pub struct Seen {
     pub bits: u16,
 }

@@ -19,7 +19,7 @@ use wire::{CODE_PLACE, PAYLOAD_PLACE};
 pub const COUNT_SIZE: usize = INTEGER;
 
 // The packets that are built in pieces.
-#[derive(Clone, Copy)]
+#[derive(Clone, Copy, Debug, PartialEq, Eq)]
 pub enum BuildingKind {
     Forward,
     SendHeaders,
@@ -28,7 +28,7 @@ pub enum BuildingKind {
 // What is known of a packet that is being built: its kind, how far it reaches, where its count of headers stands, how many headers it
 // has, and whether an attribute was added. The calls for the fixed fields make such a record, and each piece makes the next.
 // Every record has an answer from every call, so its fields are open to the crates that build with it.
-#[derive(Clone, Copy)]
+#[derive(Clone, Copy, Debug, PartialEq, Eq)]
 pub struct Building {
     pub kind: BuildingKind,
     pub next: Place,

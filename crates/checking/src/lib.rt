@@ -24,7 +24,7 @@ pub const NO_REFUSAL: u8 = 0;
 
 // A check on the way: the connection and the figures of the packets that were accepted, the place behind them, and the refusal of the
 // packet that stands there, 0 for none. The refusal is a number and not a `Refusal`, so that any record gets an answer.
-#[derive(Clone, Copy)]
+#[derive(Clone, Copy, Debug, PartialEq, Eq)]
 pub struct Checking {
     pub connection: Connection,
     pub packets: u32,

@@ -11,7 +11,7 @@ ghost use Rattle.wire.specs.Pick.{pick};
 ghost use Rattle.wire.specs.Read.{fault_number};
 
 use packet::{BodyLeft, Direction};
-use wire::refusal::Refusal;
+pub use wire::refusal::Refusal;
 
 // Where a connection stands.
 #[derive(Clone, Copy, Debug, PartialEq, Eq)]
@@ -26,7 +26,7 @@ pub enum State {
 // asked are no Option: the clauses of with_left, with_due, with_headers and with_head, and the law `ignored`, speak of records that hold
 // anything in what does not count.
 // The short fields come first: the compiler then loads each by itself, and not the state together with what lies behind it.
-#[derive(Clone, Copy)]
+#[derive(Clone, Copy, Debug, PartialEq, Eq)]
 pub struct Connection {
     state: State,
     due: bool,
@@ -50,14 +50,14 @@ pub enum Kind {
 }
 
 // A Forward, as far as the cycle goes: the length of body that it declares, and whether its method is HEAD.
-#[derive(Clone, Copy)]
+#[derive(Clone, Copy, Debug, PartialEq, Eq)]
 pub struct ForwardMove {
     pub declared: BodyLeft,
     pub head: bool,
 }
 
 // A packet, as far as the cycle goes: how many bytes, how many asked for, whether the connection is kept.
-#[derive(Clone, Copy)]
+#[derive(Clone, Copy, Debug, PartialEq, Eq)]
 pub enum Move {
     CPing,
     CPong,
@@ -70,7 +70,7 @@ pub enum Move {
 }
 
 // A packet that stands in the buffer from its first byte on: how long it is, and the connection after it.
-#[derive(Clone, Copy)]
+#[derive(Clone, Copy, Debug, PartialEq, Eq)]
 pub struct Written {
     pub size: usize,
     pub connection: Connection,

@@ -60,7 +60,7 @@ fn in_set(set: u32, n: u8) -> bool
 
 // What tells most texts from the listed names of a direction, as sets of numbers: the names' lengths, and the places in the alphabet of the
 // letters that they begin with, capital or small.
-#[derive(Clone, Copy)]
+#[derive(Clone, Copy, Debug, PartialEq, Eq)]
 struct ListedSets {
     lengths: u32,
     letters: u32,

@@ -9,7 +9,7 @@ pub mod table;
 pub mod token;
 
 // The lists of names that have codes.
-#[derive(Clone, Copy)]
+#[derive(Clone, Copy, Debug, PartialEq, Eq)]
 pub enum NameList {
     Methods,
     RequestHeaders,

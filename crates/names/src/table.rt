@@ -88,7 +88,7 @@ static ATTRIBUTE_NAMES: [&str; 11] = [
 
 // A list of names as it is searched: the names in the order of their codes, the code of the first, and whether capital and small letters
 // are taken as one.
-#[derive(Clone, Copy)]
+#[derive(Clone, Copy, Debug, PartialEq, Eq)]
 struct Table {
     names: &'static [&'static str],
     first: u16,

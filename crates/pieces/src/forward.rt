@@ -24,7 +24,7 @@ use wire::refusal::Refusal;
 use wire::{AFTER_CODE_PLACE, StringField, write};
 
 // A Forward's fixed numbers.
-#[derive(Clone, Copy)]
+#[derive(Clone, Copy, Debug, PartialEq, Eq)]
 pub struct Numbers {
     pub method: u16,
     pub server_port: u16,
@@ -32,7 +32,7 @@ pub struct Numbers {
 }
 
 // A Forward's strings, None for null.
-#[derive(Clone, Copy)]
+#[derive(Clone, Copy, Debug, PartialEq, Eq)]
 pub struct Strings<'a> {
     pub protocol: Option<&'a [u8]>,
     pub req_uri: Option<&'a [u8]>,

@@ -19,7 +19,7 @@ use crate::whole::Whole;
 
 // What reading answers where nothing is refused: how many bytes it needs in all, or the packet, how many bytes were taken, and the
 // connection after it.
-#[derive(Clone, Copy)]
+#[derive(Clone, Copy, Debug, PartialEq, Eq)]
 pub enum Received {
     Needs(usize),
     Accepted {

@@ -25,7 +25,7 @@ use wire::{CODE_PLACE, part_of};
 
 // What a short way answers of a packet that goes it and is not refused: the packet's part, how many bytes were taken, and the connection
 // after it.
-#[derive(Clone, Copy)]
+#[derive(Clone, Copy, Debug, PartialEq, Eq)]
 pub struct ReadPart {
     pub part: Part,
     pub taken: usize,

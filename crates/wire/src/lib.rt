@@ -17,7 +17,7 @@ pub mod refusal;
 pub mod write;
 
 // The fields that are strings.
-#[derive(Clone, Copy)]
+#[derive(Clone, Copy, Debug, PartialEq, Eq)]
 pub enum StringField {
     Protocol,
     ReqUri,

@@ -7,7 +7,7 @@ use crate::refusal::Refusal;
 use crate::{NULL_LENGTH, StringField, has_room, holds_barred, is_optional, lacks, part_of};
 
 // A field as read: its value, and the place after it.
-#[derive(Clone, Copy)]
+#[derive(Clone, Copy, Debug, PartialEq, Eq)]
 pub struct Field<T> {
     pub value: T,
     pub next: usize,
