@@ -1,4 +1,5 @@
-// How many bytes fields take. A size is exact up to 8192, and 8193 where it is more: no packet is so long.
+// How many bytes fields take. A size is exact up to 8192, and 8193 where it is more, as the definition `size_told` has it: no packet is so
+// long, and the C calls tell this number.
 ghost use Rattle.std.specs.Prelude.{◌≡◌, ◌+◌, length};
 ghost use Rattle.wire.specs.Field.{string_bytes};
 ghost use Rattle.wire.specs.Text.{is_null, bytes_in};

@@ -3,10 +3,9 @@ ghost use Rattle.std.specs.Prelude.{◌+◌, ◌≡◌, ◌≤◌, IfOk};
 ghost use Rattle.check_capture.specs.Window.{window_size};
 
 use capture::window::keep;
-use checking::{Checked, Checking, MAX_CAPTURE};
+use checking::{Checked, Checking, MAX_CAPTURE, NO_REFUSAL};
 use std::io;
 use std::io::Read;
-use wire::refusal;
 
 // The window has room for many packets, so that few reads are made.
 const WINDOW: usize = 131072;
@@ -73,7 +72,7 @@ impl Run {
 
     // Whether no more bytes would be looked at: something was refused, or more came than is judged.
     fn is_decided(&self) -> bool {
-        self.checking.refusal != refusal::NONE || self.size() > u64::from(MAX_CAPTURE)
+        self.checking.refusal != NO_REFUSAL || self.size() > u64::from(MAX_CAPTURE)
     }
 
     // How many bytes were read: those up to the check's place, and those that are kept behind it.

@@ -44,7 +44,7 @@ pub fn length_after(before: Option<u32>, value: Option<&[u8]>) -> Result<Option<
     }
 }
 
-// The length that a request declared, 0 where it declared none.
+// The length that a request declared, 0 where it declared none, as the definition `declared_length` has it.
 pub fn length_of(declared: Option<u32>) -> u32
     ensures { result ≡ declared_length declared }
 {

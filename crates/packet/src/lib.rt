@@ -45,7 +45,7 @@ pub struct Part {
 }
 
 // A Forward: its fixed numbers, the places of its fixed strings, how many headers and attributes it has, and the declared length of
-// the body, 0 where none is declared.
+// the body, 0 where none is declared, as the definition `declared_length` and the C call's word have it.
 #[derive(Clone, Copy, Debug, PartialEq, Eq)]
 pub struct Forward {
     pub method: u16,
@@ -82,14 +82,14 @@ pub enum Packet {
     End(bool),
 }
 
-// A header's name: its code, or a string, whose bytes `views::text_at` shows.
+// A header's name: its code, or a string, whose bytes `views::text_at` shows. No Option: a spelled name is there too.
 #[derive(Clone, Copy, Debug, PartialEq, Eq)]
 pub enum HeaderName {
     Code(u16),
     Spelled,
 }
 
-// What value an attribute has.
+// What value an attribute has. Not served is one of these, as the definition `attribute_kind` and the C call's number have it.
 #[derive(Clone, Copy, Debug, PartialEq, Eq)]
 pub enum AttributeKind {
     NotServed,
@@ -101,7 +101,8 @@ pub enum AttributeKind {
 // Room for the longest name, transfer-encoding.
 pub const NAME_ROOM: usize = 17;
 
-// A name that is handed out: its bytes, zeros behind them, and how many bytes it has. Where there is no such name it has 0.
+// A name that is handed out: its bytes, zeros behind them, and how many bytes it has. Where there is no such name it has 0. It is fixed room
+// with a length beside: there is no heap, and the C call `ajp13_name` copies the room out.
 #[derive(Clone, Copy, Debug, PartialEq, Eq)]
 pub struct Name {
     pub bytes: [u8; NAME_ROOM],

@@ -23,7 +23,8 @@ pub mod lists;
 pub mod movement;
 pub mod send_headers;
 
-// The codes of the kinds of packet, and the two that a server may send and nobody serves.
+// The codes of the kinds of packet, and the two that a server may send and nobody serves: numbers of the protocol, which a packet's byte is
+// matched with.
 pub const FORWARD: u16 = 2;
 
 pub const BODY_CHUNK: u16 = 3;
@@ -49,7 +50,7 @@ pub struct Context {
     pub body: bool,
 }
 
-// The code of a kind of packet; a body packet has none, and 0 stands for that.
+// The code of a kind of packet; a body packet has none, and 0 stands for that, as the definition `code_of` has it.
 pub fn code_of(kind: Kind) -> u16
     ensures { result ≡ code_of kind }
 {

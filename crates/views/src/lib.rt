@@ -1,5 +1,5 @@
 // Views of the fields of a packet, at the places that reading gives: parts of the lent bytes, not copies. Each answers for any bytes and
-// any place.
+// any place; what is not there is told as 0, as no bytes or as a spelled name, as the definitions of `View` have it.
 #![tactic(auto)]
 
 ghost use Rattle.std.specs.Prelude.{◌≡◌, ◌+◌, get_or};

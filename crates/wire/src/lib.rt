@@ -87,7 +87,8 @@ pub fn is_optional(field: StringField) -> bool
     )
 }
 
-// Whether `count` bytes from a place on lie within `size` bytes.
+// Whether `count` bytes from a place on lie within `size` bytes: for who needs a length and then one part or another, which `get` would ask
+// for again.
 pub fn has_room(size: usize, at: usize, count: usize) -> bool
     ensures { result ≡ leb (at + count) size }
 {

@@ -25,11 +25,11 @@ pub struct Span {
 pub fn byte(packet: &[u8], at: usize) -> Result<Field<u16>, Refusal>
     ensures { number_meaning result ≡ byte_at packet.now at }
 {
-    if !has_room(packet.len(), at, 1) {
+    let Some(byte) = packet.get(at) else {
         return Err(Refusal::CutShort);
-    }
+    };
     Ok(Field {
-        value: packet[at] as u16,
+        value: u16::from(*byte),
         next: at + 1,
     })
 }
@@ -39,13 +39,11 @@ pub fn byte(packet: &[u8], at: usize) -> Result<Field<u16>, Refusal>
 pub fn integer(packet: &[u8], at: usize) -> Result<Field<u16>, Refusal>
     ensures { number_meaning result ≡ integer_at packet.now at }
 {
-    if !has_room(packet.len(), at, 2) {
+    let Some([high, low, ..]) = packet.get(at..) else {
         return Err(Refusal::CutShort);
-    }
-    let high = packet[at] as u16;
-    let low = packet[at + 1] as u16;
+    };
     Ok(Field {
-        value: high * 256 + low,
+        value: u16::from_be_bytes([*high, *low]),
         next: at + 2,
     })
 }
