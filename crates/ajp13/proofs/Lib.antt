@@ -1,4 +1,5 @@
 pub mod Within
+pub mod Private
 pub mod Effects
 pub mod Pieces
 pub mod Unchanged

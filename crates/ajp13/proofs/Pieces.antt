@@ -1,41 +1,66 @@
--- A piece over words, by what was found first and by what the library's call came to; what is left where it is done, and where not.
+-- A piece over words: the faults of its arguments, and what is left where it is done, and where not.
 -- Assumes nothing.
 use native.Mathlib.Omega.{arith}
-use borrow.Author.Tests.{eq-eqb, ne_eqb, eqb-false}
+use borrow.Author.Tests.{eqb-true, eqb-false}
 use mathlib.Core.Path.{◌≡◌, refl, ap, ◌∙◌}
 use mathlib.Core.Bool.{Bool, true, false}
-use mathlib.Core.List.{List}
+use mathlib.Core.List.{List, [], ◌∷◌}
 use Prim.Native.Nat.{ℕ}
 use lib.Dec.{eqb}
 use lib.ListN.{length}
 use Rattle.wire.specs.Pick.{pick}
 use Rattle.wire.specs.Bytes.{over}
-use Rattle.building.specs.Fault.{first_fault}
-use Rattle.building.specs.Call.{Call, Outcome, refused, done, refusal_of, outcome, buffer_after}
+use Rattle.building.specs.Fault.{or_else, first_fault}
+use Rattle.building.specs.Call.{Call, refused, done, refusal_of, outcome, buffer_after}
 use Rattle.building_record.specs.Record.{is_possible}
 use Rattle.building_record.specs.declared.Building.{Building}
 use Rattle.building_record.proofs.Laws.{possible_yes}
-use Rattle.words.specs.BuildingWords.{building_in, building_words}
-use Rattle.words.proofs.Records.{building_back}
+use Rattle.pieces.specs.Attribute.{integer_call}
+use Rattle.words.specs.Number.{capped, number_fault}
+use Rattle.words.specs.BuildingWords.{building_fault, building_in, building_words}
+use Rattle.words.proofs.Records.{building_back, capped_same, number_within}
 use Rattle.answers.specs.Told.{PieceEffect, piece_leaves, after_adding}
 use Rattle.ajp13.specs.Piece.{Piece, piece_effect}
+use Rattle.ajp13.specs.Private.{record_piece}
 
-module _ (piece : Piece) (building buffer : List ℕ) {found : ℕ} (is : found ≡ first_fault piece.faults) where
-  -- a fault is told, and all is as it was
-  pub piece_fault : (found ≡ 0 → ⊥) → piece_leaves found building buffer ≡ piece_effect piece building buffer
-  unfolding piece_effect
-  piece_fault h = rw (← is, ne_eqb found 0 h)
+-- the faults of two arguments, one behind the other
+pub two_given : (building buffer : List ℕ) (first second : ℕ) (call : Call Building)
+    → piece_effect (record_piece building (or_else first second) call) building buffer
+    ≡ piece_effect (record { faults = building_fault building ∷ first ∷ second ∷ []; call = call }) building buffer
+unfolding piece_effect
+two_given building buffer first second call = go (eqb (building_fault building) 0) refl
+  where
+    by : ℕ → PieceEffect
+    by fault = pick (eqb fault 0) (after_adding (outcome call (length buffer)) building (buffer_after call buffer)) (piece_leaves fault building buffer)
 
-  -- without one all is as the call leaves it
-  pub piece_called : {call : Call Building} {came : Outcome Building} {told : ℕ} {after left : List ℕ} → found ≡ 0 → call ≡ piece.call
-      → came ≡ outcome call (length buffer) → left ≡ buffer_after call buffer → piece_leaves told after left ≡ after_adding came building left
-      → piece_leaves told after left ≡ piece_effect piece building buffer
-  unfolding piece_effect
-  piece_called {call} {came} {told} {after} {left} h same comes writes tells =
-      rw (← is, eq-eqb found 0 h)
-      (tells
-      ∙ ap (λ (o : Outcome Building). after_adding o building left) (comes ∙ ap (λ (k : Call Building). outcome k (length buffer)) same)
-      ∙ ap (after_adding (outcome piece.call (length buffer)) building) (writes ∙ ap (λ (k : Call Building). buffer_after k buffer) same))
+    go : (t : Bool) → eqb (building_fault building) 0 ≡ t
+        → by (or_else (building_fault building) (or_else first second)) ≡ by (or_else (or_else (building_fault building) first) second)
+    go true e = rw e refl
+    go false e = rw (e, e, e) refl
+
+-- a number that is given for an integer: where it is no 16-bit number the call has that fault, and nothing else counts
+pub integer_given : (building buffer : List ℕ) (r : Building) (over : List ℕ) (code value : ℕ)
+    → piece_effect (record_piece building (number_fault value) (integer_call r over code (capped value))) building buffer
+    ≡ piece_effect (record_piece building (number_fault value) (integer_call r over code value)) building buffer
+unfolding piece_effect
+integer_given building buffer r over code value = go (eqb (number_fault value) 0) refl
+  where
+    by : ℕ → ℕ → PieceEffect
+    by fault n =
+        pick (eqb fault 0)
+        (after_adding (outcome (integer_call r over code n) (length buffer)) building (buffer_after (integer_call r over code n) buffer))
+        (piece_leaves fault building buffer)
+
+    either_way : (t : Bool) → eqb (building_fault building) 0 ≡ t → eqb (number_fault value) 0 ≡ false
+        → by (or_else (building_fault building) (number_fault value)) (capped value) ≡ by (or_else (building_fault building) (number_fault value)) value
+    either_way true q e = rw (q, e) refl
+    either_way false q e = rw (q, q) refl
+
+    go : (t : Bool) → eqb (number_fault value) 0 ≡ t
+        → by (or_else (building_fault building) (number_fault value)) (capped value) ≡ by (or_else (building_fault building) (number_fault value)) value
+    go true e =
+        ap (by (or_else (building_fault building) (number_fault value))) (capped_same value (number_within value (eqb-true (number_fault value) 0 e)))
+    go false e = either_way (eqb (building_fault building) 0) refl e
 
 -- the words of a record that is possible say the record: its numbers fit
 pub possible_back : (r : Building) (buffer : List ℕ) → is_possible r buffer ≡ true → building_in (building_words r) ≡ r

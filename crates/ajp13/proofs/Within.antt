@@ -1,21 +1,13 @@
 -- The bytes that are told of are no more than a packet may have, so that they fit a word.
 -- Assumes nothing.
 use native.Mathlib.Omega.{arith}
-use borrow.Author.Tests.{eqb-true}
 use mathlib.Core.Path.{◌≡◌, refl}
-use mathlib.Core.Bool.{Bool, true, false}
 use mathlib.Core.List.{List}
 use Prim.Native.Nat.{ℕ, ◌≤◌}
-use lib.Dec.{eqb}
-use lib.ListN.{length}
-use Rattle.wire.specs.Pick.{pick}
-use Rattle.wire.specs.Packet.{Fits}
 use Rattle.packet.specs.declared.Direction.{Direction}
 use Rattle.connection.specs.Connection.{max_packet}
 use Rattle.connection.specs.declared.Connection.{Connection}
-use Rattle.connection.specs.declared.Move.{Move}
-use Rattle.building.specs.Call.{Call, Outcome, refused, done, refusal_of, outcome}
-use Rattle.building.proofs.Calls.{done_fits}
+use Rattle.building.specs.Call.{Outcome, refused, done}
 use Rattle.building_record.specs.declared.Building.{Building}
 use Rattle.reader.specs.Frame.{FrameRead}
 use Rattle.reader.specs.Meaning as read
@@ -23,7 +15,6 @@ use Rattle.reader.specs.Reading.{reading}
 use Rattle.reader.proofs.Framing.{frame_inside}
 use Rattle.reading_laws.proofs.Acceptance.{accepted_is, needs_more}
 use Rattle.building.specs.Sent.{Written}
-use Rattle.writer.specs.Sending.{packet_of, sending}
 use Rattle.closing.specs.Closing.{closed_length, close_outcome}
 use Rattle.closing.proofs.Laws.{close_done}
 use Rattle.answers.specs.Private.{ReadWithin, SentWithin}
@@ -37,21 +28,6 @@ read_within direction c s room = go (reading direction c s room) refl
     go (read.refused n) e = tt
     go (read.accepted packet taken after) e =
         (frame_inside direction s (FrameRead.Whole taken) (accepted_is direction c s room packet taken after e).whole_is).1.0
-
--- what sending a packet tells: its length
-pub sent_within : (c : Connection) (m : Move) (payload buffer : List ℕ) → SentWithin (outcome (sending c m payload) (length buffer))
-unfolding outcome
-sent_within c m payload buffer = go (eqb (refusal_of call (length buffer)) 0) refl
-  where
-    call : Call Written
-    call = sending c m payload
-
-    go : (t : Bool) → eqb (refusal_of call (length buffer)) 0 ≡ t
-        → SentWithin (pick t (done call.answer) (refused (refusal_of call (length buffer))))
-    go true e =
-        let fits : Fits 0 (packet_of m payload) buffer = done_fits call buffer (refusal_of call (length buffer)) refl (eqb-true _ 0 e) in
-        omega arith
-    go false e = tt
 
 -- what closing one tells
 pub close_within : (c : Connection) (r : Building) (buffer : List ℕ) → SentWithin (close_outcome c r buffer)

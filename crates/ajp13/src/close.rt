@@ -1,26 +1,33 @@
 // Closing a packet that was built in pieces.
 ghost use Rattle.std.specs.Prelude.{◌≡◌};
+ghost use Rattle.words.specs.Failure.{status_number};
 ghost use Rattle.answers.specs.Effect.{leaves};
-ghost use Rattle.ajp13.specs.Sending.{close_fault, close_effect};
+ghost use Rattle.ajp13.specs.Sending.{close_effect};
 
-use answers::answer::answer_fault;
 use answers::sent::tell_sent;
-use words::building_words::{building_fault, building_in};
-use words::connection_words::{connection_fault, connection_in};
-use words::status;
-use words::status::or_else;
-
-// What is looked for first.
-fn close_fault(connection: &[u32], building: &[u32], answer: &[u32]) -> u32
-    ensures { result ≡ close_fault connection.now building.now answer.now }
-{
-    or_else(
-        or_else(connection_fault(connection), building_fault(building)),
-        answer_fault(answer),
-    )
-}
+use words::building_words::building_in;
+use words::connection_words::connection_in;
+use words::status::{Failure, status_of};
 
 // Closes the packet that a building record says.
+#[tactic(auto, using(crate::proofs::Within::close_within), unfolding(words::specs::ConnectionWords::connection_fault, words::specs::BuildingWords::building_fault, answers::specs::Answer::answer_fault, crate::specs::Sending::close_fault, crate::specs::Sending::close_effect))]
+fn close(
+    connection: &mut [u32],
+    building: &[u32],
+    buffer: &mut [u8],
+    answer: &mut [u32],
+) -> Result<(), Failure>
+    ensures { leaves (status_number result) connection.new buffer.new answer.new ≡ close_effect connection.old building.now buffer.old answer.old }
+{
+    let words = connection.as_mut_array().ok_or(Failure::ConnectionLength)?;
+    let held = connection_in(words)?;
+    let record = building_in(building.as_array().ok_or(Failure::BuildingLength)?)?;
+    let answer = answer.as_mut_array().ok_or(Failure::AnswerLength)?;
+    let sent = closing::close(held, record, buffer);
+    tell_sent(record.kind.kind(), sent, words, answer)
+}
+
+// The same for C.
 #[unsafe(no_mangle)]
 pub extern "C" fn ajp13_words_close(
     connection: &mut [u32],
@@ -30,12 +37,5 @@ pub extern "C" fn ajp13_words_close(
 ) -> u32
     ensures { leaves result connection.new buffer.new answer.new ≡ close_effect connection.old building.now buffer.old answer.old }
 {
-    let found = close_fault(connection, building, answer);
-    if found != status::DONE {
-        return found;
-    }
-    let record = building_in(building);
-    let kind = record.kind();
-    let sent = closing::close(connection_in(connection), record, buffer);
-    tell_sent(kind.kind(), sent, connection, answer)
+    status_of(close(connection, building, buffer, answer))
 }

@@ -3,10 +3,21 @@ ghost use Rattle.std.specs.Prelude.{◌≡◌};
 ghost use Rattle.connection.specs.Cycle.{largest_body};
 ghost use Rattle.building.specs.Fault.{or_else};
 ghost use Rattle.words.specs.ConnectionWords.{connection_room, connection_fault, connection_in, fresh_after};
+ghost use Rattle.words.specs.Failure.{status_number, told_number};
 
 use connection::Connection;
-use words::connection_words::{connection_fault, connection_in, connection_room, put_connection};
-use words::status;
+use words::connection_words::{connection_in, connection_words};
+use words::status::{Failure, status_of, told};
+
+#[tactic(auto, unfolding(words::specs::ConnectionWords::connection_room, words::specs::ConnectionWords::fresh_after))]
+fn fresh(connection: &mut [u32]) -> Result<(), Failure>
+    ensures value { status_number result ≡ connection_room connection.old }
+    ensures connection_after { connection.new ≡ fresh_after connection.old }
+{
+    let words = connection.as_mut_array().ok_or(Failure::ConnectionLength)?;
+    *words = connection_words(Connection::fresh());
+    Ok(())
+}
 
 // Writes the words of a fresh connection, for either end. What stood there does not matter.
 #[unsafe(no_mangle)]
@@ -14,12 +25,16 @@ pub extern "C" fn ajp13_words_fresh(connection: &mut [u32]) -> u32
     ensures value { result ≡ connection_room connection.old }
     ensures connection_after { connection.new ≡ fresh_after connection.old }
 {
-    let found = connection_room(connection);
-    if found != status::DONE {
-        return found;
-    }
-    put_connection(connection, Connection::fresh());
-    status::DONE
+    status_of(fresh(connection))
+}
+
+#[tactic(auto, unfolding(words::specs::ConnectionWords::connection_fault))]
+fn largest_body(connection: &[u32]) -> Result<u32, Failure>
+    ensures { told_number result ≡ or_else (connection_fault connection.now) (largest_body (connection_in connection.now)) }
+{
+    let words = connection.as_array().ok_or(Failure::ConnectionLength)?;
+    let held = connection_in(words)?;
+    Ok(u32::from(held.largest_body()))
 }
 
 // The most bytes that the next body packet may hold, 0 where none is due.
@@ -27,10 +42,5 @@ pub extern "C" fn ajp13_words_fresh(connection: &mut [u32]) -> u32
 pub extern "C" fn ajp13_words_largest_body(connection: &[u32]) -> u32
     ensures { result ≡ or_else (connection_fault connection.now) (largest_body (connection_in connection.now)) }
 {
-    let found = connection_fault(connection);
-    if found != status::DONE {
-        return found;
-    }
-    let held = connection_in(connection);
-    held.largest_body() as u32
+    told(largest_body(connection))
 }

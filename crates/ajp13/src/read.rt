@@ -2,35 +2,71 @@
 // A body packet and a chunk go a short way each, from the connection's words to the answer's without a record in memory between them.
 ghost use Rattle.std.specs.Prelude.{◌≡◌};
 ghost use Rattle.packet.specs.declared.Direction.{Direction};
+ghost use Rattle.packet.specs.declared.Packet.{Packet};
+ghost use Rattle.packet.specs.declared.Part.{Part};
+ghost use Rattle.words.specs.ConnectionWords.{connection_in};
+ghost use Rattle.words.specs.Failure.{told_number};
 ghost use Rattle.answers.specs.Effect.{leaves};
-ghost use Rattle.answers.specs.Private.{Takes};
 ghost use Rattle.ajp13.specs.Reading.{sound_reading, read_effect};
+ghost use Rattle.ajp13.specs.Private.{GoesShort};
 
-use answers::answer::call_fault;
+use answers::answer::ANSWER_SIZE;
 use answers::received::{tell_part, tell_received};
-use connection::Kind;
+use connection::{Connection, Kind};
 use packet::Direction;
 use reader::read;
-use short_ways::{PartRead, read_body, read_body_chunk};
-use words::connection_words::connection_in;
+use short_ways::{ReadPart, read_body, read_body_chunk};
+use wire::refusal::Refusal;
+use words::connection_words::{CONNECTION_SIZE, connection_in};
 use words::status;
+use words::status::{Failure, told};
 
-// Reads a packet of any kind. Both ends call it for all that goes no short way, so that it stays out of the short ways.
+// Reads a packet of any kind, with the connection that the words say. Both ends call it for all that goes no short way, so that it stays
+// out of the short ways.
+#[tactic(auto, using(crate::proofs::Within::read_within))]
 fn read_any(
     direction: Direction,
+    held: Connection,
+    connection: &mut [u32; CONNECTION_SIZE],
+    bytes: &[u8],
+    table: &mut [u16],
+    answer: &mut [u32; ANSWER_SIZE],
+) -> Result<u32, Failure>
+    requires { held ≡ connection_in connection.old }
+    ensures { leaves (told_number result) connection.new table.new answer.new ≡ sound_reading direction connection.old bytes.now table.old answer.old }
+{
+    tell_received(read(direction, held, bytes, table), connection, answer)
+}
+
+// The end to which packets of a direction go reads the first packet of the bytes: a short way for the parts of one kind, else as any.
+#[tactic(auto, unfolding(words::specs::ConnectionWords::connection_fault, answers::specs::Answer::answer_fault, answers::specs::Effect::call_fault, crate::specs::Reading::read_effect))]
+fn read_at<F: FnOnce(Connection, &[u8]) -> Result<Option<ReadPart>, Refusal>>(
+    direction: Direction,
+    kind: Kind,
     connection: &mut [u32],
     bytes: &[u8],
     table: &mut [u16],
     answer: &mut [u32],
-) -> u32
-    requires { Takes connection.old answer.old }
-    ensures { leaves result connection.new table.new answer.new ≡ sound_reading direction connection.old bytes.now table.old answer.old }
+    short: F,
+) -> Result<u32, Failure>
+    ghost of: { Part → Packet }
+    requires { GoesShort F.FnOnce short direction kind of }
+    ensures { leaves (told_number result) connection.new table.new answer.new ≡ read_effect direction connection.old bytes.now table.old answer.old }
 {
-    let received = read(direction, connection_in(connection), bytes, table);
-    tell_received(received, connection, answer)
+    let words = connection.as_mut_array().ok_or(Failure::ConnectionLength)?;
+    let held = connection_in(words)?;
+    let answer = answer.as_mut_array().ok_or(Failure::AnswerLength)?;
+    match short(held, bytes)? {
+        Some(read) => {
+            tell_part(kind, read.part, read.taken, read.connection, words, answer);
+            Ok(status::DONE)
+        }
+        None => read_any(direction, held, words, bytes, table, answer),
+    }
 }
 
 // The container's end reads the first packet of the bytes. Where it is accepted, the table has the places of its headers and attributes.
+#[tactic(auto, unfolding(answers::specs::Answer::packet_words))]
 #[unsafe(no_mangle)]
 pub extern "C" fn ajp13_words_read_at_container(
     connection: &mut [u32],
@@ -40,22 +76,19 @@ pub extern "C" fn ajp13_words_read_at_container(
 ) -> u32
     ensures { leaves result connection.new table.new answer.new ≡ read_effect Direction.ToContainer connection.old bytes.now table.old answer.old }
 {
-    let found = call_fault(connection, answer);
-    if found != status::DONE {
-        return found;
-    }
-    match read_body(connection_in(connection), bytes) {
-        PartRead::Other => read_any(Direction::ToContainer, connection, bytes, table, answer),
-        PartRead::Refused(n) => n as u32,
-        PartRead::Part {
-            part,
-            taken,
-            connection: after,
-        } => tell_part(Kind::Body, part, taken, after, connection, answer),
-    }
+    told(read_at(
+        Direction::ToContainer,
+        Kind::Body,
+        connection,
+        bytes,
+        table,
+        answer,
+        read_body,
+    ))
 }
 
 // The server's end reads the first packet of the bytes, in the same way.
+#[tactic(auto, unfolding(answers::specs::Answer::packet_words))]
 #[unsafe(no_mangle)]
 pub extern "C" fn ajp13_words_read_at_server(
     connection: &mut [u32],
@@ -65,17 +98,13 @@ pub extern "C" fn ajp13_words_read_at_server(
 ) -> u32
     ensures { leaves result connection.new table.new answer.new ≡ read_effect Direction.ToServer connection.old bytes.now table.old answer.old }
 {
-    let found = call_fault(connection, answer);
-    if found != status::DONE {
-        return found;
-    }
-    match read_body_chunk(connection_in(connection), bytes) {
-        PartRead::Other => read_any(Direction::ToServer, connection, bytes, table, answer),
-        PartRead::Refused(n) => n as u32,
-        PartRead::Part {
-            part,
-            taken,
-            connection: after,
-        } => tell_part(Kind::BodyChunk, part, taken, after, connection, answer),
-    }
+    told(read_at(
+        Direction::ToServer,
+        Kind::BodyChunk,
+        connection,
+        bytes,
+        table,
+        answer,
+        read_body_chunk,
+    ))
 }

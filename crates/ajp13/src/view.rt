@@ -1,17 +1,38 @@
 // Views of the fields of a packet at the places that reading gives, as numbers.
-ghost use Rattle.std.specs.Prelude.{◌≡◌, ◌+◌, get_or};
+ghost use Rattle.std.specs.Prelude.{◌≡◌, ℕ, ◌+◌, ◌≤◌, get_or};
 ghost use Rattle.names.specs.Attribute.{attribute_kind};
 ghost use Rattle.building.specs.Fault.{or_else};
-ghost use Rattle.views.specs.View.{integer_view, name_view};
+ghost use Rattle.views.specs.View.{integer_view, text_view, name_view};
 ghost use Rattle.words.specs.Number.{number_fault};
+ghost use Rattle.words.specs.Failure.{status_number, told_number};
 ghost use Rattle.view_words.specs.View.{text_words, text_fault, text_after, name_number, kind_number};
 
 use building::size::BYTE;
-use packet::HeaderName;
+use packet::{HeaderName, Place};
 use view_words::name::NO_CODE;
-use view_words::{kind_number, place_in, text_fault, text_words};
-use words::number::{fill, number_fault};
-use words::status;
+use view_words::{kind_number, place_in, text_words};
+use words::status::{Failure, status_of, told};
+
+// Tells a string, so many bytes behind a place, by the view that shows it.
+#[tactic(auto, unfolding(view_words::specs::View::text_fault, view_words::specs::View::text_after))]
+fn tell_text<'a, F: FnOnce(&'a [u8], Place) -> &'a [u8]>(
+    packet: &'a [u8],
+    place: u32,
+    behind: usize,
+    text: &mut [u32],
+    view: F,
+) -> Result<(), Failure>
+    requires callable { F.IsAlwaysCallable view }
+    requires shows { (n : ℕ) (shown : _) → F.post view packet (record { 0 = n }) shown → shown.now ≡ text_view packet.now (n + behind) }
+    requires near { behind ≤ 1 }
+    ensures value { status_number result ≡ text_fault place text.old }
+    ensures text_after { text.new ≡ text_after place text.old (text_words packet.now (place + behind)) }
+{
+    let text = text.as_mut_array().ok_or(Failure::AnswerLength)?;
+    let at = place_in(place)?;
+    *text = text_words(packet, at.index() + behind, view(packet, at));
+    Ok(())
+}
 
 // The string at a place.
 #[unsafe(no_mangle)]
@@ -19,14 +40,7 @@ pub extern "C" fn ajp13_words_text_at(packet: &[u8], place: u32, text: &mut [u32
     ensures value { result ≡ text_fault place text.old }
     ensures text_after { text.new ≡ text_after place text.old (text_words packet.now place) }
 {
-    let found = text_fault(place, text);
-    if found != status::DONE {
-        return found;
-    }
-    let at = place_in(place);
-    let told = text_words(packet, at.index(), views::text_at(packet, at));
-    fill(text, &told);
-    status::DONE
+    status_of(tell_text(packet, place, 0, text, views::text_at))
 }
 
 // The name that an attribute with code 0A brings with it, by the code's place.
@@ -35,18 +49,7 @@ pub extern "C" fn ajp13_words_attribute_name_at(packet: &[u8], place: u32, text:
     ensures value { result ≡ text_fault place text.old }
     ensures text_after { text.new ≡ text_after place text.old (text_words packet.now (place + 1)) }
 {
-    let found = text_fault(place, text);
-    if found != status::DONE {
-        return found;
-    }
-    let at = place_in(place);
-    let told = text_words(
-        packet,
-        at.index() + BYTE,
-        views::attribute_name_at(packet, at),
-    );
-    fill(text, &told);
-    status::DONE
+    status_of(tell_text(packet, place, BYTE, text, views::attribute_name_at))
 }
 
 // The integer at a place, 0 where it is not there.
@@ -54,11 +57,7 @@ pub extern "C" fn ajp13_words_attribute_name_at(packet: &[u8], place: u32, text:
 pub extern "C" fn ajp13_integer_at(packet: &[u8], place: u32) -> u32
     ensures { result ≡ or_else (number_fault place) (integer_view packet.now place) }
 {
-    let found = number_fault(place);
-    if found != status::DONE {
-        return found;
-    }
-    views::integer_at(packet, place_in(place)) as u32
+    told(place_in(place).map(|at| u32::from(views::integer_at(packet, at))))
 }
 
 // The code of the header's name at a place, 0 where the name is spelled.
@@ -66,14 +65,10 @@ pub extern "C" fn ajp13_integer_at(packet: &[u8], place: u32) -> u32
 pub extern "C" fn ajp13_header_code_at(packet: &[u8], place: u32) -> u32
     ensures { result ≡ or_else (number_fault place) (name_number (name_view packet.now place)) }
 {
-    let found = number_fault(place);
-    if found != status::DONE {
-        return found;
-    }
-    match views::name_at(packet, place_in(place)) {
-        HeaderName::Code(code) => code as u32,
+    told(place_in(place).map(|at| match views::name_at(packet, at) {
+        HeaderName::Code(code) => u32::from(code),
         HeaderName::Spelled => NO_CODE,
-    }
+    }))
 }
 
 // The attribute's code at a place, 0 where nothing is there.
@@ -81,11 +76,7 @@ pub extern "C" fn ajp13_header_code_at(packet: &[u8], place: u32) -> u32
 pub extern "C" fn ajp13_attribute_code_at(packet: &[u8], place: u32) -> u32
     ensures { result ≡ or_else (number_fault place) (get_or packet.now place 0) }
 {
-    let found = number_fault(place);
-    if found != status::DONE {
-        return found;
-    }
-    views::attribute_code_at(packet, place_in(place)) as u32
+    told(place_in(place).map(|at| u32::from(views::attribute_code_at(packet, at))))
 }
 
 // What value the attribute at a place has, by its code.
@@ -93,9 +84,5 @@ pub extern "C" fn ajp13_attribute_code_at(packet: &[u8], place: u32) -> u32
 pub extern "C" fn ajp13_attribute_kind_at(packet: &[u8], place: u32) -> u32
     ensures { result ≡ or_else (number_fault place) (kind_number (attribute_kind (get_or packet.now place 0))) }
 {
-    let found = number_fault(place);
-    if found != status::DONE {
-        return found;
-    }
-    kind_number(views::attribute_kind_at(packet, place_in(place)))
+    told(place_in(place).map(|at| kind_number(views::attribute_kind_at(packet, at))))
 }

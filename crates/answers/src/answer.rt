@@ -1,17 +1,12 @@
-// The words of an answer, and what every call that writes one looks for first.
+// The words of an answer.
 ghost use Rattle.std.specs.Prelude.{◌≡◌, ◌≤◌};
 ghost use Rattle.connection.specs.Connection.{max_packet};
 ghost use Rattle.packet.specs.declared.Packet.{Packet};
-ghost use Rattle.answers.specs.Answer.{answer_fault, row, needs_words, written_words, part_words, packet_words};
-ghost use Rattle.answers.specs.Effect.{call_fault};
+ghost use Rattle.answers.specs.Answer.{row, needs_words, written_words, part_words, packet_words};
 
 use connection::Kind;
 use packet::{Forward, Packet, Part};
-use words::connection_words::connection_fault;
 use words::kinds::kind_word;
-use words::number::flag_word;
-use words::status;
-use words::status::{or_else, unless};
 
 // How many words an answer has.
 pub const ANSWER_SIZE: usize = 16;
@@ -21,20 +16,6 @@ const NO_KIND: u32 = 0;
 
 // A word that is kept for later.
 const UNUSED: u32 = 0;
-
-// The fault of an array lent for an answer.
-pub fn answer_fault(answer: &[u32]) -> u32
-    ensures { result ≡ answer_fault answer.now }
-{
-    unless(answer.len() == ANSWER_SIZE, status::ANSWER_LENGTH)
-}
-
-// The fault of a connection and of an array lent for an answer.
-pub fn call_fault(connection: &[u32], answer: &[u32]) -> u32
-    ensures { result ≡ call_fault connection.now answer.now }
-{
-    or_else(connection_fault(connection), answer_fault(answer))
-}
 
 // A number of bytes as a word: no packet has more than a word holds.
 pub fn bytes_word(bytes: usize) -> u32
@@ -54,6 +35,7 @@ fn row(kind: u32, bytes: u32, first: u32, second: u32, headers: u32) -> [u32; AN
 }
 
 // What is told of a packet that is not whole.
+#[tactic(auto, unfolding(crate::specs::Answer::needs_words))]
 pub fn needs_words(bytes: u32) -> [u32; ANSWER_SIZE]
     ensures { result ≡ needs_words bytes }
 {
@@ -61,6 +43,7 @@ pub fn needs_words(bytes: u32) -> [u32; ANSWER_SIZE]
 }
 
 // What is told of a packet that was written.
+#[tactic(auto, unfolding(crate::specs::Answer::written_words))]
 pub fn written_words(kind: Kind, bytes: u32) -> [u32; ANSWER_SIZE]
     ensures { result ≡ written_words kind bytes }
 {
@@ -74,29 +57,30 @@ pub fn part_words(kind: Kind, part: Part, bytes: u32) -> [u32; ANSWER_SIZE]
     row(
         kind_word(kind),
         bytes,
-        part.start.0 as u32,
-        part.len as u32,
+        u32::from(part.start.0),
+        u32::from(part.len),
         0,
     )
 }
 
 // What is told of a Forward.
+#[tactic(auto, using(words::proofs::Flags::flag_word), unfolding(crate::specs::Answer::packet_words))]
 fn forward_words(f: Forward, bytes: u32) -> [u32; ANSWER_SIZE]
     ensures { result ≡ packet_words (Packet.Forward f) bytes }
 {
     [
         kind_word(Kind::Forward),
         bytes,
-        f.method as u32,
-        f.protocol.0 as u32,
-        f.req_uri.0 as u32,
-        f.remote_addr.0 as u32,
-        f.remote_host.0 as u32,
-        f.server_name.0 as u32,
-        f.server_port as u32,
-        flag_word(f.is_ssl),
-        f.headers as u32,
-        f.attributes as u32,
+        u32::from(f.method),
+        u32::from(f.protocol.0),
+        u32::from(f.req_uri.0),
+        u32::from(f.remote_addr.0),
+        u32::from(f.remote_host.0),
+        u32::from(f.server_name.0),
+        u32::from(f.server_port),
+        u32::from(f.is_ssl),
+        u32::from(f.headers),
+        u32::from(f.attributes),
         f.declared.0,
         UNUSED,
         UNUSED,
@@ -105,6 +89,7 @@ fn forward_words(f: Forward, bytes: u32) -> [u32; ANSWER_SIZE]
 }
 
 // What is told of a packet that was read.
+#[tactic(auto, using(words::proofs::Flags::flag_word), unfolding(crate::specs::Answer::packet_words, crate::specs::Answer::written_words))]
 pub fn packet_words(packet: Packet, bytes: u32) -> [u32; ANSWER_SIZE]
     ensures { result ≡ packet_words packet bytes }
 {
@@ -113,15 +98,15 @@ pub fn packet_words(packet: Packet, bytes: u32) -> [u32; ANSWER_SIZE]
         Packet::CPong => written_words(Kind::CPong, bytes),
         Packet::Forward(f) => forward_words(f, bytes),
         Packet::Body(p) => part_words(Kind::Body, p, bytes),
-        Packet::GetBody(asked) => row(kind_word(Kind::GetBody), bytes, asked as u32, 0, 0),
+        Packet::GetBody(asked) => row(kind_word(Kind::GetBody), bytes, u32::from(asked), 0, 0),
         Packet::SendHeaders(h) => row(
             kind_word(Kind::SendHeaders),
             bytes,
-            h.status as u32,
-            h.message.0 as u32,
-            h.headers as u32,
+            u32::from(h.status),
+            u32::from(h.message.0),
+            u32::from(h.headers),
         ),
         Packet::BodyChunk(p) => part_words(Kind::BodyChunk, p, bytes),
-        Packet::End(reuse) => row(kind_word(Kind::End), bytes, flag_word(reuse), 0, 0),
+        Packet::End(reuse) => row(kind_word(Kind::End), bytes, u32::from(reuse), 0, 0),
     }
 }

@@ -2,43 +2,44 @@
 ghost use Rattle.std.specs.Prelude.{◌≡◌, List, ℕ, ◌≤◌};
 ghost use Rattle.connection.specs.Connection.{max_packet};
 ghost use Rattle.reader.specs.Meaning.{received_meaning};
-ghost use Rattle.words.specs.Status.{done};
 ghost use Rattle.words.specs.ConnectionWords.{connection_words};
+ghost use Rattle.words.specs.Failure.{told_number};
 ghost use Rattle.answers.specs.Answer.{part_words};
-ghost use Rattle.answers.specs.Effect.{leaves};
 ghost use Rattle.answers.specs.Told.{after_reading};
-ghost use Rattle.answers.specs.Private.{Takes, ReadWithin};
+ghost use Rattle.answers.specs.Effect.{leaves};
+ghost use Rattle.answers.specs.Private.{ReadWithin};
 
-use crate::answer::{bytes_word, needs_words, packet_words, part_words};
+use crate::answer::{ANSWER_SIZE, bytes_word, needs_words, packet_words, part_words};
 use connection::{Connection, Kind};
 use packet::Part;
 use reader::Received;
-use words::connection_words::put_connection;
-use words::number::fill;
+use wire::refusal::Refusal;
+use words::connection_words::{CONNECTION_SIZE, connection_words};
 use words::status;
+use words::status::Failure;
 
-// Tells what the reader answered: the status, the connection after it and the answer's words.
-pub fn tell_received(received: Received, connection: &mut [u32], answer: &mut [u32]) -> u32
-    requires takes { Takes connection.old answer.old }
-    requires read_within { ReadWithin (received_meaning received) }
-    ensures { (table : List ℕ) → leaves result connection.new table answer.new ≡ after_reading (received_meaning received) connection.old table answer.old }
+// Tells what the reader answered: done or "needs", the connection after it and the answer's words.
+pub fn tell_received(
+    received: Result<Received, Refusal>,
+    connection: &mut [u32; CONNECTION_SIZE],
+    answer: &mut [u32; ANSWER_SIZE],
+) -> Result<u32, Failure>
+    requires { ReadWithin (received_meaning received) }
+    ensures { (table : List ℕ) → leaves (told_number result) connection.new table answer.new ≡ after_reading (received_meaning received) connection.old table answer.old }
 {
-    match received {
+    match received? {
         Received::Needs(n) => {
-            let words = needs_words(bytes_word(n));
-            fill(answer, &words);
-            status::NEEDS
+            *answer = needs_words(bytes_word(n));
+            Ok(status::NEEDS)
         }
-        Received::Refused(n) => n as u32,
         Received::Accepted {
             packet,
             taken,
             connection: after,
         } => {
-            put_connection(connection, after);
-            let words = packet_words(packet, bytes_word(taken));
-            fill(answer, &words);
-            status::DONE
+            *connection = connection_words(after);
+            *answer = packet_words(packet, bytes_word(taken));
+            Ok(status::DONE)
         }
     }
 }
@@ -49,15 +50,13 @@ pub fn tell_part(
     part: Part,
     taken: usize,
     after: Connection,
-    connection: &mut [u32],
-    answer: &mut [u32],
-) -> u32
-    requires takes { Takes connection.old answer.old }
-    requires taken_le_max_packet { taken ≤ max_packet }
-    ensures { (table : List ℕ) → leaves result connection.new table answer.new ≡ leaves done (connection_words after) table (part_words kind part taken) }
+    connection: &mut [u32; CONNECTION_SIZE],
+    answer: &mut [u32; ANSWER_SIZE],
+)
+    requires { taken ≤ max_packet }
+    ensures connection_after { connection.new ≡ connection_words after }
+    ensures answer_after { answer.new ≡ part_words kind part taken }
 {
-    put_connection(connection, after);
-    let words = part_words(kind, part, bytes_word(taken));
-    fill(answer, &words);
-    status::DONE
+    *connection = connection_words(after);
+    *answer = part_words(kind, part, bytes_word(taken));
 }

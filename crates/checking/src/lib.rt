@@ -36,6 +36,7 @@ pub struct Checking {
 
 // The checker's answer: packets, requests and body bytes of accepted packets, the state after them, the refusal, 0 where the capture
 // passes, and the place where the refused packet starts, or the end.
+// It has the figures of a check one by one, since the definitions `finished` and `checked_by` name the fields of both.
 #[derive(Clone, Copy, Debug, PartialEq, Eq)]
 pub struct Checked {
     pub packets: u32,

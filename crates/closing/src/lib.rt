@@ -14,6 +14,7 @@ ghost use Rattle.closing.specs.Private.{last_with, Closable, put_back};
 
 use attributes::LAST_MARK;
 use building::fault;
+use building::sent::is_written;
 use building::size::BYTE;
 use building_record::{Building, BuildingKind};
 use connection::{Connection, Written};
@@ -135,7 +136,7 @@ pub fn close(
     let size = needs(building);
     let old = set(building, buffer);
     let sent = judge(connection, building, &buffer[..size]);
-    if sent.is_err() {
+    if !is_written(sent) {
         put_back(building, old, buffer);
     }
     sent

@@ -1,4 +1,4 @@
-// The fixed fields of a packet, one after the other: each is read where the one before it ends.
+// The fixed fields of a packet, one after the other: each is read where the one before it ends, and a refusal stays.
 ghost use Rattle.std.specs.Prelude.{◌≡◌, ◌≤◌};
 ghost use Rattle.wire.specs.Refusal.{number_of};
 ghost use Rattle.wire.specs.Read.{NumberRead};
@@ -42,10 +42,14 @@ pub fn after_code() -> Placed
 
 // The string behind a field.
 #[tactic(auto, unfolding(crate::specs::Sequence::string_after, crate::specs::Sequence::string_field_at))]
-pub fn string_after(packet: &[u8], field: StringField, before: Placed) -> Result<Placed, Refusal>
-    ensures { field_meaning result ≡ string_after packet.now field (placed before) }
+pub fn string_after(
+    packet: &[u8],
+    field: StringField,
+    before: Result<Placed, Refusal>,
+) -> Result<Placed, Refusal>
+    ensures { field_meaning result ≡ string_after packet.now field (field_meaning before) }
 {
-    let at = before.next;
+    let at = before?.next;
     let string = read::string(packet, at, field)?;
     Ok(Placed {
         at,
@@ -56,10 +60,10 @@ pub fn string_after(packet: &[u8], field: StringField, before: Placed) -> Result
 
 // The boolean behind a field; its number is 1 for true.
 #[tactic(auto, unfolding(crate::specs::Sequence::boolean_after, crate::specs::Sequence::boolean_field_at))]
-pub fn boolean_after(packet: &[u8], before: Placed) -> Result<Placed, Refusal>
-    ensures { field_meaning result ≡ boolean_after packet.now (placed before) }
+pub fn boolean_after(packet: &[u8], before: Result<Placed, Refusal>) -> Result<Placed, Refusal>
+    ensures { field_meaning result ≡ boolean_after packet.now (field_meaning before) }
 {
-    let at = before.next;
+    let at = before?.next;
     let Field { value, next } = read::boolean(packet, at)?;
     Ok(Placed {
         at,
@@ -76,20 +80,20 @@ pub fn byte_after(
     low: u16,
     high: u16,
     fault: Refusal,
-    before: Placed,
+    before: Result<Placed, Refusal>,
 ) -> Result<Placed, Refusal>
-    ensures { field_meaning result ≡ byte_after packet.now low high (number_of fault) (placed before) }
+    ensures { field_meaning result ≡ byte_after packet.now low high (number_of fault) (field_meaning before) }
 {
-    let at = before.next;
+    let at = before?.next;
     bounded(at, low, high, fault, read::byte(packet, at)?)
 }
 
 // The integer behind a field, which may be any: no bounds, and no fault of its own.
 #[tactic(auto, unfolding(crate::specs::Sequence::any_integer_after))]
-pub fn any_integer_after(packet: &[u8], before: Placed) -> Result<Placed, Refusal>
-    ensures { field_meaning result ≡ any_integer_after packet.now (placed before) }
+pub fn any_integer_after(packet: &[u8], before: Result<Placed, Refusal>) -> Result<Placed, Refusal>
+    ensures { field_meaning result ≡ any_integer_after packet.now (field_meaning before) }
 {
-    let at = before.next;
+    let at = before?.next;
     let Field { value, next } = read::integer(packet, at)?;
     Ok(Placed { at, value, next })
 }
@@ -101,11 +105,11 @@ pub fn integer_after(
     low: u16,
     high: u16,
     fault: Refusal,
-    before: Placed,
+    before: Result<Placed, Refusal>,
 ) -> Result<Placed, Refusal>
-    ensures { field_meaning result ≡ integer_after packet.now low high (number_of fault) (placed before) }
+    ensures { field_meaning result ≡ integer_after packet.now low high (number_of fault) (field_meaning before) }
 {
-    let at = before.next;
+    let at = before?.next;
     bounded(at, low, high, fault, read::integer(packet, at)?)
 }
 

@@ -27,16 +27,16 @@ pub fn read(packet: &[u8], table: &mut [u16]) -> Result<Packet, Refusal>
     ensures value { packet_meaning result ≡ (forward_at packet.now).end }
     ensures table_after { table.new ≡ over table.old 0 (forward_at packet.now).places }
 {
-    let code = after_code();
+    let code = Ok(after_code());
     let method = byte_after(packet, FIRST_METHOD, LAST_METHOD, Refusal::OutOfRange, code)?;
-    let protocol = string_after(packet, StringField::Protocol, method)?;
-    let uri = string_after(packet, StringField::ReqUri, protocol)?;
-    let addr = string_after(packet, StringField::RemoteAddr, uri)?;
-    let host = string_after(packet, StringField::RemoteHost, addr)?;
-    let name = string_after(packet, StringField::ServerName, host)?;
-    let port = any_integer_after(packet, name)?;
-    let ssl = boolean_after(packet, port)?;
-    let headers = integer_after(packet, 0, MAX_HEADERS, Refusal::TooMany, ssl)?;
+    let protocol = string_after(packet, StringField::Protocol, Ok(method))?;
+    let uri = string_after(packet, StringField::ReqUri, Ok(protocol))?;
+    let addr = string_after(packet, StringField::RemoteAddr, Ok(uri))?;
+    let host = string_after(packet, StringField::RemoteHost, Ok(addr))?;
+    let name = string_after(packet, StringField::ServerName, Ok(host))?;
+    let port = any_integer_after(packet, Ok(name))?;
+    let ssl = boolean_after(packet, Ok(port))?;
+    let headers = integer_after(packet, 0, MAX_HEADERS, Refusal::TooMany, Ok(ssl))?;
     let lists = lists(packet, headers, table)?;
     Ok(Packet::Forward(Forward {
         method: method.value,

@@ -60,7 +60,8 @@ fn attributes_behind(
     })
 }
 
-// The headers and attributes behind the count of headers.
+// The headers and attributes behind the count of headers. It is put into its one caller: as a call of its own it was tried and is slower.
+#[inline(always)]
 #[tactic(auto, unfolding(crate::specs::Lists::lists_at))]
 pub fn lists(packet: &[u8], count: Placed, table: &mut [u16]) -> Result<ReadLists, Refusal>
     requires { (length packet.now ≤ max_packet) × (Counts max_headers (placed count) × (max_places ≤ length table.old)) }

@@ -26,7 +26,7 @@ pub fn read(packet: &[u8], table: &mut [u16]) -> Result<Packet, Refusal>
     ensures value { packet_meaning result ≡ (send_headers_at packet.now).end }
     ensures table_after { table.new ≡ over table.old 0 (send_headers_at packet.now).places }
 {
-    let code = after_code();
+    let code = Ok(after_code());
     let status = integer_after(
         packet,
         LEAST_STATUS,
@@ -34,8 +34,8 @@ pub fn read(packet: &[u8], table: &mut [u16]) -> Result<Packet, Refusal>
         Refusal::OutOfRange,
         code,
     )?;
-    let message = string_after(packet, StringField::Message, status)?;
-    let headers = integer_after(packet, 0, MAX_HEADERS, Refusal::TooMany, message)?;
+    let message = string_after(packet, StringField::Message, Ok(status))?;
+    let headers = integer_after(packet, 0, MAX_HEADERS, Refusal::TooMany, Ok(message))?;
     let behind = headers_after(Direction::ToServer, packet, headers, table)?;
     finished(
         packet.len(),

@@ -9,16 +9,6 @@ pub const ROOM: usize = 262143;
 // A text that is written into such a room.
 pub type Written = ArrayVec<u8, ROOM>;
 
-// The place after a place. `conversation` and `conversation_text` call it.
-pub fn after(at: usize) -> usize {
-    at.saturating_add(1)
-}
-
-// The byte at a place, 0 past the end. `conversation` and `conversation_text` call it.
-pub fn byte_at(s: &[u8], at: usize) -> u8 {
-    s.get(at).copied().unwrap_or(0)
-}
-
 // The field at an index of a text whose fields a separator parts; nothing where there are not so many.
 pub fn field(s: &[u8], separator: u8, index: usize) -> &[u8] {
     s.split(|b| *b == separator).nth(index).unwrap_or(&[])

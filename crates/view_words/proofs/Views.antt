@@ -2,35 +2,31 @@
 -- Assumes nothing.
 use native.Mathlib.Omega.{arith}
 use native.Mathlib.Nat.{min-le_left}
-use borrow.Author.Tests.{leb-true, leb-false, eqb-true}
+use borrow.Author.Tests.{leb-true, leb-false}
 use mathlib.Core.Path.{◌≡◌, refl, sym, ◌∙◌}
 use mathlib.Core.Bool.{Bool, true, false}
 use mathlib.Core.List.{List, [], ◌∷◌}
-use Prim.Native.Nat.{ℕ, ◌+◌, ◌≤◌}
-use lib.Dec.{leb, eqb}
+use Prim.Native.Nat.{ℕ, min, ◌+◌, ◌≤◌}
+use lib.Dec.{leb}
 use lib.ListN.{length, take, drop, length-take}
 use lib.Seq.{take-take, take-length}
 use Rattle.wire.specs.Pick.{pick}
 use Rattle.wire.specs.Bytes.{part, integer_in}
 use Rattle.wire.proofs.Parts.{part_zero}
-use Rattle.building.specs.Fault.{unless}
-use Rattle.building.proofs.Sizes.{unless_none, or_first, or_second}
 use Rattle.views.specs.View.{integer_view, null_view, text_view}
-use Rattle.words.specs.Status as status
-use Rattle.words.specs.Number.{word, flag_in, last_number, number_fault}
-use Rattle.view_words.specs.View.{text_size, length_size, text_start_place, text_length_place, text_null_place, text_start, text_words, text_fault}
-use Rattle.words.proofs.Records.{number_within}
+use Rattle.words.specs.Number.{word, flag_in}
+use Rattle.view_words.specs.View.{length_size, text_start_place, text_length_place, text_null_place, text_start, text_words}
 use Rattle.wire.specs.Field.{boolean_number}
 
--- the bytes start inside the packet or at its end, at most two bytes behind the place
-pub start_within : (packet : List ℕ) (at : ℕ) → (text_start packet at ≤ length packet) × (text_start packet at ≤ at + length_size)
+-- the bytes start behind the length, or at the packet's end where that is nearer
+pub start_least : (packet : List ℕ) (at : ℕ) → min (at + length_size) (length packet) ≡ text_start packet at
 unfolding text_start
-start_within packet at = go (leb (at + length_size) (length packet)) refl
+start_least packet at = go (leb (at + length_size) (length packet)) refl
   where
     go : (t : Bool) → leb (at + length_size) (length packet) ≡ t
-        → (pick t (at + length_size) (length packet) ≤ length packet) × (pick t (at + length_size) (length packet) ≤ at + length_size)
-    go true e = (leb-true (at + length_size) (length packet) e, omega arith)
-    go false e = (omega arith, omega (arith, leb-false (at + length_size) (length packet) e))
+        → min (at + length_size) (length packet) ≡ pick t (at + length_size) (length packet)
+    go true e = omega (arith, leb-true (at + length_size) (length packet) e)
+    go false e = omega (arith, leb-false (at + length_size) (length packet) e)
 
 -- a part has no more bytes than were asked for
 part_most : (s : List ℕ) (start len : ℕ) → length (part s start len) ≤ len
@@ -63,14 +59,6 @@ words_show packet at = go (leb (at + length_size) (length packet)) (null_view pa
     go there true = part_zero packet (pick there (at + length_size) (length packet))
     go true false = part_shown packet (at + length_size) (integer_in packet at)
     go false false = rw part_zero (part_zero packet (length packet))
-
--- without a fault three words are lent, and the place is a 16-bit number
-pub text_fine : (text : List ℕ) (place : ℕ) {found : ℕ} → found ≡ text_fault place text → found ≡ 0 → (length text ≡ text_size) × (place ≤ last_number)
-unfolding text_fault
-text_fine text place p h = (
-  eqb-true (length text) text_size (unless_none (eqb (length text) text_size) status.answer_length (omega arith) (or_first (unless (eqb (length text) text_size) status.answer_length) (number_fault place) (sym p ∙ h))),
-  number_within place (or_second (unless (eqb (length text) text_size) status.answer_length) (number_fault place) (sym p ∙ h)),
-)
 
 -- the words, one by one
 pub words_are : (packet : List ℕ) (at : ℕ) {start len null : ℕ} → start ≡ text_start packet at → len ≡ length (text_view packet at)

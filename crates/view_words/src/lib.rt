@@ -3,17 +3,16 @@
 #![tactic(auto)]
 
 ghost use Rattle.std.specs.Prelude.{◌≡◌, ◌+◌, ◌≤◌};
+ghost use Rattle.building.specs.Call.{outcome_by};
 ghost use Rattle.views.specs.View.{integer_view, text_view};
-ghost use Rattle.words.specs.Number.{last_number};
-ghost use Rattle.view_words.specs.View.{text_start, text_words, text_fault, kind_number};
+ghost use Rattle.words.specs.Number.{last_number, number_fault};
+ghost use Rattle.words.specs.Failure.{outcome_of};
+ghost use Rattle.view_words.specs.View.{text_words, kind_number};
 
 use building::size::INTEGER;
 use packet::{AttributeKind, Place};
-use wire::read::NumberRead;
-use wire::{NULL_LENGTH, has_room, read};
-use words::number::{flag_word, number_fault};
-use words::status;
-use words::status::{or_else, unless};
+use wire::{NULL_LENGTH, read};
+use words::status::Failure;
 
 pub mod name;
 
@@ -30,11 +29,14 @@ const INTEGER_KIND: u32 = 2;
 const PAIR_KIND: u32 = 3;
 
 // The place that a number says.
-pub fn place_in(word: u32) -> Place
-    requires { word ≤ last_number }
-    ensures { result.0 ≡ word }
+#[tactic(auto, unfolding(words::specs::Number::number_fault))]
+pub fn place_in(word: u32) -> Result<Place, Failure>
+    ensures { outcome_of result ≡ outcome_by (number_fault word) (record { 0 = word }) }
 {
-    Place(word as u16)
+    match u16::try_from(word) {
+        Ok(place) => Ok(Place(place)),
+        Err(_) => Err(Failure::Argument),
+    }
 }
 
 // The length of the string at an index as it stands there, 0 where it is not there.
@@ -42,40 +44,20 @@ fn length_at(packet: &[u8], at: usize) -> u16
     ensures { result ≡ integer_view packet.now at }
 {
     match read::integer(packet, at) {
-        NumberRead::Refused(_) => 0,
-        NumberRead::Number { value, next } => value,
+        Ok(length) => length.value,
+        Err(_) => 0,
     }
 }
 
-// Where the bytes of the string at an index start: behind its length, or at the packet's end where that is nearer.
-fn start_at(packet: &[u8], at: usize) -> usize
-    ensures { result ≡ text_start packet.now at }
-{
-    if has_room(packet.len(), at, INTEGER) {
-        return at + INTEGER;
-    }
-    packet.len()
-}
-
-// The words of the string at an index, whose bytes are shown.
+// The words of the string at an index, whose bytes are shown. They start behind its length, or at the packet's end where that is nearer.
 pub fn text_words(packet: &[u8], at: usize, shown: &[u8]) -> [u32; TEXT_SIZE]
     requires { (at ≤ last_number + 1) × (shown.now ≡ text_view packet.now at) }
     ensures { result ≡ text_words packet.now at }
 {
     let null = length_at(packet, at) == NULL_LENGTH;
-    let start = start_at(packet, at) as u32;
+    let start = (at + INTEGER).min(packet.len()) as u32;
     let size = shown.len() as u32;
-    [start, size, flag_word(null)]
-}
-
-// The fault of a call that tells a string.
-pub fn text_fault(place: u32, text: &[u32]) -> u32
-    ensures { result ≡ text_fault place text.now }
-{
-    or_else(
-        unless(text.len() == TEXT_SIZE, status::ANSWER_LENGTH),
-        number_fault(place),
-    )
+    [start, size, u32::from(null)]
 }
 
 // The number of a kind of value.

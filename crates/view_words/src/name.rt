@@ -1,70 +1,42 @@
 // Listed names as bytes and their lists as numbers.
 ghost use Rattle.std.specs.Prelude.{◌≡◌, length};
 ghost use Rattle.wire.specs.Pick.{pick};
-ghost use Rattle.wire.specs.Bytes.{over};
 ghost use Rattle.names.specs.Names.{is_listed, name_for};
-ghost use Rattle.names.specs.Row.{name_room, row_of};
-ghost use Rattle.view_words.specs.Name.{list_in, list_fault, name_fault};
+ghost use Rattle.names.specs.Row.{row_of};
+ghost use Rattle.building.specs.Call.{outcome_by};
+ghost use Rattle.words.specs.Failure.{outcome_of};
+ghost use Rattle.view_words.specs.Name.{list_in, list_fault};
 
 use names::{NameList, table};
 use packet::NAME_ROOM;
-use wire::write;
-use words::status;
-use words::status::{or_else, unless};
-
-// The lists of names, each by its number.
-const METHODS: u32 = 0;
-
-const REQUEST_HEADERS: u32 = 1;
-
-const RESPONSE_HEADERS: u32 = 2;
-
-const ATTRIBUTES: u32 = 3;
+use words::status::Failure;
 
 // What is told in place of a code where there is none.
 pub const NO_CODE: u32 = 0;
 
 // The list that a number says.
-pub fn list_in(word: u32) -> NameList
-    ensures { result ≡ list_in word }
+#[tactic(auto, unfolding(crate::specs::Name::list_in))]
+pub fn list_in(word: u32) -> Result<NameList, Failure>
+    ensures { outcome_of result ≡ outcome_by (list_fault word) (list_in word) }
 {
     match word {
-        METHODS => NameList::Methods,
-        REQUEST_HEADERS => NameList::RequestHeaders,
-        RESPONSE_HEADERS => NameList::ResponseHeaders,
-        _ => NameList::Attributes,
+        0 => Ok(NameList::Methods),
+        1 => Ok(NameList::RequestHeaders),
+        2 => Ok(NameList::ResponseHeaders),
+        3 => Ok(NameList::Attributes),
+        _ => Err(Failure::Argument),
     }
-}
-
-// The fault of a list's number.
-pub fn list_fault(list: u32) -> u32
-    ensures { result ≡ list_fault list }
-{
-    unless(list <= ATTRIBUTES, status::ARGUMENT)
-}
-
-// The fault of a call that tells a name.
-pub fn name_fault(list: u32, name: &[u8]) -> u32
-    ensures { result ≡ name_fault list name.now }
-{
-    or_else(
-        unless(name.len() == NAME_ROOM, status::ANSWER_LENGTH),
-        list_fault(list),
-    )
 }
 
 // Writes the name for a code, zeros behind it, and tells how long it is; where no such code is listed it writes nothing and tells 0.
-pub fn put_name(name: &mut [u8], list: NameList, code: u16) -> u32
-    requires { length name.old ≡ name_room }
+pub fn put_name(name: &mut [u8; NAME_ROOM], list: NameList, code: u16) -> u32
     ensures value { result ≡ length (name_for list code) }
-    ensures name_after { name.new ≡ pick (is_listed list code) (over name.old 0 (row_of (name_for list code))) name.old }
+    ensures name_after { name.new ≡ pick (is_listed list code) (row_of (name_for list code)) name.old }
 {
     let told = table::name_of(list, code);
     let bytes = told.bytes;
-    let size = told.len as u32;
     if table::is_listed(list, code) {
-        write::bytes(name, 0, &bytes);
-        return size;
+        *name = bytes;
     }
-    size
+    told.len as u32
 }

@@ -1,16 +1,19 @@
 // A Forward's fixed numbers and flags as words.
-ghost use Rattle.std.specs.Prelude.{◌≡◌, length};
-ghost use Rattle.words.specs.FixedWords.{fixed_size, fixed_fault, ssl_fault, numbers_in, nulls_in};
+ghost use Rattle.std.specs.Prelude.{◌≡◌};
+ghost use Rattle.wire.specs.Read.{fault_number};
+ghost use Rattle.words.specs.Text.{strings_given};
+ghost use Rattle.words.specs.FixedWords.{fixed_fault, ssl_fault, numbers_in, nulls_in};
+ghost use Rattle.words.specs.Failure.{status_number};
 
 use crate::number::{LAST_NUMBER, SET, flag_in, number_in};
-use crate::status;
-use crate::status::unless;
+use crate::status::Failure;
+use crate::text::text_in;
 use building::fault;
-use pieces::forward::{Nulls, Numbers};
-use wire::refusal;
+use pieces::forward::{Numbers, Strings};
+use wire::refusal::Refusal;
 
 // How many words, and where each stands.
-const FIXED_SIZE: usize = 8;
+pub const FIXED_SIZE: usize = 8;
 
 const METHOD: usize = 0;
 
@@ -29,32 +32,33 @@ const NO_REMOTE_HOST: usize = 6;
 const NO_SERVER_NAME: usize = 7;
 
 // The fault of the words.
-pub fn fixed_fault(words: &[u32]) -> u32
-    ensures { result ≡ fixed_fault words.now }
+#[tactic(auto, unfolding(crate::specs::FixedWords::fixed_fault))]
+pub fn fixed_fault(words: &[u32; FIXED_SIZE]) -> Result<(), Failure>
+    ensures { status_number result ≡ fixed_fault words.now }
 {
-    if words.len() != FIXED_SIZE {
-        return status::FIXED_LENGTH;
-    }
     let fine = (words[PORT] <= LAST_NUMBER)
         & (words[NO_PROTOCOL] <= SET)
         & (words[NO_REQ_URI] <= SET)
         & (words[NO_REMOTE_ADDR] <= SET)
         & (words[NO_REMOTE_HOST] <= SET)
         & (words[NO_SERVER_NAME] <= SET);
-    unless(fine, status::FIXED_WORD)
+    if fine {
+        Ok(())
+    } else {
+        Err(Failure::FixedWord)
+    }
 }
 
 // The fault of is_ssl: 7 where it is no flag.
-pub fn ssl_fault(words: &[u32]) -> u8
-    requires { length words.now ≡ fixed_size }
-    ensures { result ≡ ssl_fault words.now }
+pub fn ssl_fault(words: &[u32; FIXED_SIZE]) -> Result<(), Refusal>
+    ensures { fault_number result ≡ ssl_fault words.now }
 {
-    fault::unless(words[IS_SSL] <= SET, refusal::OUT_OF_RANGE)
+    fault::unless(words[IS_SSL] <= SET, Refusal::OutOfRange)
 }
 
 // The numbers that they are.
-pub fn numbers_in(words: &[u32]) -> Numbers
-    requires { length words.now ≡ fixed_size }
+#[tactic(auto, unfolding(crate::specs::FixedWords::numbers_in))]
+pub fn numbers_in(words: &[u32; FIXED_SIZE]) -> Numbers
     ensures { result ≡ numbers_in words.now }
 {
     Numbers {
@@ -64,16 +68,23 @@ pub fn numbers_in(words: &[u32]) -> Numbers
     }
 }
 
-// Which strings they say to be null.
-pub fn nulls_in(words: &[u32]) -> Nulls
-    requires { length words.now ≡ fixed_size }
-    ensures { result ≡ nulls_in words.now }
+// The strings that they say, of these texts.
+#[tactic(auto, unfolding(crate::specs::FixedWords::nulls_in))]
+pub fn strings_in<'a>(
+    words: &[u32; FIXED_SIZE],
+    protocol: &'a [u8],
+    uri: &'a [u8],
+    addr: &'a [u8],
+    host: &'a [u8],
+    name: &'a [u8],
+) -> Strings<'a>
+    ensures { result ≡ strings_given (nulls_in words.now) protocol.entry uri.entry addr.entry host.entry name.entry }
 {
-    Nulls {
-        protocol: flag_in(words[NO_PROTOCOL]),
-        req_uri: flag_in(words[NO_REQ_URI]),
-        remote_addr: flag_in(words[NO_REMOTE_ADDR]),
-        remote_host: flag_in(words[NO_REMOTE_HOST]),
-        server_name: flag_in(words[NO_SERVER_NAME]),
+    Strings {
+        protocol: text_in(words[NO_PROTOCOL], protocol),
+        req_uri: text_in(words[NO_REQ_URI], uri),
+        remote_addr: text_in(words[NO_REMOTE_ADDR], addr),
+        remote_host: text_in(words[NO_REMOTE_HOST], host),
+        server_name: text_in(words[NO_SERVER_NAME], name),
     }
 }

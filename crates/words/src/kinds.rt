@@ -4,33 +4,23 @@ ghost use Rattle.words.specs.Kinds.{kind_word};
 
 use connection::Kind;
 
-pub const CPING: u32 = 1;
-
-pub const CPONG: u32 = 2;
-
+// The words of the kinds that are built in pieces.
 pub const FORWARD: u32 = 3;
-
-pub const BODY: u32 = 4;
-
-pub const GET_BODY: u32 = 5;
 
 pub const SEND_HEADERS: u32 = 6;
 
-pub const BODY_CHUNK: u32 = 7;
-
-pub const END: u32 = 8;
-
+// The word of a kind.
 pub fn kind_word(kind: Kind) -> u32
     ensures { result ≡ kind_word kind }
 {
     match kind {
-        Kind::CPing => CPING,
-        Kind::CPong => CPONG,
+        Kind::CPing => 1,
+        Kind::CPong => 2,
         Kind::Forward => FORWARD,
-        Kind::Body => BODY,
-        Kind::GetBody => GET_BODY,
+        Kind::Body => 4,
+        Kind::GetBody => 5,
         Kind::SendHeaders => SEND_HEADERS,
-        Kind::BodyChunk => BODY_CHUNK,
-        Kind::End => END,
+        Kind::BodyChunk => 7,
+        Kind::End => 8,
     }
 }

@@ -9,3 +9,4 @@ pub mod fixed_words;
 pub mod kinds;
 pub mod number;
 pub mod status;
+pub mod text;

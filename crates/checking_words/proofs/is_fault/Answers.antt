@@ -1,26 +1,13 @@
--- `checking_words::is_fault` meets its contract: the loop has looked at the first numbers of the table.
+-- `is_fault` meets its contract: the numbers of all refusals are those of the table.
 -- Assumes nothing.
 use mathlib.Core.Path.{ap, ◌∙◌}
-use mathlib.Core.Bool.{Bool}
 use mathlib.Core.List.{List}
 use Prim.Native.Nat.{ℕ}
-use lib.Dec.{eqb}
-use lib.ListN.{get_or, take}
-use Rattle.wire.specs.Pick.{one_of, either}
-use Rattle.wire.specs.Refusal.{faults}
-use Rattle.checking_words.proofs.Laws.{one_more, all_faults}
-use borrow.Author.Rules.{rules}
+use Rattle.wire.specs.Pick.{one_of}
+use Rattle.checking_words.proofs.Laws.{listed_any, fault_some}
 use Rattle.checking_words.proofs.is_fault.Goals as goal
 
-pub loop-i-preserved : goal.loop-i-preserved
-loop-i-preserved c =
-    let here = c.loop-i in
-    let all = c.all-all.ensures in (
-      search rules,
-      ap (λ (t : Bool). either t (eqb (get_or c.all-all.result here.i 0) c.args.word)) here.invariant.1
-          ∙ ap (λ (l : List ℕ). either (one_of (take here.i faults) c.args.word) (eqb (get_or l here.i 0) c.args.word)) all
-          ∙ one_more faults c.args.word here.i (search rules),
-    )
-
-pub returns : goal.returns
-returns c = c.loop-i.invariant.1 ∙ all_faults _ _ c.loop-i.invariant.0 (search rules)
+pub returns-else-word-eq0 : goal.returns-else-word-eq0
+returns-else-word-eq0 c =
+    let n = c.args.word in
+    c.is_one_of.ensures ∙ listed_any c.all.result n ∙ ap (λ (l : List ℕ). one_of l n) c.all.ensures ∙ fault_some n c.if-word-eq0.false

@@ -1,6 +1,11 @@
 -- `closing::close` meets its contract: what is found is told before anything is set, and what is set stays only where the judge accepts.
 -- Assumes nothing.
-use mathlib.Core.Path.{sym, ◌∙◌}
+use mathlib.Core.Path.{◌≡◌, sym, ap, ◌∙◌}
+use mathlib.Core.Bool.{Bool, true, false, not}
+use Rattle.std.specs.Prelude.{Result, Ok, Err}
+use Rattle.std.specs.Result.{is_err}
+use Rattle.wire.specs.declared.refusal.Refusal.{Refusal}
+use Rattle.building.specs.Sent.{Written, is_written}
 use lib.Seq.{length-take-le}
 use Rattle.closing.proofs.Setting.{set_closable, set_inside}
 use Rattle.closing.proofs.Laws.{found_closable, found_answer, close_kept, close_set}
@@ -23,18 +28,23 @@ pub put_back-requires : goal.put_back-requires
 put_back-requires c =
     set_closable _ _ (found_closable _ _ _ c.in_ok-closing_fault.ensures) c.set-old.ensures.buffer_after
 
-pub returns-then-is_err : goal.returns-then-is_err
-returns-then-is_err c =
+-- an answer is written where it is no error
+unwritten : (sent : Result Written Refusal) (t : Bool) → is_written sent ≡ t → is_err sent ≡ not t
+unwritten (Ok written) t e = ap not e
+unwritten (Err refusal) t e = ap not e
+
+pub returns-then-not-is_written : goal.returns-then-not-is_written
+returns-then-not-is_written c =
     let a = c.args in
     let set = c.set-old.ensures in
     let answer = found_answer a.connection a.building a.buffer.now c.in_ok-closing_fault.ensures c.needs-size.ensures set.buffer_after c.judge-sent.ensures in
-    let kept = close_kept a.connection a.building a.buffer.now c.judge-sent.result answer (sym c.is_err.ensures.value ∙ c.if-is_err.true) in
+    let kept = close_kept a.connection a.building a.buffer.now c.judge-sent.result answer (unwritten _ false (sym c.is_written.ensures ∙ c.if-not-is_written.true)) in
     record { result_value = answer; buffer_after = cc }
 
-pub returns-else-is_err : goal.returns-else-is_err
-returns-else-is_err c =
+pub returns-else-not-is_written : goal.returns-else-not-is_written
+returns-else-not-is_written c =
     let a = c.args in
     let set = c.set-old.ensures in
     let answer = found_answer a.connection a.building a.buffer.now c.in_ok-closing_fault.ensures c.needs-size.ensures set.buffer_after c.judge-sent.ensures in
-    let stands = close_set a.connection a.building a.buffer.now c.judge-sent.result answer (sym c.is_err.ensures.value ∙ c.if-is_err.false) in
+    let stands = close_set a.connection a.building a.buffer.now c.judge-sent.result answer (unwritten _ true (sym c.is_written.ensures ∙ c.if-not-is_written.false)) in
     record { result_value = answer; buffer_after = cc }

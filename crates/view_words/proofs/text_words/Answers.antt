@@ -4,14 +4,10 @@ use mathlib.Core.Path.{ap, ◌∙◌}
 use native.Mathlib.Omega.{arith}
 use lib.ListN.{length}
 use Rattle.views.proofs.Laws.{null_is}
-use Rattle.view_words.proofs.Views.{start_within, text_most, words_are}
+use Rattle.words.proofs.Flags.{flag_word}
+use Rattle.view_words.proofs.Views.{start_least, text_most, words_are}
 use Rattle.wire.specs.Field.{boolean_number}
 use Rattle.view_words.proofs.text_words.Goals as goal
-
-pub overflow_cast-start : goal.overflow_cast-start
-overflow_cast-start c =
-    let a = c.args in
-    omega (arith, c.start_at-start.ensures, (start_within a.packet.now a.at).1)
 
 pub overflow_cast-size : goal.overflow_cast-size
 overflow_cast-size c = omega (arith, ap length c.requires.1, text_most c.args.packet.now c.args.at, c.length_at-null.ensures)
@@ -19,5 +15,5 @@ overflow_cast-size c = omega (arith, ap length c.requires.1, text_most c.args.pa
 pub returns : goal.returns
 returns c =
     let l = c.length_at-null in
-    words_are _ _ c.start_at-start.ensures (ap length c.requires.1)
-    (c.flag_word.ensures ∙ ap boolean_number (null_is _ _ _ l.ensures))
+    words_are _ _ (c.min-start.ensures ∙ start_least _ _) (ap length c.requires.1)
+    (c.from.ensures ∙ flag_word _ ∙ ap boolean_number (null_is _ _ _ l.ensures))

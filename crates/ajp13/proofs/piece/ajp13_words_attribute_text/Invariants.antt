@@ -1,0 +1,8 @@
+-- The call that `add` makes for `piece::ajp13_words_attribute_text`.
+-- Assumes nothing.
+use Rattle.pieces.specs.Attribute.{text_call}
+use Rattle.words.specs.Number.{flag_in, capped}
+use Rattle.ajp13.proofs.piece.ajp13_words_attribute_text.Given as goal
+
+abbrev pub ghost-add : goal.ghost-add
+ghost-add a = λ r buffer. text_call r buffer (capped a.adds.0.now) (flag_in a.adds.1.now) a.adds.2.now
