@@ -20,10 +20,10 @@ use Rattle.short_ways.proofs.ShortWays.{short_reads, short_keeps}
 use Rattle.words.specs.ConnectionWords.{connection_in, connection_words}
 use Rattle.words.specs.Status.{done}
 use Rattle.answers.specs.Answer.{packet_words}
-use Rattle.answers.specs.Effect.{leaves}
+use Rattle.answers.specs.Effect.{Effect, leaves, call_fault}
 use Rattle.answers.specs.Told.{after_reading}
 use Rattle.answers.specs.Private.{ReadWithin}
-use Rattle.ajp13.specs.Reading.{sound_reading}
+use Rattle.ajp13.specs.Reading.{sound_reading, read_effect}
 use Rattle.ajp13.proofs.Within.{read_within}
 
 -- the packet goes one, at the end to which packets of this direction go: what its answer tells fits a word, and the table is as it was
@@ -38,6 +38,15 @@ module _ (direction : Direction) (c : Connection) (bytes table : List ℕ) (m : 
       ap (λ (x : Meaning). after_reading x connection table answer) (short_reads direction c bytes m short table)
       ∙ ap (λ (l : List ℕ). after_reading (reading direction c bytes (length table)) connection l answer) (short_keeps direction c bytes m short table)
       ∙ ap (λ (x : Connection). after_reading (reading direction x bytes (length table)) connection (table_after direction x bytes table) answer) from
+
+-- and so it is what the call leaves, where it has no fault
+module _ (direction : Direction) (connection bytes table answer : List ℕ) (c : Connection) (m : Meaning)
+    (short : answered m ≡ short_reading direction c bytes) where
+  pub short_leaves : (found : ℕ) (e : Effect) → found ≡ call_fault connection answer → found ≡ 0 → c ≡ connection_in connection
+      → e ≡ after_reading m connection table answer → e ≡ read_effect direction connection bytes table answer
+  unfolding read_effect
+  short_leaves found e is none from tells =
+      rw (sym is ∙ none) (tells ∙ short_sound direction c bytes table m short connection answer from)
 
 -- by what the short way answered, where that was refused, and where a part was read
 module _ (direction : Direction) (of : Part → Packet) {r : Result (Option ReadPart) Refusal} {c : Connection} (connection bytes table answer : List ℕ)

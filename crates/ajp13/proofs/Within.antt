@@ -1,5 +1,20 @@
 -- The bytes that are told of are no more than a packet may have, so that they fit a word.
 -- Assumes nothing.
+use borrow.Author.Tests.{eqb-true}
+use mathlib.Core.Bool.{Bool}
+use mathlib.Core.Bool.{true}
+use mathlib.Core.Bool.{false}
+use lib.Dec.{eqb}
+use lib.ListN.{length}
+use Rattle.wire.specs.Pick.{pick}
+use Rattle.wire.specs.Packet.{Fits}
+use Rattle.connection.specs.declared.Move.{Move}
+use Rattle.building.specs.Call.{Call}
+use Rattle.building.specs.Call.{refusal_of}
+use Rattle.building.specs.Call.{outcome}
+use Rattle.building.proofs.Calls.{done_fits}
+use Rattle.writer.specs.Sending.{packet_of}
+use Rattle.writer.specs.Sending.{sending}
 use native.Mathlib.Omega.{arith}
 use mathlib.Core.Path.{◌≡◌, refl}
 use mathlib.Core.List.{List}
@@ -28,6 +43,21 @@ read_within direction c s room = go (reading direction c s room) refl
     go (read.refused n) e = tt
     go (read.accepted packet taken after) e =
         (frame_inside direction s (FrameRead.Whole taken) (accepted_is direction c s room packet taken after e).whole_is).1.0
+
+-- what sending a packet tells: its length
+pub sent_within : (c : Connection) (m : Move) (payload buffer : List ℕ) → SentWithin (outcome (sending c m payload) (length buffer))
+unfolding outcome
+sent_within c m payload buffer = go (eqb (refusal_of call (length buffer)) 0) refl
+  where
+    call : Call Written
+    call = sending c m payload
+
+    go : (t : Bool) → eqb (refusal_of call (length buffer)) 0 ≡ t
+        → SentWithin (pick t (done call.answer) (refused (refusal_of call (length buffer))))
+    go true e =
+        let fits : Fits 0 (packet_of m payload) buffer = done_fits call buffer (refusal_of call (length buffer)) refl (eqb-true _ 0 e) in
+        omega arith
+    go false e = tt
 
 -- what closing one tells
 pub close_within : (c : Connection) (r : Building) (buffer : List ℕ) → SentWithin (close_outcome c r buffer)

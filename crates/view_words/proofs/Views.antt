@@ -39,6 +39,16 @@ unfolding part
 part_shown s start len =
     sym (take-take (length (take len (drop start s))) len (drop start s) (part_most s start len)) ∙ take-length (take len (drop start s))
 
+-- the bytes start inside the packet or at its end, at most two bytes behind the place
+pub start_within : (packet : List ℕ) (at : ℕ) → (text_start packet at ≤ length packet) × (text_start packet at ≤ at + length_size)
+unfolding text_start
+start_within packet at = go (leb (at + length_size) (length packet)) refl
+  where
+    go : (t : Bool) → leb (at + length_size) (length packet) ≡ t
+        → (pick t (at + length_size) (length packet) ≤ length packet) × (pick t (at + length_size) (length packet) ≤ at + length_size)
+    go true e = (leb-true (at + length_size) (length packet) e, omega arith)
+    go false e = (omega arith, omega (arith, leb-false (at + length_size) (length packet) e))
+
 -- a string shows no more bytes than its length says
 pub text_most : (packet : List ℕ) (at : ℕ) → length (text_view packet at) ≤ integer_view packet at
 unfolding text_view
