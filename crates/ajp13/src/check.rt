@@ -4,7 +4,7 @@ ghost use Rattle.words.specs.Failure.{status_number};
 ghost use Rattle.checking_words.specs.CheckingWords.{checking_room, checking_fault, checked_fault, finish_fault, check_after, begun_after, gone_on_after, finished_after};
 
 use checking::Checking;
-use checking_words::{checked_words, checking_in, checking_words};
+use checking_words::{checking_fault, checking_in, put_checked, put_checking};
 use words::status::{Failure, status_of};
 
 #[tactic(auto, unfolding(checking_words::specs::CheckingWords::checked_fault, checking_words::specs::CheckingWords::check_after))]
@@ -13,7 +13,7 @@ fn check(capture: &[u8], checked: &mut [u32]) -> Result<(), Failure>
     ensures checked_after { checked.new ≡ check_after capture.now checked.old }
 {
     let checked = checked.as_mut_array().ok_or(Failure::AnswerLength)?;
-    *checked = checked_words(checking::check(capture));
+    put_checked(checked, checking::check(capture));
     Ok(())
 }
 
@@ -32,7 +32,7 @@ fn begin(checking: &mut [u32]) -> Result<(), Failure>
     ensures checking_after { checking.new ≡ begun_after checking.old }
 {
     let words = checking.as_mut_array().ok_or(Failure::CheckingLength)?;
-    *words = checking_words(Checking::begin());
+    put_checking(words, Checking::begin());
     Ok(())
 }
 
@@ -50,9 +50,9 @@ fn go_on(checking: &mut [u32], bytes: &[u8]) -> Result<(), Failure>
     ensures value { status_number result ≡ checking_fault checking.old }
     ensures checking_after { checking.new ≡ gone_on_after checking.old bytes.now }
 {
+    checking_fault(checking)?;
     let words = checking.as_mut_array().ok_or(Failure::CheckingLength)?;
-    let given = checking_in(words)?;
-    *words = checking_words(given.go_on(bytes));
+    put_checking(words, checking_in(words).go_on(bytes));
     Ok(())
 }
 
@@ -71,9 +71,9 @@ fn finish(checking: &[u32], size: u64, checked: &mut [u32]) -> Result<(), Failur
     ensures checked_after { checked.new ≡ finished_after checking.now size checked.old }
 {
     let checked = checked.as_mut_array().ok_or(Failure::AnswerLength)?;
+    checking_fault(checking)?;
     let words = checking.as_array().ok_or(Failure::CheckingLength)?;
-    let given = checking_in(words)?;
-    *checked = checked_words(given.finish(size));
+    put_checked(checked, checking_in(words).finish(size));
     Ok(())
 }
 

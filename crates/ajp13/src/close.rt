@@ -5,8 +5,8 @@ ghost use Rattle.answers.specs.Effect.{leaves};
 ghost use Rattle.ajp13.specs.Sending.{close_effect};
 
 use answers::sent::tell_sent;
-use words::building_words::building_in;
-use words::connection_words::connection_in;
+use words::building_words::{building_fault, building_in};
+use words::connection_words::{connection_fault, connection_in};
 use words::status::{Failure, status_of};
 
 // Closes the packet that a building record says.
@@ -20,10 +20,12 @@ fn close(
     ensures { leaves (status_number result) connection.new buffer.new answer.new ≡ close_effect connection.old building.now buffer.old answer.old }
 {
     let words = connection.as_mut_array().ok_or(Failure::ConnectionLength)?;
-    let held = connection_in(words)?;
-    let record = building_in(building.as_array().ok_or(Failure::BuildingLength)?)?;
+    connection_fault(words)?;
+    let building = building.as_array().ok_or(Failure::BuildingLength)?;
+    building_fault(building)?;
     let answer = answer.as_mut_array().ok_or(Failure::AnswerLength)?;
-    let sent = closing::close(held, record, buffer);
+    let record = building_in(building);
+    let sent = closing::close(connection_in(words), record, buffer);
     tell_sent(record.kind.kind(), sent, words, answer)
 }
 

@@ -6,7 +6,7 @@ ghost use Rattle.words.specs.ConnectionWords.{connection_room, connection_fault,
 ghost use Rattle.words.specs.Failure.{status_number, told_number};
 
 use connection::Connection;
-use words::connection_words::{connection_in, connection_words};
+use words::connection_words::{connection_fault, connection_in, connection_words};
 use words::status::{Failure, status_of, told};
 
 #[tactic(auto, unfolding(words::specs::ConnectionWords::connection_room, words::specs::ConnectionWords::fresh_after))]
@@ -33,8 +33,8 @@ fn largest_body(connection: &[u32]) -> Result<u32, Failure>
     ensures { told_number result ≡ or_else (connection_fault connection.now) (largest_body (connection_in connection.now)) }
 {
     let words = connection.as_array().ok_or(Failure::ConnectionLength)?;
-    let held = connection_in(words)?;
-    Ok(u32::from(held.largest_body()))
+    connection_fault(words)?;
+    Ok(u32::from(connection_in(words).largest_body()))
 }
 
 // The most bytes that the next body packet may hold, 0 where none is due.

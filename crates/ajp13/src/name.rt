@@ -7,7 +7,7 @@ ghost use Rattle.words.specs.Failure.{told_number};
 ghost use Rattle.view_words.specs.Name.{list_in, list_fault, name_fault, name_after, code_number};
 
 use names::table;
-use view_words::name::{NO_CODE, list_in, put_name};
+use view_words::name::{NO_CODE, list_fault, list_in, put_name};
 use words::number::number_in;
 use words::status::{Failure, told};
 
@@ -17,8 +17,8 @@ fn name_of(list: u32, code: u32, name: &mut [u8]) -> Result<u32, Failure>
     ensures name_after { name.new ≡ name_after list code name.old }
 {
     let bytes = name.as_mut_array().ok_or(Failure::AnswerLength)?;
-    let list = list_in(list)?;
-    Ok(put_name(bytes, list, number_in(code)))
+    list_fault(list)?;
+    Ok(put_name(bytes, list_in(list), number_in(code)))
 }
 
 // The name for a code, and how long it is; 0 where no such code is listed, and nothing is written then.
@@ -33,8 +33,8 @@ pub extern "C" fn ajp13_name(list: u32, code: u32, name: &mut [u8]) -> u32
 fn code_of(list: u32, text: &[u8]) -> Result<u32, Failure>
     ensures { told_number result ≡ or_else (list_fault list) (code_number (code_in (list_in list) text.now)) }
 {
-    let list = list_in(list)?;
-    Ok(table::code_of(list, text).map_or(NO_CODE, u32::from))
+    list_fault(list)?;
+    Ok(table::code_of(list_in(list), text).map_or(NO_CODE, u32::from))
 }
 
 // The code of a name, 0 where it is not listed.

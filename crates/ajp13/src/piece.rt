@@ -13,7 +13,7 @@ use answers::added::put_added;
 use building_record::Building;
 use pieces::{attribute, forward, header, send_headers};
 use wire::refusal::Refusal;
-use words::building_words::building_in;
+use words::building_words::{building_fault, building_in};
 use words::fixed_words::{fixed_fault, numbers_in, ssl_fault, strings_in};
 use words::number::{flag_fault, number_fault, number_in};
 use words::status::{Failure, status_of};
@@ -34,10 +34,10 @@ fn begin_forward(
     ensures { piece_leaves (status_number result) building.new buffer.new ≡ piece_effect (forward_piece building.old fixed.now protocol.now uri.now addr.now host.now name.now) building.old buffer.old }
 {
     let words = building.as_mut_array().ok_or(Failure::BuildingLength)?;
-    let fixed = fixed.as_array().ok_or(Failure::FixedLength)?;
     fixed_fault(fixed)?;
+    let fixed = fixed.as_array().ok_or(Failure::FixedLength)?;
     let strings = strings_in(fixed, protocol, uri, addr, host, name);
-    let added = forward::begin_with(buffer, numbers_in(fixed), strings, ssl_fault(fixed));
+    let added = forward::begin_after(buffer, numbers_in(fixed), strings, ssl_fault(fixed));
     put_added(words, added)
 }
 
@@ -102,9 +102,9 @@ fn add<F: FnOnce(Building, &mut [u8]) -> Result<Building, Refusal>>(
     ensures { piece_leaves (status_number result) building.new buffer.new ≡ piece_effect (record_piece building.old (status_number arguments) (call (building_in building.old) buffer.old)) building.old buffer.old }
 {
     let words = building.as_mut_array().ok_or(Failure::BuildingLength)?;
-    let record = building_in(words)?;
+    building_fault(words)?;
     arguments?;
-    put_added(words, adds(record, buffer))
+    put_added(words, adds(building_in(words), buffer))
 }
 
 // Adds a header with a code for its name.

@@ -4,7 +4,6 @@ ghost use Rattle.std.specs.Prelude.{◌≡◌};
 ghost use Rattle.packet.specs.declared.Direction.{Direction};
 ghost use Rattle.packet.specs.declared.Packet.{Packet};
 ghost use Rattle.packet.specs.declared.Part.{Part};
-ghost use Rattle.words.specs.ConnectionWords.{connection_in};
 ghost use Rattle.words.specs.Failure.{told_number};
 ghost use Rattle.answers.specs.Effect.{leaves};
 ghost use Rattle.ajp13.specs.Reading.{sound_reading, read_effect};
@@ -17,25 +16,24 @@ use packet::Direction;
 use reader::read;
 use short_ways::{ReadPart, read_body, read_body_chunk};
 use wire::refusal::Refusal;
-use words::connection_words::{CONNECTION_SIZE, connection_in};
+use words::connection_words::{CONNECTION_SIZE, connection_fault, connection_in};
 use words::status;
 use words::status::{Failure, told};
 
 // Reads a packet of any kind, with the connection that the words say. Both ends call it for all that goes no short way, so that it stays
-// out of the short ways.
+// out of the short ways. It takes the words, and not the record that they are: lent to it, that would stand in memory in the short ways too.
 #[tactic(auto, using(crate::proofs::Within::read_within))]
 fn read_any(
     direction: Direction,
-    held: Connection,
     connection: &mut [u32; CONNECTION_SIZE],
     bytes: &[u8],
     table: &mut [u16],
     answer: &mut [u32; ANSWER_SIZE],
-) -> Result<u32, Failure>
-    requires { held ≡ connection_in connection.old }
-    ensures { leaves (told_number result) connection.new table.new answer.new ≡ sound_reading direction connection.old bytes.now table.old answer.old }
+) -> u32
+    ensures { leaves result connection.new table.new answer.new ≡ sound_reading direction connection.old bytes.now table.old answer.old }
 {
-    tell_received(read(direction, held, bytes, table), connection, answer)
+    let received = read(direction, connection_in(connection), bytes, table);
+    told(tell_received(received, connection, answer))
 }
 
 // The end to which packets of a direction go reads the first packet of the bytes: a short way for the parts of one kind, else as any.
@@ -54,14 +52,14 @@ fn read_at<F: FnOnce(Connection, &[u8]) -> Result<Option<ReadPart>, Refusal>>(
     ensures { leaves (told_number result) connection.new table.new answer.new ≡ read_effect direction connection.old bytes.now table.old answer.old }
 {
     let words = connection.as_mut_array().ok_or(Failure::ConnectionLength)?;
-    let held = connection_in(words)?;
+    connection_fault(words)?;
     let answer = answer.as_mut_array().ok_or(Failure::AnswerLength)?;
-    match short(held, bytes)? {
+    match short(connection_in(words), bytes)? {
         Some(read) => {
             tell_part(kind, read.part, read.taken, read.connection, words, answer);
             Ok(status::DONE)
         }
-        None => read_any(direction, held, words, bytes, table, answer),
+        None => Ok(read_any(direction, words, bytes, table, answer)),
     }
 }
 

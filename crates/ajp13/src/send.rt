@@ -14,7 +14,7 @@ ghost use Rattle.ajp13.specs.Private.{Sends};
 use answers::sent::{reuse_refusal, tell_sent};
 use connection::{Connection, Kind, Written};
 use wire::refusal::Refusal;
-use words::connection_words::connection_in;
+use words::connection_words::{connection_fault, connection_in};
 use words::number::{SET, flag_in, number_fault, number_in};
 use words::status::{Failure, status_of};
 
@@ -33,10 +33,10 @@ fn send<F: FnOnce(Connection, &mut [u8]) -> Result<Written, Refusal>>(
     ensures { leaves (status_number result) connection.new buffer.new answer.new ≡ send_effect (or_else (call_fault connection.old answer.old) (status_number arguments)) kind (call (connection_in connection.old)) connection.old buffer.old answer.old }
 {
     let words = connection.as_mut_array().ok_or(Failure::ConnectionLength)?;
-    let held = connection_in(words)?;
+    connection_fault(words)?;
     let answer = answer.as_mut_array().ok_or(Failure::AnswerLength)?;
     arguments?;
-    tell_sent(kind, sends(held, buffer), words, answer)
+    tell_sent(kind, sends(connection_in(words), buffer), words, answer)
 }
 
 // A CPing: the container is asked whether it is there.

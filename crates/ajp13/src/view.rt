@@ -2,16 +2,27 @@
 ghost use Rattle.std.specs.Prelude.{◌≡◌, ℕ, ◌+◌, ◌≤◌, get_or};
 ghost use Rattle.names.specs.Attribute.{attribute_kind};
 ghost use Rattle.building.specs.Fault.{or_else};
+ghost use Rattle.building.specs.Call.{outcome_by};
 ghost use Rattle.views.specs.View.{integer_view, text_view, name_view};
 ghost use Rattle.words.specs.Number.{number_fault};
-ghost use Rattle.words.specs.Failure.{status_number, told_number};
+ghost use Rattle.words.specs.Failure.{status_number, told_number, outcome_of};
 ghost use Rattle.view_words.specs.View.{text_words, text_fault, text_after, name_number, kind_number};
 
 use building::size::BYTE;
 use packet::{HeaderName, Place};
 use view_words::name::NO_CODE;
 use view_words::{kind_number, place_in, text_words};
+use words::number::number_fault;
 use words::status::{Failure, status_of, told};
+
+// The place that an argument says.
+#[tactic(auto, unfolding(words::specs::Number::number_fault))]
+fn place_of(word: u32) -> Result<Place, Failure>
+    ensures { outcome_of result ≡ outcome_by (number_fault word) (record { 0 = word }) }
+{
+    number_fault(word)?;
+    Ok(place_in(word))
+}
 
 // Tells a string, so many bytes behind a place, by the view that shows it.
 #[tactic(auto, unfolding(view_words::specs::View::text_fault, view_words::specs::View::text_after))]
@@ -29,7 +40,7 @@ fn tell_text<'a, F: FnOnce(&'a [u8], Place) -> &'a [u8]>(
     ensures text_after { text.new ≡ text_after place text.old (text_words packet.now (place + behind)) }
 {
     let text = text.as_mut_array().ok_or(Failure::AnswerLength)?;
-    let at = place_in(place)?;
+    let at = place_of(place)?;
     *text = text_words(packet, at.index() + behind, view(packet, at));
     Ok(())
 }
@@ -57,7 +68,7 @@ pub extern "C" fn ajp13_words_attribute_name_at(packet: &[u8], place: u32, text:
 pub extern "C" fn ajp13_integer_at(packet: &[u8], place: u32) -> u32
     ensures { result ≡ or_else (number_fault place) (integer_view packet.now place) }
 {
-    told(place_in(place).map(|at| u32::from(views::integer_at(packet, at))))
+    told(place_of(place).map(|at| u32::from(views::integer_at(packet, at))))
 }
 
 // The code of the header's name at a place, 0 where the name is spelled.
@@ -65,7 +76,7 @@ pub extern "C" fn ajp13_integer_at(packet: &[u8], place: u32) -> u32
 pub extern "C" fn ajp13_header_code_at(packet: &[u8], place: u32) -> u32
     ensures { result ≡ or_else (number_fault place) (name_number (name_view packet.now place)) }
 {
-    told(place_in(place).map(|at| match views::name_at(packet, at) {
+    told(place_of(place).map(|at| match views::name_at(packet, at) {
         HeaderName::Code(code) => u32::from(code),
         HeaderName::Spelled => NO_CODE,
     }))
@@ -76,7 +87,7 @@ pub extern "C" fn ajp13_header_code_at(packet: &[u8], place: u32) -> u32
 pub extern "C" fn ajp13_attribute_code_at(packet: &[u8], place: u32) -> u32
     ensures { result ≡ or_else (number_fault place) (get_or packet.now place 0) }
 {
-    told(place_in(place).map(|at| u32::from(views::attribute_code_at(packet, at))))
+    told(place_of(place).map(|at| u32::from(views::attribute_code_at(packet, at))))
 }
 
 // What value the attribute at a place has, by its code.
@@ -84,5 +95,5 @@ pub extern "C" fn ajp13_attribute_code_at(packet: &[u8], place: u32) -> u32
 pub extern "C" fn ajp13_attribute_kind_at(packet: &[u8], place: u32) -> u32
     ensures { result ≡ or_else (number_fault place) (kind_number (attribute_kind (get_or packet.now place 0))) }
 {
-    told(place_in(place).map(|at| kind_number(views::attribute_kind_at(packet, at))))
+    told(place_of(place).map(|at| kind_number(views::attribute_kind_at(packet, at))))
 }

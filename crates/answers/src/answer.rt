@@ -2,11 +2,15 @@
 ghost use Rattle.std.specs.Prelude.{◌≡◌, ◌≤◌};
 ghost use Rattle.connection.specs.Connection.{max_packet};
 ghost use Rattle.packet.specs.declared.Packet.{Packet};
-ghost use Rattle.answers.specs.Answer.{row, needs_words, written_words, part_words, packet_words};
+ghost use Rattle.words.specs.Failure.{status_number};
+ghost use Rattle.answers.specs.Answer.{answer_fault, row, needs_words, written_words, part_words, packet_words};
+ghost use Rattle.answers.specs.Effect.{call_fault};
 
 use connection::Kind;
 use packet::{Forward, Packet, Part};
+use words::connection_words::connection_fault;
 use words::kinds::kind_word;
+use words::status::Failure;
 
 // How many words an answer has.
 pub const ANSWER_SIZE: usize = 16;
@@ -16,6 +20,27 @@ const NO_KIND: u32 = 0;
 
 // A word that is kept for later.
 const UNUSED: u32 = 0;
+
+// The fault of an array lent for an answer.
+#[tactic(auto, unfolding(crate::specs::Answer::answer_fault))]
+pub fn answer_fault(answer: &[u32]) -> Result<(), Failure>
+    ensures { status_number result ≡ answer_fault answer.now }
+{
+    if answer.len() == ANSWER_SIZE {
+        Ok(())
+    } else {
+        Err(Failure::AnswerLength)
+    }
+}
+
+// The fault of a connection and of an array lent for an answer.
+#[tactic(auto, using(words::proofs::Failures::and_number), unfolding(words::specs::ConnectionWords::connection_fault, crate::specs::Effect::call_fault))]
+pub fn call_fault(connection: &[u32], answer: &[u32]) -> Result<(), Failure>
+    ensures { status_number result ≡ call_fault connection.now answer.now }
+{
+    let words = connection.as_array().ok_or(Failure::ConnectionLength)?;
+    connection_fault(words).and(answer_fault(answer))
+}
 
 // A number of bytes as a word: no packet has more than a word holds.
 pub fn bytes_word(bytes: usize) -> u32

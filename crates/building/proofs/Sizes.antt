@@ -1,7 +1,7 @@
 -- Faults in a row, and sizes as they are told.
 -- Assumes nothing.
 use native.Mathlib.Omega.{arith}
-use borrow.Author.Tests.{le-leb, leb-true, leb-false, eqb-true}
+use borrow.Author.Tests.{le-leb, leb-true, leb-false, eq-eqb, eqb-true}
 use mathlib.Core.Path.{◌≡◌, refl, sym, ap, ◌∙◌}
 use mathlib.Core.Bool.{Bool, true, false}
 use mathlib.Core.List.{List, [], ◌∷◌}
@@ -10,32 +10,37 @@ use lib.Dec.{leb, eqb}
 use Rattle.wire.specs.Pick.{pick}
 use lib.ListN.{length}
 use Rattle.wire.specs.Field.{boolean_bytes}
-use Rattle.wire.specs.Refusal.{buffer_too_short, too_long}
+use Rattle.wire.specs.Refusal.{none, buffer_too_short, too_long}
 use Rattle.connection.specs.Connection.{max_packet}
 use Rattle.building.specs.Fault.{unless, or_else, fault_after, fit_fault}
 use Rattle.building.specs.Field.{size_told}
+
+-- of two faults the first one is told
+pub first_told : (fault later : ℕ) → eqb fault none ≡ false → or_else fault later ≡ fault
+first_told fault later some = rw some
+
+-- and the later one where there is no first
+pub later_told : (fault later : ℕ) → eqb fault none ≡ true → or_else fault later ≡ later
+later_told fault later first = rw first
 
 -- no fault behind a fault
 pub or_none : (fault : ℕ) → or_else fault 0 ≡ fault
 or_none fault = go (eqb fault 0) refl
   where
-    go : (t : Bool) → eqb fault 0 ≡ t → pick t 0 fault ≡ fault
-    go true e = sym (eqb-true fault 0 e)
-    go false e = refl
+    go : (t : Bool) → eqb fault 0 ≡ t → or_else fault 0 ≡ fault
+    go true e = later_told fault 0 e ∙ sym (eqb-true fault 0 e)
+    go false e = first_told fault 0 e
 
 -- where there is no first fault of two, there is none of either
 pub or_first : (fault later : ℕ) → or_else fault later ≡ 0 → fault ≡ 0
-or_first fault later h = go (eqb fault 0) refl h
+or_first fault later h = go (eqb fault 0) refl
   where
-    go : (t : Bool) → eqb fault 0 ≡ t → pick t later fault ≡ 0 → fault ≡ 0
-    go true e h = eqb-true fault 0 e
-    go false e h = h
+    go : (t : Bool) → eqb fault 0 ≡ t → fault ≡ 0
+    go true e = eqb-true fault 0 e
+    go false e = sym (first_told fault later e) ∙ h
 
 pub or_second : (fault later : ℕ) → or_else fault later ≡ 0 → later ≡ 0
-or_second fault later h = go (or_first fault later h) h
-  where
-    go : fault ≡ 0 → or_else fault later ≡ 0 → later ≡ 0
-    go e h = rw e at h
+or_second fault later h = sym (later_told fault later (eq-eqb fault 0 (or_first fault later h))) ∙ h
 
 -- a test without its fault holds
 pub unless_none : (t : Bool) (fault : ℕ) → 0 < fault → unless t fault ≡ 0 → t ≡ true
@@ -47,7 +52,7 @@ pub told_exact : (n : ℕ) → n ≤ max_packet + 1 → size_told n ≡ n
 unfolding size_told
 told_exact n h = omega arith
 
-told_over : (n : ℕ) → max_packet + 1 ≤ n → size_told n ≡ max_packet + 1
+pub told_over : (n : ℕ) → max_packet + 1 ≤ n → size_told n ≡ max_packet + 1
 unfolding size_told
 told_over n h = omega arith
 

@@ -2,16 +2,17 @@
 -- Assumes nothing.
 use mathlib.Core.Path.{◌≡◌, refl, sym, ap, ◌∙◌, subst}
 use mathlib.Core.Bool.{Bool, true, false}
-use mathlib.Core.List.{List}
+use mathlib.Core.List.{List, []}
 use Prim.Native.Nat.{ℕ, ◌+◌, ◌-◌, ◌≤◌, ◌<◌}
 use native.Mathlib.Omega.{arith}
 use borrow.Author.Tests.{le-leb, leb-true, eq-eqb, eqb-true}
 use lib.Dec.{leb, ltb, eqb}
-use lib.ListN.{length, take, drop, length-take, length-drop}
-use lib.Seq.{take_all}
+use lib.ListN.{length, take, drop, length-take, length-drop, drop_of_length-le}
+use lib.Seq.{take_all, drop-drop}
 use Rattle.wire.specs.Pick.{pick, both}
 use Rattle.wire.specs.Refusal.{none, unfinished_packet, capture_too_long}
 use Rattle.wire.specs.Bytes.{part}
+use Rattle.wire.specs.Packet.{payload_place}
 use Rattle.wire.proofs.Tests.{both_first, both_second}
 use Rattle.packet.specs.declared.Packet.{Packet}
 use Rattle.places.specs.Entries.{max_places}
@@ -24,7 +25,7 @@ use Rattle.reading_laws.proofs.Acceptance.{accepted_is}
 use Rattle.reading_laws.proofs.Inside.{packet_inside}
 use Rattle.capture.specs.Course.{direction_in, first_in, stopped, course, total, one_each, size_of}
 use Rattle.capture.specs.Facts.{AtMostBytes}
-use Rattle.capture.proofs.Course.{taken_inside, taken_size, course_by_lem}
+use Rattle.capture.proofs.Course.{taken_inside, taken_size, first_none, course_by_lem}
 use Rattle.checking.specs.declared.Checking.{Checking}
 use Rattle.checking.specs.Checking.{max_capture, requests_in, body_in, requests_of, body_of, verdict, verdict_place, possible, goes_on, advanced, gone_on}
 use Rattle.checking.specs.Private.{FiguresCount, PacketCounts, counted}
@@ -99,8 +100,10 @@ advanced_none k s refusal =
     same_figures k.connection refusal (k.packets + 0) (k.requests + 0) (k.body + 0) (k.place + 0) k.packets k.requests k.body k.place
     (omega arith) (omega arith) (omega arith) (omega arith)
 
--- the loop where so many bytes are left: nothing was refused, the figures can be, and what is left comes to what the whole does
+-- the loop where these bytes are left: they are those of the whole behind the check's place, nothing was refused, the figures can be, and
+-- what is left comes to what the whole does
 pub record Running (start : Checking) (s : List ℕ) (k : Checking) (left : List ℕ) : Type 0 where
+  pub rest : left ≡ drop (k.place - start.place) s
   pub place_is : k.place + length left ≡ start.place + length s
   pub figures : FiguresCount k
   pub clean : k.refusal ≡ none
@@ -108,6 +111,7 @@ pub record Running (start : Checking) (s : List ℕ) (k : Checking) (left : List
 
 pub running_start : (k : Checking) (s : List ℕ) → FiguresCount k → k.refusal ≡ none → Running k s k s
 running_start k s f e = record {
+  rest = let none_taken : 0 ≡ k.place - k.place = omega arith in ap (λ (n : ℕ). drop n s) none_taken;
   place_is = refl;
   figures = f;
   clean = e;
@@ -121,12 +125,22 @@ module _ (start : Checking) (s : List ℕ) (k : Checking) (left : List ℕ) (R :
       ≡ advanced start (course start.connection s)
   stops refusal e = sym (R.same ∙ ap (advanced k) e ∙ advanced_none k left refusal)
 
-  -- no whole packet is left: the check is as it was
+  -- without one the check is as it was
+  stays : (n : ℕ) → first_in k.connection left ≡ needs n → k ≡ advanced start (course start.connection s)
+  stays n e =
+      ap (λ (r : ℕ). record { connection = k.connection; packets = k.packets; requests = k.requests; body = k.body; place = k.place; refusal = r }) R.clean
+      ∙ stops none (course_by_lem k.connection left (needs n) e)
+
+  -- no whole packet is left
   pub running_needs : (n : ℕ) (received : Received) → answer_meaning received ≡ first_in k.connection left → received ≡ Received.Needs n
       → k ≡ advanced start (course start.connection s)
-  running_needs n received told is =
-      ap (λ (r : ℕ). record { connection = k.connection; packets = k.packets; requests = k.requests; body = k.body; place = k.place; refusal = r }) R.clean
-      ∙ stops none (course_by_lem k.connection left (needs n) (sym told ∙ ap answer_meaning is))
+  running_needs n received told is = stays n (sym told ∙ ap answer_meaning is)
+
+  -- nothing is left
+  pub running_done : length left ≤ 0 → k ≡ advanced start (course start.connection s)
+  running_done h =
+      let nothing : left ≡ [] = drop_of_length-le left h in
+      stays payload_place (ap (first_in k.connection) nothing ∙ first_none k.connection)
 
   -- the next packet is refused
   pub running_refused : (n : ℕ) → first_in k.connection left ≡ refused n
@@ -164,7 +178,11 @@ module _ (start : Checking) (s : List ℕ) (k : Checking) (left : List ℕ) (R :
     running_turn =
         let this = turn_inside.1 in
         let f = R.figures in
+        let moved : k.place - start.place + taken ≡ k.place + taken - start.place =
+        omega (arith, R.place_is, ap length R.rest, length-drop (k.place - start.place) s) in
         rw behind (record {
+          rest =
+              ap (drop taken) R.rest ∙ drop-drop taken (k.place - start.place) s ∙ ap (λ (n : ℕ). drop n s) moved;
           place_is = omega (arith, R.place_is, turn_inside.0, length-drop taken left);
           figures = record {
             packets_few = omega (arith, f.packets_few, this.some);

@@ -134,7 +134,7 @@ impl Checking {
         let mut table = [0u16; MAX_PLACES];
         let mut checking = self;
         let mut left = bytes;
-        loop {
+        while !left.is_empty() {
             match read_first(checking.connection, left, &mut table) {
                 Ok(
                     Received::Accepted {
@@ -153,6 +153,7 @@ impl Checking {
                 }
             }
         }
+        checking
     }
 
     // The answer at the end of a capture of `size` bytes.

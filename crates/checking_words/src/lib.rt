@@ -1,18 +1,19 @@
-// A check on the way and the checker's answer as words, for the C boundary. An error is found here.
+// A check on the way and the checker's answer as words, for the C boundary. An error in the words of a check is found here.
 #![tactic(auto)]
 
 ghost use Rattle.std.specs.Prelude.{◌≡◌, eqb, take};
 ghost use Rattle.std.specs.List.{list_any};
 ghost use Rattle.wire.specs.Refusal.{is_fault, number_of};
-ghost use Rattle.building.specs.Call.{outcome_by};
 ghost use Rattle.words.specs.ConnectionWords.{connection_size};
-ghost use Rattle.words.specs.Failure.{outcome_of};
-ghost use Rattle.checking_words.specs.CheckingWords.{are_figures, are_kept, checking_fault, byte_in, checking_in, checking_words, checked_words};
+ghost use Rattle.words.specs.Failure.{status_number};
+ghost use Rattle.checking_words.specs.CheckingWords.{are_figures, are_kept, are_checking, checking_room, checking_fault, byte_in, checking_in, checking_words, checked_fault, checked_words, finish_fault};
 
 use checking::{Checked, Checking};
 use wire::refusal;
 use wire::refusal::Refusal;
-use words::connection_words::{CONNECTION_SIZE, connection_in, connection_words, state_word};
+use words::connection_words::{
+    CONNECTION_SIZE, connection_fault, connection_in, connection_words, state_word,
+};
 use words::status::Failure;
 
 // How many words a check has, and where each stands behind the connection's.
@@ -81,6 +82,42 @@ fn is_fault(word: u32) -> bool
     word == 0 || is_one_of(&refusal::all(), word)
 }
 
+// Whether words are those of a check.
+#[tactic(auto, using(words::proofs::Failures::failure_some), unfolding(crate::specs::CheckingWords::are_checking))]
+fn are_checking(words: &[u32; CHECKING_SIZE]) -> bool
+    ensures { result ≡ are_checking words.now }
+{
+    connection_fault(held(words)).is_ok()
+        && are_figures(words)
+        && is_fault(words[REFUSAL])
+        && are_kept(words)
+}
+
+// The fault of an array that is to take a check.
+#[tactic(auto, unfolding(crate::specs::CheckingWords::checking_room))]
+pub fn checking_room(words: &[u32]) -> Result<(), Failure>
+    ensures { status_number result ≡ checking_room words.now }
+{
+    if words.len() == CHECKING_SIZE {
+        Ok(())
+    } else {
+        Err(Failure::CheckingLength)
+    }
+}
+
+// The fault of the words of a check: another number of them, or one that no check has.
+#[tactic(auto, unfolding(crate::specs::CheckingWords::checking_fault))]
+pub fn checking_fault(words: &[u32]) -> Result<(), Failure>
+    ensures { status_number result ≡ checking_fault words.now }
+{
+    let words = words.as_array().ok_or(Failure::CheckingLength)?;
+    if are_checking(words) {
+        Ok(())
+    } else {
+        Err(Failure::CheckingWord)
+    }
+}
+
 // The number of a refusal that a word stands for.
 #[tactic(auto, unfolding(crate::specs::CheckingWords::byte_in))]
 fn byte_in(word: u32) -> u8
@@ -89,25 +126,19 @@ fn byte_in(word: u32) -> u8
     word.min(LAST_BYTE) as u8
 }
 
-// The check that words are.
-#[tactic(auto, unfolding(crate::specs::CheckingWords::checking_fault, crate::specs::CheckingWords::are_checking, crate::specs::CheckingWords::checking_in))]
-pub fn checking_in(words: &[u32; CHECKING_SIZE]) -> Result<Checking, Failure>
-    ensures { outcome_of result ≡ outcome_by (checking_fault words.now) (checking_in words.now) }
+// The check that words are, also where they have a fault.
+#[tactic(auto, unfolding(crate::specs::CheckingWords::checking_in))]
+pub fn checking_in(words: &[u32; CHECKING_SIZE]) -> Checking
+    ensures { result ≡ checking_in words.now }
 {
-    let Ok(connection) = connection_in(held(words)) else {
-        return Err(Failure::CheckingWord);
-    };
-    if !(are_figures(words) && is_fault(words[REFUSAL]) && are_kept(words)) {
-        return Err(Failure::CheckingWord);
-    }
-    Ok(Checking {
-        connection,
+    Checking {
+        connection: connection_in(held(words)),
         packets: words[PACKETS],
         requests: words[REQUESTS],
         body: words[BODY],
         place: words[PLACE],
         refusal: byte_in(words[REFUSAL]),
-    })
+    }
 }
 
 // The words of a check. The connection's eight come first, in their order.
@@ -138,6 +169,33 @@ pub fn checking_words(checking: Checking) -> [u32; CHECKING_SIZE]
     ]
 }
 
+// Writes the words of a check.
+pub fn put_checking(words: &mut [u32; CHECKING_SIZE], checking: Checking)
+    ensures { words.new ≡ checking_words checking }
+{
+    *words = checking_words(checking);
+}
+
+// The fault of an array that is to take an answer.
+#[tactic(auto, unfolding(crate::specs::CheckingWords::checked_fault))]
+pub fn checked_fault(words: &[u32]) -> Result<(), Failure>
+    ensures { status_number result ≡ checked_fault words.now }
+{
+    if words.len() == CHECKED_SIZE {
+        Ok(())
+    } else {
+        Err(Failure::AnswerLength)
+    }
+}
+
+// What is looked for first where a check is finished.
+#[tactic(auto, using(words::proofs::Failures::and_number), unfolding(crate::specs::CheckingWords::finish_fault))]
+pub fn finish_fault(words: &[u32], answer: &[u32]) -> Result<(), Failure>
+    ensures { status_number result ≡ finish_fault words.now answer.now }
+{
+    checked_fault(answer).and(checking_fault(words))
+}
+
 // The words of an answer.
 #[tactic(auto, unfolding(crate::specs::CheckingWords::checked_words))]
 pub fn checked_words(checked: Checked) -> [u32; CHECKED_SIZE]
@@ -153,4 +211,11 @@ pub fn checked_words(checked: Checked) -> [u32; CHECKED_SIZE]
         KEPT,
         KEPT,
     ]
+}
+
+// Writes the words of an answer.
+pub fn put_checked(words: &mut [u32; CHECKED_SIZE], checked: Checked)
+    ensures { words.new ≡ checked_words checked }
+{
+    *words = checked_words(checked);
 }

@@ -39,11 +39,11 @@ pub fn code_fault(direction: Direction, code: u16) -> Result<(), Refusal>
 }
 
 // Whether a text spells transfer-encoding.
-
+#[tactic(auto, unfolding(crate::specs::Header::is_transfer_encoding))]
 pub fn is_transfer_encoding(text: &[u8]) -> bool
     ensures { result ≡ is_transfer_encoding text.now }
 {
-    b"transfer-encoding".eq_ignore_ascii_case(text)
+    table::is_same(true, b"transfer-encoding", text)
 }
 
 // How many bits a set has.

@@ -165,7 +165,7 @@ pub fn name_of(list: NameList, code: u16) -> Name
 // is mostly the name as it stands.
 #[tactic(auto, using(crate::proofs::Tables::same_bytes, crate::proofs::Tables::same_exact, crate::proofs::Laws::same_length))]
 #[inline(always)]
-fn is_same(ignoring: bool, name: &[u8], text: &[u8]) -> bool
+pub fn is_same(ignoring: bool, name: &[u8], text: &[u8]) -> bool
     ensures { result ≡ same_name ignoring name.now text.now }
 {
     name.len() == text.len() && (name == text || (ignoring && name.eq_ignore_ascii_case(text)))

@@ -4,7 +4,7 @@ ghost use Rattle.names.specs.Token.{is_token};
 ghost use Rattle.names.specs.Private.{TokenFlags};
 
 // How many values a byte has.
-const BYTES: usize = 256;
+pub const BYTES: usize = 256;
 
 // The table of token bytes.
 fn flags() -> &'static [bool; BYTES]

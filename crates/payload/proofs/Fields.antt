@@ -17,9 +17,14 @@ use Rattle.wire.specs.Facts.{StringInside}
 use Rattle.wire.proofs.Field.{string_inside}
 use Rattle.connection.specs.Connection.{max_packet}
 use Rattle.payload.specs.Read.{FieldRead}
-use Rattle.payload.specs.Sequence.{behind, string_as_field, string_field_at, bounded, integer_after}
+use Rattle.payload.specs.Sequence.{behind, string_as_field, string_field_at, string_after, bounded, integer_after}
 use Rattle.payload.specs.Facts.{FieldInside}
-use Rattle.payload.specs.Private.{Counts}
+use Rattle.payload.specs.Private.{Within, Counts}
+
+-- a field behind another lies inside, whatever that other is, if each one that is read does
+behind_inside : (size : ℕ) (read : ℕ → FieldRead) (before : FieldRead) → ((at : ℕ) → FieldInside size (read at)) → FieldInside size (behind read before)
+behind_inside size read (FieldRead.Refused n) h = tt
+behind_inside size read (FieldRead.Field at value next) h = h next
 
 -- a string that is read as a field lies inside
 string_field_inside : (size at : ℕ) (r : StringRead) → StringInside size at r → FieldInside size (string_as_field at r)
@@ -27,15 +32,29 @@ string_field_inside size at (StringRead.Refused n) h = tt
 string_field_inside size at (StringRead.Null next) h = (omega arith, h.1)
 string_field_inside size at (StringRead.Text start len next) h = (omega arith, h.1.1)
 
--- the place of a string that is read as a field, in a packet that is not too long, is at most a packet's size
+-- a string behind a field lies inside
+pub string_after_inside : (s : List ℕ) (field : StringField) (before : FieldRead) → FieldInside (length s) (string_after s field before)
+unfolding string_after string_field_at
+string_after_inside s field before =
+    behind_inside (length s) (string_field_at s field) before
+    (λ at. string_field_inside (length s) at (string_at s at (is_optional field)) (string_inside s at (is_optional field) (string_at s at (is_optional field)) refl))
+
+-- the place of a field that lies inside is at most any number that the packet's size is at most
+pub inside_within : (size most : ℕ) (f : FieldRead) → size ≤ most → FieldInside size f → Within most f
+inside_within size most (FieldRead.Refused n) h i = tt
+inside_within size most (FieldRead.Field at value next) h i = omega arith
+
+-- the place of a string behind a field, in a packet that is not too long, is at most a packet's size
+pub string_within : (s : List ℕ) (field : StringField) (before r : FieldRead) → length s ≤ max_packet → r ≡ string_after s field before
+    → Within max_packet r
+string_within s field before r h e =
+    subst (Within max_packet) (sym e) (inside_within (length s) max_packet (string_after s field before) h (string_after_inside s field before))
+
+-- and so is that of a string at a place
 pub string_place : (s : List ℕ) (field : StringField) (place at value next : ℕ) → length s ≤ max_packet
     → FieldRead.Field at value next ≡ string_field_at s field place → at ≤ max_packet
-unfolding string_field_at
-string_place s field place at value next h e =
-    let r = string_at s place (is_optional field) in
-    let inside : FieldInside (length s) (string_as_field place r) = string_field_inside (length s) place r (string_inside s place (is_optional field) r refl) in
-    let here : FieldInside (length s) (FieldRead.Field at value next) = subst (FieldInside (length s)) (sym e) inside in
-    omega (arith, here.0)
+unfolding string_after
+string_place s field place at value next h e = string_within s field (FieldRead.Field place 0 place) (FieldRead.Field at value next) h e
 
 -- a number as a field is at most `high`
 bounded_counts : (at low high fault : ℕ) (r : NumberRead) → Counts high (bounded at low high fault r)

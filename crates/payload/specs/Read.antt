@@ -44,10 +44,14 @@ packet_meaning (Ok packet) = PacketRead.Packet packet
 abbrev pub placed : Placed → FieldRead
 placed field = FieldRead.Field field.at field.value field.next
 
+-- a field, by the number that what it is refused with tells
+abbrev pub field_by : {E : Type 0} → (E → ℕ) → Result Placed E → FieldRead
+field_by number (Err fault) = FieldRead.Refused (number fault)
+field_by number (Ok field) = placed field
+
 -- a field
 abbrev pub field_meaning : Result Placed Refusal → FieldRead
-field_meaning (Err refusal) = FieldRead.Refused (number_of refusal)
-field_meaning (Ok field) = placed field
+field_meaning field = field_by number_of field
 
 -- the lists
 abbrev pub lists_meaning : Result ReadLists Refusal → ListsRead

@@ -1,15 +1,42 @@
 // The fixed fields of a packet, one after the other: each is read where the one before it ends, and a refusal stays.
-ghost use Rattle.std.specs.Prelude.{◌≡◌, ◌≤◌};
+ghost use Rattle.std.specs.Prelude.{◌≡◌, ◌≤◌, ℕ};
 ghost use Rattle.wire.specs.Refusal.{number_of};
 ghost use Rattle.wire.specs.Read.{NumberRead};
 ghost use Rattle.connection.specs.Connection.{max_packet};
-ghost use Rattle.payload.specs.Read.{placed, field_meaning};
-ghost use Rattle.payload.specs.Sequence.{after_code, bounded, string_after, boolean_after, byte_after, any_integer_after, integer_after};
+ghost use Rattle.payload.specs.Read.{placed, field_by, field_meaning};
+ghost use Rattle.payload.specs.Sequence.{after_code, bounded, string_after, boolean_after, byte_after, any_integer_after, integer_after, field_place, field_number};
+ghost use Rattle.payload.specs.Private.{Within};
 
 use packet::Place;
 use wire::read::Field;
 use wire::refusal::Refusal;
 use wire::{AFTER_CODE_PLACE, CODE_PLACE, StringField, read};
+
+// What a field is refused with: a refusal, or any number.
+pub trait Fault: Copy {
+    // The number that it tells.
+    ghost number: { Self → ℕ };
+
+    // The fault that stands for a refusal.
+    fn of(refusal: Refusal) -> Self
+        ensures { number result ≡ number_of refusal };
+}
+
+impl Fault for Refusal {
+    ghost number = { number_of };
+
+    fn of(refusal: Refusal) -> Refusal {
+        refusal
+    }
+}
+
+impl Fault for u8 {
+    ghost number = { λ n. n };
+
+    fn of(refusal: Refusal) -> u8 {
+        refusal.number()
+    }
+}
 
 // A field as read: its place, its number, 0 for a string, and the place after it.
 #[derive(Clone, Copy, Debug, PartialEq, Eq)]
@@ -40,7 +67,8 @@ pub fn after_code() -> Placed
     }
 }
 
-// The string behind a field.
+// The string behind a field. It is put into its callers: as a call of its own it was tried and is slower.
+#[inline(always)]
 #[tactic(auto, unfolding(crate::specs::Sequence::string_after, crate::specs::Sequence::string_field_at))]
 pub fn string_after(
     packet: &[u8],
@@ -75,17 +103,20 @@ pub fn boolean_after(packet: &[u8], before: Result<Placed, Refusal>) -> Result<P
 // The byte behind a field, which is from `low` to `high`, else it is refused with `fault`. Apart from `integer_after`: both end in
 // `bounded`, and one function of the two would take the call that reads as a closure, which is longer.
 #[tactic(auto, unfolding(crate::specs::Sequence::byte_after))]
-pub fn byte_after(
+pub fn byte_after<E: Fault>(
     packet: &[u8],
     low: u16,
     high: u16,
-    fault: Refusal,
-    before: Result<Placed, Refusal>,
-) -> Result<Placed, Refusal>
-    ensures { field_meaning result ≡ byte_after packet.now low high (number_of fault) (field_meaning before) }
+    fault: E,
+    before: Result<Placed, E>,
+) -> Result<Placed, E>
+    ensures { field_by E.number result ≡ byte_after packet.now low high (E.number fault) (field_by E.number before) }
 {
     let at = before?.next;
-    bounded(at, low, high, fault, read::byte(packet, at)?)
+    match read::byte(packet, at) {
+        Err(refusal) => Err(E::of(refusal)),
+        Ok(number) => bounded(at, low, high, fault, number),
+    }
 }
 
 // The integer behind a field, which may be any: no bounds, and no fault of its own.
@@ -100,32 +131,56 @@ pub fn any_integer_after(packet: &[u8], before: Result<Placed, Refusal>) -> Resu
 
 // The integer behind a field, which is from `low` to `high`, else it is refused with `fault`.
 #[tactic(auto, unfolding(crate::specs::Sequence::integer_after))]
-pub fn integer_after(
+pub fn integer_after<E: Fault>(
     packet: &[u8],
     low: u16,
     high: u16,
-    fault: Refusal,
-    before: Result<Placed, Refusal>,
-) -> Result<Placed, Refusal>
-    ensures { field_meaning result ≡ integer_after packet.now low high (number_of fault) (field_meaning before) }
+    fault: E,
+    before: Result<Placed, E>,
+) -> Result<Placed, E>
+    ensures { field_by E.number result ≡ integer_after packet.now low high (E.number fault) (field_by E.number before) }
 {
     let at = before?.next;
-    bounded(at, low, high, fault, read::integer(packet, at)?)
+    match read::integer(packet, at) {
+        Err(refusal) => Err(E::of(refusal)),
+        Ok(number) => bounded(at, low, high, fault, number),
+    }
 }
 
 // A number as read at a place, which is from `low` to `high`, else it is refused with `fault`.
-fn bounded(
+fn bounded<E: Fault>(
     at: usize,
     low: u16,
     high: u16,
-    fault: Refusal,
+    fault: E,
     number: Field<u16>,
-) -> Result<Placed, Refusal>
-    ensures { field_meaning result ≡ bounded at low high (number_of fault) (NumberRead.Number number.value number.next) }
+) -> Result<Placed, E>
+    ensures { field_by E.number result ≡ bounded at low high (E.number fault) (NumberRead.Number number.value number.next) }
 {
     let Field { value, next } = number;
     if !(low..=high).contains(&value) {
         return Err(fault);
     }
     Ok(Placed { at, value, next })
+}
+
+// A field's place, 0 for a refused one.
+pub fn place_of(field: Result<Placed, Refusal>) -> Place
+    requires { Within max_packet (field_meaning field) }
+    ensures { result ≡ field_place (field_meaning field) }
+{
+    match field {
+        Err(_) => Place(0),
+        Ok(field) => field.place(),
+    }
+}
+
+// A field's number, 0 for a refused one.
+pub fn value_of(field: Result<Placed, Refusal>) -> u16
+    ensures { result ≡ field_number (field_meaning field) }
+{
+    match field {
+        Err(_) => 0,
+        Ok(field) => field.value,
+    }
 }

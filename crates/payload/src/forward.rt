@@ -37,7 +37,7 @@ pub fn read(packet: &[u8], table: &mut [u16]) -> Result<Packet, Refusal>
     let port = any_integer_after(packet, Ok(name))?;
     let ssl = boolean_after(packet, Ok(port))?;
     let headers = integer_after(packet, 0, MAX_HEADERS, Refusal::TooMany, Ok(ssl))?;
-    let lists = lists(packet, headers, table)?;
+    let lists = lists(packet, Ok(headers), table)?;
     Ok(Packet::Forward(Forward {
         method: method.value,
         protocol: protocol.place(),

@@ -5,7 +5,7 @@ ghost use Rattle.wire.specs.Bytes.{over};
 ghost use Rattle.connection.specs.Connection.{max_packet};
 ghost use Rattle.places.specs.Entries.{max_headers, max_attributes, max_places};
 ghost use Rattle.headers.specs.Read.{headers_meaning};
-ghost use Rattle.payload.specs.Read.{placed, lists_meaning};
+ghost use Rattle.payload.specs.Read.{field_meaning, lists_meaning};
 ghost use Rattle.payload.specs.Private.{Counts};
 ghost use Rattle.payload.specs.Lists.{headers_after, attributes_behind, lists_at};
 
@@ -23,18 +23,19 @@ pub struct ReadLists {
 }
 
 // The headers behind their count.
-#[tactic(auto, unfolding(crate::specs::Lists::headers_after))]
+#[tactic(auto, using(wire::proofs::Bytes::over_none), unfolding(crate::specs::Lists::headers_after))]
 pub fn headers_after(
     direction: Direction,
     packet: &[u8],
-    count: Placed,
+    count: Result<Placed, Refusal>,
     table: &mut [u16],
 ) -> Result<Field<Option<u32>>, Refusal>
-    requires { (length packet.now ≤ max_packet) × (Counts max_headers (placed count) × (max_headers + max_headers ≤ length table.old)) }
-    ensures value { headers_meaning result ≡ (headers_after direction packet.now (placed count)).end }
-    ensures table_after { table.new ≡ over table.old 0 (headers_after direction packet.now (placed count)).places }
+    requires { (length packet.now ≤ max_packet) × (Counts max_headers (field_meaning count) × (max_headers + max_headers ≤ length table.old)) }
+    ensures value { headers_meaning result ≡ (headers_after direction packet.now (field_meaning count)).end }
+    ensures table_after { table.new ≡ over table.old 0 (headers_after direction packet.now (field_meaning count)).places }
 {
-    headers::headers(direction, packet, count.next, count.value, table)
+    let Placed { value, next, .. } = count?;
+    headers::headers(direction, packet, next, value, table)
 }
 
 // The attributes behind the headers, which are a Forward's last field.
@@ -62,13 +63,18 @@ fn attributes_behind(
 
 // The headers and attributes behind the count of headers. It is put into its one caller: as a call of its own it was tried and is slower.
 #[inline(always)]
-#[tactic(auto, unfolding(crate::specs::Lists::lists_at))]
-pub fn lists(packet: &[u8], count: Placed, table: &mut [u16]) -> Result<ReadLists, Refusal>
-    requires { (length packet.now ≤ max_packet) × (Counts max_headers (placed count) × (max_places ≤ length table.old)) }
-    ensures value { lists_meaning result ≡ (lists_at packet.now (placed count)).end }
-    ensures table_after { table.new ≡ over table.old 0 (lists_at packet.now (placed count)).places }
+#[tactic(auto, using(wire::proofs::Bytes::over_none), unfolding(crate::specs::Lists::lists_at, crate::specs::Lists::headers_after))]
+pub fn lists(
+    packet: &[u8],
+    count: Result<Placed, Refusal>,
+    table: &mut [u16],
+) -> Result<ReadLists, Refusal>
+    requires { (length packet.now ≤ max_packet) × (Counts max_headers (field_meaning count) × (max_places ≤ length table.old)) }
+    ensures value { lists_meaning result ≡ (lists_at packet.now (field_meaning count)).end }
+    ensures table_after { table.new ≡ over table.old 0 (lists_at packet.now (field_meaning count)).places }
 {
-    let headers = headers_after(Direction::ToContainer, packet, count, table)?;
+    let count = count?;
+    let headers = headers_after(Direction::ToContainer, packet, Ok(count), table)?;
     let many = count.value as usize;
     attributes_behind(packet, headers.value, headers.next, table, many + many)
 }

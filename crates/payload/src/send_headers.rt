@@ -36,7 +36,7 @@ pub fn read(packet: &[u8], table: &mut [u16]) -> Result<Packet, Refusal>
     )?;
     let message = string_after(packet, StringField::Message, Ok(status))?;
     let headers = integer_after(packet, 0, MAX_HEADERS, Refusal::TooMany, Ok(message))?;
-    let behind = headers_after(Direction::ToServer, packet, headers, table)?;
+    let behind = headers_after(Direction::ToServer, packet, Ok(headers), table)?;
     finished(
         packet.len(),
         behind.next,

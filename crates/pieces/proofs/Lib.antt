@@ -1,3 +1,4 @@
+pub mod Pieces
 pub mod Possible
 pub mod Nulls
 pub mod Refusals

@@ -5,8 +5,6 @@ use mathlib.Core.Path.{◌≡◌, refl, sym, ap, ◌∙◌}
 use mathlib.Core.Bool.{true, not}
 use mathlib.Core.List.{List, [], ◌∷◌, ◌++◌}
 use Prim.Native.Nat.{ℕ, ◌+◌, ◌≤◌, ◌<◌}
-use borrow.Author.Tests.{ltb-true}
-use lib.Dec.{ltb}
 use lib.ListN.{length, get_or, length-append}
 use lib.Seq.{get_or-take}
 use Rattle.wire.specs.Pick.{both}
@@ -14,15 +12,13 @@ use Rattle.wire.specs.Bytes.{over, integer_bytes}
 use Rattle.wire.specs.Packet.{packet_head, after_code_place, code_place}
 use Rattle.wire.proofs.Tests.{both_first}
 use Rattle.wire.proofs.Field.{head_four}
-use Rattle.wire.specs.Refusal.{record_wrong, too_many}
+use Rattle.wire.specs.Refusal.{record_wrong}
 use Rattle.connection.specs.Cycle.{direction_of}
 use Rattle.places.specs.Entries.{max_headers}
 use Rattle.payload.specs.Code.{code_of}
 use Rattle.building.specs.Field.{Field, opening, faults_of, fields_bytes}
 use Rattle.building.specs.Call.{Call, refusal_of, buffer_after}
-use Rattle.building.specs.Fault.{or_else, fault_after, first_fault}
-use Rattle.building.proofs.Faults.{faults_append}
-use Rattle.building.proofs.Sizes.{or_second, first_none, unless_none}
+use Rattle.building.proofs.Sizes.{first_none, unless_none}
 use Rattle.building.proofs.Rows.{bytes_append}
 use Rattle.building.proofs.Calls.{done_own, done_fits, after_length_lem, after_written, after_before}
 use Rattle.building_record.specs.declared.Building.{Building}
@@ -32,6 +28,7 @@ use Rattle.pieces.specs.Fixed.{unset, fixed, fixed_call}
 use Rattle.pieces.specs.Header.{header_call}
 use Rattle.pieces.specs.Attribute.{attribute_call}
 use Rattle.building_record.proofs.Laws.{possible_yes, yes_possible}
+use Rattle.pieces.proofs.Pieces.{Checked, header_room}
 
 -- a byte in front of what a call writes
 byte_kept : {A : Type 0} (call : Call A) (buffer : List ℕ) (i : ℕ) → refusal_of call (length buffer) ≡ 0 → i < call.at
@@ -58,28 +55,20 @@ module _ (r s : Building) (buffer : List ℕ) (call : Call Building) (can : Poss
         code = byte_kept call buffer code_place none (omega (arith, can.behind, can.apart, at)) ∙ can.code ∙ ap (λ k. code_of (built_kind k)) (sym kind);
       }
 
--- where no fault of a header is found, one more may come
-header_room : (r : Building) (buffer : List ℕ) (own : List Field) → first_fault (header_call r buffer own).faults ≡ 0 → r.headers < max_headers
-unfolding count_fault
-header_room r buffer own h =
-    let first : ℕ = fault_after (header_now r buffer) (faults_of own) in
-    let last : or_else first (count_fault r) ≡ 0 = sym (faults_append (header_now r buffer) (faults_of own) (count_fault r ∷ [])) ∙ h in
-    ltb-true r.headers max_headers (unless_none (ltb r.headers max_headers) too_many (omega arith) (or_second first (count_fault r) last))
-
 -- the record behind a header
 pub header_possible : (r : Building) (buffer : List ℕ) (own : List Field) → refusal_of (header_call r buffer own) (length buffer) ≡ 0
     → is_possible (with_header r (r.next.0 + length (fields_bytes own))) (buffer_after (header_call r buffer own) buffer) ≡ true
 unfolding header_now
 header_possible r buffer own none =
     let call : Call Building = header_call r buffer own in
-    let faultless : first_fault call.faults ≡ 0 = done_own call buffer (refusal_of call (length buffer)) refl none in
+    let known : Checked call buffer _ _ = record { told = refl; is = refl } in
     let ok : is_possible r buffer ≡ true =
     both_first (is_possible r buffer) (not r.attributes)
     (unless_none (both (is_possible r buffer) (not r.attributes)) record_wrong (omega arith)
-    (first_none (header_now r buffer) (faults_of own ++ (count_fault r ∷ [])) faultless)) in
+    (first_none (header_now r buffer) (faults_of own ++ (count_fault r ∷ [])) (done_own call buffer (refusal_of call (length buffer)) refl none))) in
     yes_possible (with_header r (r.next.0 + length (fields_bytes own))) (buffer_after call buffer)
     (behind_possible r (with_header r (r.next.0 + length (fields_bytes own))) buffer call (possible_yes r buffer ok) none refl refl refl refl
-    (omega (arith, header_room r buffer own faultless)))
+    (omega (arith, (header_room own known none).1)))
 
 -- the record behind an attribute
 pub attribute_possible : (r : Building) (buffer : List ℕ) (own : List Field) → refusal_of (attribute_call r buffer own) (length buffer) ≡ 0

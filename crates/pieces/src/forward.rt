@@ -10,7 +10,7 @@ ghost use Rattle.building.specs.Fault.{first_fault};
 ghost use Rattle.building.specs.Field.{faults_of, fields_bytes, needed_at};
 ghost use Rattle.building.specs.Call.{with_fault, outcome, buffer_after};
 ghost use Rattle.building_record.specs.declared.BuildingKind.{BuildingKind};
-ghost use Rattle.pieces.specs.Meaning.{added_outcome};
+ghost use Rattle.pieces.specs.Meaning.{added_outcome, numbered_outcome};
 ghost use Rattle.pieces.specs.Fixed.{fixed};
 ghost use Rattle.pieces.specs.Strings.{fields_with, strings_with, forward_with};
 ghost use Rattle.pieces.specs.Private.{forward_tail};
@@ -45,6 +45,9 @@ pub struct Strings<'a> {
 const BEFORE_STRINGS: usize = AFTER_CODE_PLACE + size::BYTE;
 
 const BEHIND_STRINGS: usize = size::INTEGER + size::BYTE + COUNT_SIZE;
+
+// The number of no fault.
+const NO_FAULT: u8 = 0;
 
 // How many bytes a buffer needs for the fixed fields, 8193 where no packet has room for them.
 pub fn needs(numbers: Numbers, strings: Strings<'_>) -> usize
@@ -107,7 +110,7 @@ fn write(buffer: &mut [u8], numbers: Numbers, strings: Strings<'_>)
 
 // Begins a Forward with one fault more, if there is one, that the caller found in a field: it counts behind the faults of the other fields,
 // and before 2 and 15.
-pub fn begin_with(
+pub fn begin_after(
     buffer: &mut [u8],
     numbers: Numbers,
     strings: Strings<'_>,
@@ -129,5 +132,22 @@ pub fn begin(buffer: &mut [u8], numbers: Numbers, strings: Strings<'_>) -> Resul
     ensures result_value { added_outcome result ≡ outcome (forward_with numbers strings.entry) (length buffer.old) }
     ensures buffer_after { buffer.new ≡ buffer_after (forward_with numbers strings.entry) buffer.old }
 {
-    begin_with(buffer, numbers, strings, Ok(()))
+    begin_after(buffer, numbers, strings, Ok(()))
+}
+
+// Begins a Forward with one fault more, as `begin_after` does, where that fault is any number, 0 for none. A refusal is told by its number.
+pub fn begin_with(
+    buffer: &mut [u8],
+    numbers: Numbers,
+    strings: Strings<'_>,
+    later: u8,
+) -> Result<Building, u8>
+    ensures result_value { numbered_outcome result ≡ outcome (with_fault (forward_with numbers strings.entry) later) (length buffer.old) }
+    ensures buffer_after { buffer.new ≡ buffer_after (with_fault (forward_with numbers strings.entry) later) buffer.old }
+{
+    if later == NO_FAULT {
+        return begin(buffer, numbers, strings).map_err(Refusal::number);
+    }
+    fields_fault(numbers, strings).map_err(Refusal::number)?;
+    Err(later)
 }

@@ -70,6 +70,8 @@ impl Whole<'_> {
     }
 
     // A Forward. Its places go into a list of our own, from which the table is filled at the very end, so that a refusal leaves the table.
+    // It stays a function of its own: put into `read`, which was tried, its fields stand in memory where a packet of another kind is read too.
+    #[inline(never)]
     fn forward(self, table: &mut [u16]) -> Result<Received, Refusal>
         ensures result_value { received_meaning result ≡ allowed_reading (context_of self.entry.direction self.entry.connection) self.entry.connection Kind.Forward self.entry.bytes.now (length table.old) }
         ensures table_after { table.new ≡ allowed_table (context_of self.entry.direction self.entry.connection) self.entry.connection Kind.Forward self.entry.bytes.now table.old }
@@ -81,6 +83,7 @@ impl Whole<'_> {
 
     // Send Headers, in the same way. A function for both, over the call that reads the fields, would have to say in its clauses all that such
     // a call answers and writes.
+    #[inline(never)]
     fn send_headers(self, table: &mut [u16]) -> Result<Received, Refusal>
         ensures result_value { received_meaning result ≡ allowed_reading (context_of self.entry.direction self.entry.connection) self.entry.connection Kind.SendHeaders self.entry.bytes.now (length table.old) }
         ensures table_after { table.new ≡ allowed_table (context_of self.entry.direction self.entry.connection) self.entry.connection Kind.SendHeaders self.entry.bytes.now table.old }

@@ -29,7 +29,7 @@ impl Tally {
 }
 
 // The tallies of the commands, in the order of their list, and the one of all cases.
-#[derive(Drop)]
+#[derive(Clone, Copy)]
 pub struct Tallies {
     commands: [Tally; COUNT],
     all: Tally,

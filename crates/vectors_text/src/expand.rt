@@ -29,15 +29,19 @@ pub fn line(listed: &[u8], out: &mut Written) -> io::Result<()> {
     Ok(())
 }
 
-// Writes a group out, such as 6162*3. One with no number, or with 0, fails.
+// Writes a group out, such as 6162*3. One with no number, or with 0, fails. One of nothing is nothing, however often.
 fn group(inside: &[u8], out: &mut Written) -> io::Result<()> {
     let unit = field(inside, b'*', 0);
     let times = parse::decimal(field(inside, b'*', 1));
     if times == 0 {
         return Err(ErrorKind::InvalidData.into());
     }
+    if unit.is_empty() {
+        return Ok(());
+    }
     for _ in 0..times {
-        out.write_all(unit)?;
+        out.try_extend_from_slice(unit)
+            .map_err(|_| ErrorKind::WriteZero)?;
     }
     Ok(())
 }

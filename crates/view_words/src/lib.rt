@@ -3,15 +3,15 @@
 #![tactic(auto)]
 
 ghost use Rattle.std.specs.Prelude.{◌≡◌, ◌+◌, ◌≤◌};
-ghost use Rattle.building.specs.Call.{outcome_by};
 ghost use Rattle.views.specs.View.{integer_view, text_view};
-ghost use Rattle.words.specs.Number.{last_number, number_fault};
-ghost use Rattle.words.specs.Failure.{outcome_of};
-ghost use Rattle.view_words.specs.View.{text_words, kind_number};
+ghost use Rattle.words.specs.Number.{last_number};
+ghost use Rattle.words.specs.Failure.{status_number};
+ghost use Rattle.view_words.specs.View.{text_words, text_fault, kind_number};
 
 use building::size::INTEGER;
 use packet::{AttributeKind, Place};
 use wire::{NULL_LENGTH, read};
+use words::number::number_fault;
 use words::status::Failure;
 
 pub mod name;
@@ -29,14 +29,11 @@ const INTEGER_KIND: u32 = 2;
 const PAIR_KIND: u32 = 3;
 
 // The place that a number says.
-#[tactic(auto, unfolding(words::specs::Number::number_fault))]
-pub fn place_in(word: u32) -> Result<Place, Failure>
-    ensures { outcome_of result ≡ outcome_by (number_fault word) (record { 0 = word }) }
+pub fn place_in(word: u32) -> Place
+    requires { word ≤ last_number }
+    ensures { result.0 ≡ word }
 {
-    match u16::try_from(word) {
-        Ok(place) => Ok(Place(place)),
-        Err(_) => Err(Failure::Argument),
-    }
+    Place(word as u16)
 }
 
 // The length of the string at an index as it stands there, 0 where it is not there.
@@ -58,6 +55,17 @@ pub fn text_words(packet: &[u8], at: usize, shown: &[u8]) -> [u32; TEXT_SIZE]
     let start = (at + INTEGER).min(packet.len()) as u32;
     let size = shown.len() as u32;
     [start, size, u32::from(null)]
+}
+
+// The fault of a call that tells a string.
+#[tactic(auto, unfolding(crate::specs::View::text_fault))]
+pub fn text_fault(place: u32, text: &[u32]) -> Result<(), Failure>
+    ensures { status_number result ≡ text_fault place text.now }
+{
+    if text.len() != TEXT_SIZE {
+        return Err(Failure::AnswerLength);
+    }
+    number_fault(place)
 }
 
 // The number of a kind of value.

@@ -5,13 +5,13 @@ use mathlib.Core.Bool.{Bool, true, false}
 use mathlib.Core.List.{List, []}
 use Prim.Native.Nat.{ℕ, ◌+◌, ◌<◌}
 use native.Mathlib.Omega.{arith}
-use borrow.Author.Tests.{le-leb}
+use borrow.Author.Tests.{leb-false, le-leb}
 use lib.Dec.{leb, eqb}
-use lib.ListN.{length, get_or}
+use lib.ListN.{length, get_or, get_or-eq_default}
 use Rattle.wire.specs.Pick.{pick, both}
 use Rattle.wire.specs.Refusal.{cut_short}
 use Rattle.wire.specs.Bytes.{part, integer_in}
-use Rattle.wire.specs.Field.{integer_at, null_length}
+use Rattle.wire.specs.Field.{byte_at, integer_at, null_length}
 use Rattle.wire.specs.Read.{NumberRead}
 use Rattle.names.specs.Header.{begins_code}
 use Rattle.packet.specs.declared.HeaderName.{HeaderName}
@@ -30,6 +30,18 @@ number_is s at r e = ap number_of (sym e) ∙ go (leb (at + 2) (length s))
     go : (there : Bool) → number_of (pick there (NumberRead.Number (integer_in s at) (at + 2)) (NumberRead.Refused cut_short)) ≡ pick there (integer_in s at) 0
     go true = refl
     go false = refl
+
+-- the byte at a place, by what is read there
+pub byte_is : (s : List ℕ) (at : ℕ) (r : NumberRead) → byte_at s at ≡ r → number_of r ≡ get_or s at 0
+unfolding byte_at
+byte_is s at r e = ap number_of (sym e) ∙ go (leb (at + 1) (length s)) refl
+  where
+    go : (there : Bool) → leb (at + 1) (length s) ≡ there
+        → number_of (pick there (NumberRead.Number (get_or s at 0) (at + 1)) (NumberRead.Refused cut_short)) ≡ get_or s at 0
+    go true q = refl
+    go false q =
+        let past : length s < at + 1 = leb-false (at + 1) (length s) q in
+        sym (get_or-eq_default s 0 (omega arith))
 
 -- whether it is null, by the number
 pub null_is : (s : List ℕ) (at n : ℕ) → n ≡ integer_view s at → eqb n null_length ≡ null_view s at

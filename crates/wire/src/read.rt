@@ -4,7 +4,7 @@ ghost use Rattle.wire.specs.Field.{byte_at, integer_at, boolean_at, text_at, aft
 ghost use Rattle.wire.specs.Read.{number_meaning, boolean_meaning, string_meaning};
 
 use crate::refusal::Refusal;
-use crate::{NULL_LENGTH, StringField, has_room, holds_barred, is_optional, lacks, part_of};
+use crate::{NULL_LENGTH, StringField, has_room, holds_barred, is_optional, lacks};
 
 // A field as read: its value, and the place after it.
 #[derive(Clone, Copy, Debug, PartialEq, Eq)]
@@ -34,16 +34,17 @@ pub fn byte(packet: &[u8], at: usize) -> Result<Field<u16>, Refusal>
     })
 }
 
-// The integer at a place, high byte first.
+// The integer at a place, high byte first. It asks `has_room`, as its callers do: by `get` and a slice pattern, which was tried, the compiler
+// asks for the room again, and headers are read slower.
 #[tactic(auto, using(crate::proofs::Bytes::room_in), unfolding(crate::specs::Field::integer_at, crate::specs::Bytes::integer_in))]
 pub fn integer(packet: &[u8], at: usize) -> Result<Field<u16>, Refusal>
     ensures { number_meaning result ≡ integer_at packet.now at }
 {
-    let Some([high, low, ..]) = packet.get(at..) else {
+    if !has_room(packet.len(), at, 2) {
         return Err(Refusal::CutShort);
-    };
+    }
     Ok(Field {
-        value: u16::from_be_bytes([*high, *low]),
+        value: u16::from_be_bytes([packet[at], packet[at + 1]]),
         next: at + 2,
     })
 }
@@ -94,7 +95,7 @@ fn after_length(
 }
 
 // A string's bytes and its last zero.
-#[tactic(auto, using(crate::proofs::Bytes::room_in), unfolding(crate::specs::Field::text_at))]
+#[tactic(auto, using(crate::proofs::Bytes::room_in), unfolding(crate::specs::Field::text_at, crate::specs::Bytes::part))]
 fn text(packet: &[u8], start: usize, len: u16) -> Result<Field<Option<Span>>, Refusal>
     ensures { string_meaning result ≡ text_at packet.now start len }
 {
@@ -106,7 +107,7 @@ fn text(packet: &[u8], start: usize, len: u16) -> Result<Field<Option<Span>>, Re
     if packet[end] != 0 {
         return Err(Refusal::StringWrong);
     }
-    if holds_barred(part_of(packet, start, len)) {
+    if holds_barred(&packet[start..end]) {
         return Err(Refusal::StringWrong);
     }
     Ok(Field {

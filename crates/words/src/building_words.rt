@@ -1,8 +1,7 @@
 // A building record as words.
 ghost use Rattle.std.specs.Prelude.{◌≡◌};
-ghost use Rattle.building.specs.Call.{outcome_by};
-ghost use Rattle.words.specs.BuildingWords.{building_fault, building_in, building_words};
-ghost use Rattle.words.specs.Failure.{outcome_of};
+ghost use Rattle.words.specs.BuildingWords.{building_kind_in, building_room, building_fault, building_in, building_words};
+ghost use Rattle.words.specs.Failure.{status_number};
 
 use crate::kinds::{FORWARD, SEND_HEADERS, kind_word};
 use crate::number::{SET, flag_in, number_in};
@@ -23,26 +22,54 @@ const HEADERS: usize = 3;
 
 const ATTRIBUTES: usize = 4;
 
-// The building record that words are.
-#[tactic(auto, unfolding(crate::specs::BuildingWords::building_fault, crate::specs::BuildingWords::building_in, crate::specs::BuildingWords::building_kind_in))]
-pub fn building_in(words: &[u32; BUILDING_SIZE]) -> Result<Building, Failure>
-    ensures { outcome_of result ≡ outcome_by (building_fault words.now) (building_in words.now) }
+// The packet in pieces that a word is: a word that is none of one is taken for a Send Headers.
+#[tactic(auto, unfolding(crate::specs::BuildingWords::building_kind_in))]
+fn building_kind_in(word: u32) -> BuildingKind
+    ensures { result ≡ building_kind_in word }
 {
-    let kind = match words[KIND] {
-        FORWARD => BuildingKind::Forward,
-        SEND_HEADERS => BuildingKind::SendHeaders,
-        _ => return Err(Failure::BuildingWord),
-    };
-    if SET < words[ATTRIBUTES] {
-        return Err(Failure::BuildingWord);
+    if word == FORWARD {
+        return BuildingKind::Forward;
     }
-    Ok(Building {
-        kind,
+    BuildingKind::SendHeaders
+}
+
+// The fault of an array that is to take a building record.
+#[tactic(auto, unfolding(crate::specs::BuildingWords::building_room))]
+pub fn building_room(words: &[u32]) -> Result<(), Failure>
+    ensures { status_number result ≡ building_room words.now }
+{
+    if words.len() == BUILDING_SIZE {
+        Ok(())
+    } else {
+        Err(Failure::BuildingLength)
+    }
+}
+
+// The fault of the words of a building record.
+#[tactic(auto, unfolding(crate::specs::BuildingWords::building_fault))]
+pub fn building_fault(words: &[u32; BUILDING_SIZE]) -> Result<(), Failure>
+    ensures { status_number result ≡ building_fault words.now }
+{
+    let kind = words[KIND];
+    if (kind == FORWARD || kind == SEND_HEADERS) && words[ATTRIBUTES] <= SET {
+        Ok(())
+    } else {
+        Err(Failure::BuildingWord)
+    }
+}
+
+// The building record that words are, also where they have a fault.
+#[tactic(auto, unfolding(crate::specs::BuildingWords::building_in))]
+pub fn building_in(words: &[u32; BUILDING_SIZE]) -> Building
+    ensures { result ≡ building_in words.now }
+{
+    Building {
+        kind: building_kind_in(words[KIND]),
         next: Place(number_in(words[NEXT])),
         count: Place(number_in(words[COUNT_PLACE])),
         headers: number_in(words[HEADERS]),
         attributes: flag_in(words[ATTRIBUTES]),
-    })
+    }
 }
 
 // The words of a building record.

@@ -1,8 +1,7 @@
 // A connection as words.
 ghost use Rattle.std.specs.Prelude.{◌≡◌};
-ghost use Rattle.building.specs.Call.{outcome_by};
-ghost use Rattle.words.specs.ConnectionWords.{state_word, are_unused, are_busy, connection_fault, connection_in, connection_words};
-ghost use Rattle.words.specs.Failure.{outcome_of};
+ghost use Rattle.words.specs.ConnectionWords.{state_word, state_in, are_unused, are_busy, connection_room, connection_fault, connection_in, connection_words};
+ghost use Rattle.words.specs.Failure.{status_number};
 
 use crate::number::{LAST_NUMBER, SET, flag_in, number_in};
 use crate::status::Failure;
@@ -69,28 +68,58 @@ fn are_busy(words: &[u32; CONNECTION_SIZE]) -> bool
         && (words[DUE] != SET || words[ASKED] <= LAST_NUMBER)
 }
 
-// The connection that words are.
-#[tactic(auto, unfolding(crate::specs::ConnectionWords::connection_fault, crate::specs::ConnectionWords::are_connection, crate::specs::ConnectionWords::connection_in, crate::specs::ConnectionWords::state_in))]
-pub fn connection_in(words: &[u32; CONNECTION_SIZE]) -> Result<Connection, Failure>
-    ensures { outcome_of result ≡ outcome_by (connection_fault words.now) (connection_in words.now) }
+// The state that a word is: a word that is none of a state is taken for the last.
+#[tactic(auto, unfolding(crate::specs::ConnectionWords::state_in))]
+fn state_in(word: u32) -> State
+    ensures { result ≡ state_in word }
 {
-    let state = match words[STATE] {
+    match word {
         IDLE => State::Idle,
         PINGED => State::Pinged,
         BUSY => State::Busy,
-        CLOSED => State::Closed,
-        _ => return Err(Failure::ConnectionWord),
-    };
-    if !are_unused(words) || state == State::Busy && !are_busy(words) {
-        return Err(Failure::ConnectionWord);
+        _ => State::Closed,
     }
-    Ok(
-        Connection::rest(state)
-            .with_left(BodyLeft(words[LEFT]))
-            .with_due(flag_in(words[DUE]), number_in(words[ASKED]))
-            .with_headers(flag_in(words[HEADERS]))
-            .with_head(flag_in(words[HEAD])),
-    )
+}
+
+// The connection that words are, also where they have a fault.
+#[tactic(auto, unfolding(crate::specs::ConnectionWords::connection_in))]
+pub fn connection_in(words: &[u32; CONNECTION_SIZE]) -> Connection
+    ensures { result ≡ connection_in words.now }
+{
+    Connection::rest(state_in(words[STATE]))
+        .with_left(BodyLeft(words[LEFT]))
+        .with_due(flag_in(words[DUE]), number_in(words[ASKED]))
+        .with_headers(flag_in(words[HEADERS]))
+        .with_head(flag_in(words[HEAD]))
+}
+
+// The fault of an array that is to take a connection.
+#[tactic(auto, unfolding(crate::specs::ConnectionWords::connection_room))]
+pub fn connection_room(words: &[u32]) -> Result<(), Failure>
+    ensures { status_number result ≡ connection_room words.now }
+{
+    if words.len() == CONNECTION_SIZE {
+        Ok(())
+    } else {
+        Err(Failure::ConnectionLength)
+    }
+}
+
+// The fault of the words of a connection.
+#[tactic(auto, unfolding(crate::specs::ConnectionWords::connection_fault, crate::specs::ConnectionWords::are_connection))]
+pub fn connection_fault(words: &[u32; CONNECTION_SIZE]) -> Result<(), Failure>
+    ensures { status_number result ≡ connection_fault words.now }
+{
+    let right = are_unused(words)
+        && match words[STATE] {
+            BUSY => are_busy(words),
+            state => state <= CLOSED,
+        };
+    if right {
+        Ok(())
+    } else {
+        Err(Failure::ConnectionWord)
+    }
 }
 
 // The words of a connection.

@@ -31,11 +31,14 @@ const NO_REMOTE_HOST: usize = 6;
 
 const NO_SERVER_NAME: usize = 7;
 
-// The fault of the words.
+// The fault of the words: another number of them, or one out of range.
 #[tactic(auto, unfolding(crate::specs::FixedWords::fixed_fault))]
-pub fn fixed_fault(words: &[u32; FIXED_SIZE]) -> Result<(), Failure>
+pub fn fixed_fault(words: &[u32]) -> Result<(), Failure>
     ensures { status_number result ≡ fixed_fault words.now }
 {
+    if words.len() != FIXED_SIZE {
+        return Err(Failure::FixedLength);
+    }
     let fine = (words[PORT] <= LAST_NUMBER)
         & (words[NO_PROTOCOL] <= SET)
         & (words[NO_REQ_URI] <= SET)

@@ -4,23 +4,34 @@ ghost use Rattle.words.specs.Kinds.{kind_word};
 
 use connection::Kind;
 
-// The words of the kinds that are built in pieces.
+pub const CPING: u32 = 1;
+
+pub const CPONG: u32 = 2;
+
 pub const FORWARD: u32 = 3;
 
+pub const BODY: u32 = 4;
+
+pub const GET_BODY: u32 = 5;
+
 pub const SEND_HEADERS: u32 = 6;
+
+pub const BODY_CHUNK: u32 = 7;
+
+pub const END: u32 = 8;
 
 // The word of a kind.
 pub fn kind_word(kind: Kind) -> u32
     ensures { result ≡ kind_word kind }
 {
     match kind {
-        Kind::CPing => 1,
-        Kind::CPong => 2,
+        Kind::CPing => CPING,
+        Kind::CPong => CPONG,
         Kind::Forward => FORWARD,
-        Kind::Body => 4,
-        Kind::GetBody => 5,
+        Kind::Body => BODY,
+        Kind::GetBody => GET_BODY,
         Kind::SendHeaders => SEND_HEADERS,
-        Kind::BodyChunk => 7,
-        Kind::End => 8,
+        Kind::BodyChunk => BODY_CHUNK,
+        Kind::End => END,
     }
 }

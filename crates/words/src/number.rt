@@ -5,7 +5,9 @@ ghost use Rattle.words.specs.Failure.{status_number};
 
 use crate::status::Failure;
 
-// The word of a flag that is set, and the greatest 16-bit number.
+// The words of a flag, and the greatest 16-bit number.
+pub const CLEAR: u32 = 0;
+
 pub const SET: u32 = 1;
 
 pub const LAST_NUMBER: u32 = 65535;

@@ -14,6 +14,6 @@ unfolding close_effect close_fault connection_fault building_fault answer_fault
 returns c =
     let a = c.args in
     let told = c.tell_sent.ensures c.close-sent.new.buffer in
-    let held : c.in_ok-held.held ≡ connection_in a.connection.now = grind (arith, common_steps) in
-    let built : c.in_ok-record.record ≡ building_in a.building.now = grind (arith, common_steps) in
+    let held : c.connection_in.result ≡ connection_in a.connection.now = grind (arith, common_steps) in
+    let built : c.building_in-record.result ≡ building_in a.building.now = grind (arith, common_steps) in
     grind (arith, common_steps)

@@ -14,7 +14,7 @@ pub returns-in_err-read : goal.returns-in_err-read
 unfolding connection_fault answer_fault call_fault read_effect
 returns-in_err-read g c =
     let a = c.args in
-    let held : c.in_ok-held.held ≡ connection_in a.connection.now = grind (arith, common_steps) in
+    let held : c.connection_in.result ≡ connection_in a.connection.now = grind (arith, common_steps) in
     let sound = refused_sound a.direction g.of a.connection.now a.bytes.now a.table.now a.answer.now (c.requires.1.answers _ _ _ c.short.ensures) held c.in_err-read.was in
     grind (arith, common_steps)
 
@@ -22,7 +22,7 @@ pub tell_part-requires : goal.tell_part-requires
 unfolding connection_fault
 tell_part-requires g c =
     let a = c.args in
-    let held : c.in_ok-held.held ≡ connection_in a.connection.now = grind (arith, common_steps) in
+    let held : c.connection_in.result ≡ connection_in a.connection.now = grind (arith, common_steps) in
     part_within a.direction g.of a.connection.now a.bytes.now a.table.now a.answer.now (c.requires.1.answers _ _ _ c.short.ensures) held (c.in_ok-read.was ∙ ap Ok c.in-Some.is)
 
 pub returns-in-Some : goal.returns-in-Some
@@ -30,7 +30,7 @@ unfolding connection_fault answer_fault call_fault read_effect
 returns-in-Some g c =
     let a = c.args in
     let read = c.in-Some.read in
-    let held : c.in_ok-held.held ≡ connection_in a.connection.now = grind (arith, common_steps) in
+    let held : c.connection_in.result ≡ connection_in a.connection.now = grind (arith, common_steps) in
     let sound = part_sound a.direction g.of a.connection.now a.bytes.now a.table.now a.answer.now (c.requires.1.answers _ _ _ c.short.ensures) held (c.in_ok-read.was ∙ ap Ok c.in-Some.is) in
     let told = c.requires.1.told read.part read.taken in
     grind (arith, common_steps)
