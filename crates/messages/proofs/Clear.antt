@@ -46,7 +46,7 @@ use Rattle.building.proofs.Sizes.{or_first}
 use Rattle.building_record.specs.declared.Building.{Building}
 use Rattle.building_record.specs.Record.{direction_in}
 use Rattle.pieces.specs.declared.forward.Numbers.{Numbers}
-use Rattle.pieces.specs.Nulls.{Nulls}
+use Rattle.pieces.specs.declared.forward.Nulls.{Nulls}
 use Rattle.pieces.specs.Fixed.{forward_call, send_headers_call}
 use Rattle.pieces.specs.Header.{value_fault, coded_call, spelled_call, named_call, named_by}
 use Rattle.pieces.specs.Attribute.{text_call, pair_call}

@@ -32,7 +32,7 @@ use Rattle.building_record.specs.Record.{built_kind}
 use Rattle.pieces.specs.Fixed.{fixed, send_headers_fields, forward_fields}
 use Rattle.building_record.specs.declared.BuildingKind.{BuildingKind}
 use Rattle.pieces.specs.declared.forward.Numbers.{Numbers}
-use Rattle.pieces.specs.Nulls.{Nulls}
+use Rattle.pieces.specs.declared.forward.Nulls.{Nulls}
 use Rattle.messages.proofs.Judged.{stood, string_stood, among}
 use Rattle.wire.specs.Packet.{after_code_place, code_place}
 

@@ -11,7 +11,7 @@ use Rattle.payload.specs.Code.{code_of}
 use Rattle.building.specs.Field.{Field, fields_bytes}
 use Rattle.building_record.specs.declared.BuildingKind.{BuildingKind}
 use Rattle.pieces.specs.declared.forward.Numbers.{Numbers}
-use Rattle.pieces.specs.Nulls.{Nulls}
+use Rattle.pieces.specs.declared.forward.Nulls.{Nulls}
 use Rattle.building_record.specs.Record.{built_kind}
 use Rattle.pieces.specs.Fixed.{forward_fields, send_headers_fields}
 use Rattle.pieces.specs.Header.{coded_fields, spelled_fields}

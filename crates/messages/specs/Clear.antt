@@ -17,7 +17,7 @@ use Rattle.building.specs.Sent.{Written}
 use Rattle.building_record.specs.declared.Building.{Building}
 use Rattle.building_record.specs.Record.{direction_in}
 use Rattle.pieces.specs.declared.forward.Numbers.{Numbers}
-use Rattle.pieces.specs.Nulls.{Nulls}
+use Rattle.pieces.specs.declared.forward.Nulls.{Nulls}
 use Rattle.pieces.specs.Fixed.{forward_call, send_headers_call}
 use Rattle.pieces.specs.Header.{coded_call, spelled_call, named_call}
 use Rattle.pieces.specs.Attribute.{text_call, integer_call, pair_call}

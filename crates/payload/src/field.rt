@@ -67,8 +67,7 @@ pub fn after_code() -> Placed
     }
 }
 
-// The string behind a field. It is put into its callers: as a call of its own it was tried and is slower.
-#[inline(always)]
+// The string behind a field.
 #[tactic(auto, unfolding(crate::specs::Sequence::string_after, crate::specs::Sequence::string_field_at))]
 pub fn string_after(
     packet: &[u8],
@@ -129,7 +128,9 @@ pub fn any_integer_after(packet: &[u8], before: Result<Placed, Refusal>) -> Resu
     Ok(Placed { at, value, next })
 }
 
-// The integer behind a field, which is from `low` to `high`, else it is refused with `fault`.
+// The integer behind a field, which is from `low` to `high`, else it is refused with `fault`. It is put into its callers: as a call of
+// its own it was tried and is slower.
+#[inline(always)]
 #[tactic(auto, unfolding(crate::specs::Sequence::integer_after))]
 pub fn integer_after<E: Fault>(
     packet: &[u8],

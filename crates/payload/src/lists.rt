@@ -22,7 +22,8 @@ pub struct ReadLists {
     pub attributes: u16,
 }
 
-// The headers behind their count.
+// The headers behind their count. They are put into their callers: as a call of their own they were tried and are slower.
+#[inline(always)]
 #[tactic(auto, using(wire::proofs::Bytes::over_none), unfolding(crate::specs::Lists::headers_after))]
 pub fn headers_after(
     direction: Direction,

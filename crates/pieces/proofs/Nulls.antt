@@ -22,7 +22,7 @@ use Rattle.building_record.specs.declared.BuildingKind.{BuildingKind}
 use Rattle.building_record.specs.declared.Building.{Building}
 use Rattle.building_record.specs.Record.{direction_in}
 use Rattle.pieces.specs.declared.forward.Numbers.{Numbers}
-use Rattle.pieces.specs.Nulls.{Nulls}
+use Rattle.pieces.specs.declared.forward.Nulls.{Nulls}
 use Rattle.pieces.specs.Fixed.{fixed_call, forward_call, send_headers_call}
 use Rattle.pieces.specs.Header.{spelled_name, value_fault, header_value, coded_name, header_call, coded_call, spelled_call, named_by, named_call}
 use Rattle.pieces.specs.Attribute.{is_text, is_pair, code_field, attribute_call, text_call, pair_call}

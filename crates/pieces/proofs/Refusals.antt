@@ -29,7 +29,7 @@ use Rattle.building.proofs.Refusals.{unless_fault, or_fault, string_fault_lem, r
 use Rattle.building_record.specs.declared.Building.{Building}
 use Rattle.building_record.specs.Record.{is_forward, direction_in, is_possible, header_now, attribute_now, count_fault}
 use Rattle.pieces.specs.declared.forward.Numbers.{Numbers}
-use Rattle.pieces.specs.Nulls.{Nulls}
+use Rattle.pieces.specs.declared.forward.Nulls.{Nulls}
 use Rattle.pieces.specs.Fixed.{forward_call, send_headers_call}
 use Rattle.pieces.specs.Header.{spelled_name, length_fault, value_fault, coded_fields, spelled_fields, header_call, coded_call, spelled_call, named_by, named_call}
 use Rattle.pieces.specs.Attribute.{is_text, is_integer, is_pair, attribute_call, text_fields, integer_fields, pair_fields, text_call, integer_call, pair_call}

@@ -13,7 +13,7 @@ use Rattle.building.specs.Call.{Call}
 use Rattle.building_record.specs.declared.BuildingKind.{BuildingKind}
 use Rattle.building_record.specs.declared.Building.{Building}
 use Rattle.pieces.specs.declared.forward.Numbers.{Numbers}
-use Rattle.pieces.specs.Nulls.{Nulls}
+use Rattle.pieces.specs.declared.forward.Nulls.{Nulls}
 use Rattle.building_record.specs.Record.{built_kind, opened}
 
 -- a count that closing will set

@@ -1,4 +1,3 @@
-pub mod Nulls
 pub mod Meaning
 pub mod Fixed
 pub mod Header

@@ -7,7 +7,7 @@ use Rattle.wire.specs.Field.{boolean_bytes}
 use Rattle.wire.specs.declared.StringField.{StringField}
 use Rattle.building.specs.Field.{Field, plain, string_field}
 use Rattle.pieces.specs.declared.forward.Numbers.{Numbers}
-use Rattle.pieces.specs.Nulls.{Nulls}
+use Rattle.pieces.specs.declared.forward.Nulls.{Nulls}
 use Rattle.pieces.specs.Fixed.{unset}
 
 -- the five strings

@@ -11,7 +11,7 @@ ghost use Rattle.building.specs.Field.{faults_of, fields_bytes, needed_at};
 ghost use Rattle.building.specs.Call.{with_fault, outcome, buffer_after};
 ghost use Rattle.building_record.specs.declared.BuildingKind.{BuildingKind};
 ghost use Rattle.pieces.specs.Meaning.{added_outcome, numbered_outcome};
-ghost use Rattle.pieces.specs.Fixed.{fixed};
+ghost use Rattle.pieces.specs.Fixed.{no_nulls, fixed};
 ghost use Rattle.pieces.specs.Strings.{fields_with, strings_with, forward_with};
 ghost use Rattle.pieces.specs.Private.{forward_tail};
 
@@ -29,6 +29,31 @@ pub struct Numbers {
     pub method: u16,
     pub server_port: u16,
     pub is_ssl: bool,
+}
+
+// Which of a Forward's strings are null.
+#[derive(Clone, Copy, Debug, PartialEq, Eq)]
+pub struct Nulls {
+    pub protocol: bool,
+    pub req_uri: bool,
+    pub remote_addr: bool,
+    pub remote_host: bool,
+    pub server_name: bool,
+}
+
+impl Nulls {
+    // None of them is null.
+    pub fn none() -> Nulls
+        ensures { result ≡ no_nulls }
+    {
+        Nulls {
+            protocol: false,
+            req_uri: false,
+            remote_addr: false,
+            remote_host: false,
+            server_name: false,
+        }
+    }
 }
 
 // A Forward's strings, None for null.

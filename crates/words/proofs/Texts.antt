@@ -10,7 +10,7 @@ use Rattle.wire.specs.Text.{is_null, bytes_in}
 use Rattle.building.specs.Field.{SameText}
 use Rattle.building_record.specs.declared.Building.{Building}
 use Rattle.pieces.specs.declared.forward.Numbers.{Numbers}
-use Rattle.pieces.specs.Nulls.{Nulls}
+use Rattle.pieces.specs.declared.forward.Nulls.{Nulls}
 use Rattle.pieces.specs.Fixed.{forward_call, send_headers_call}
 use Rattle.pieces.specs.Strings.{forward_with}
 use Rattle.pieces.specs.Header.{coded_call, spelled_call, named_call}

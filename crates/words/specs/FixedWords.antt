@@ -8,7 +8,7 @@ use Rattle.wire.specs.Pick.{pick, both}
 use Rattle.wire.specs.Refusal.{out_of_range}
 use Rattle.building.specs.Fault.{unless}
 use Rattle.pieces.specs.declared.forward.Numbers.{Numbers}
-use Rattle.pieces.specs.Nulls.{Nulls}
+use Rattle.pieces.specs.declared.forward.Nulls.{Nulls}
 use Rattle.words.specs.Status as status
 use Rattle.words.specs.Number.{word, is_flag, flag_in, is_number, capped}
 

@@ -4,7 +4,7 @@
 use Rattle.std.specs.Prelude.{Bool, List, ℕ, Option, Some, None}
 use denote.Ref.{Bor}
 use Rattle.wire.specs.Pick.{pick}
-use Rattle.pieces.specs.Nulls.{Nulls}
+use Rattle.pieces.specs.declared.forward.Nulls.{Nulls}
 use Rattle.pieces.specs.declared.forward.Strings.{Strings}
 
 unfoldable pub given : Bool → Bor (List ℕ) → Option (Bor (List ℕ))

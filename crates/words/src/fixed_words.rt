@@ -7,9 +7,9 @@ ghost use Rattle.words.specs.Failure.{status_number};
 
 use crate::number::{LAST_NUMBER, SET, flag_in, number_in};
 use crate::status::Failure;
-use crate::text::text_in;
+use crate::text::given;
 use building::fault;
-use pieces::forward::{Numbers, Strings};
+use pieces::forward::{Nulls, Numbers, Strings};
 use wire::refusal::Refusal;
 
 // How many words, and where each stands.
@@ -71,8 +71,21 @@ pub fn numbers_in(words: &[u32; FIXED_SIZE]) -> Numbers
     }
 }
 
-// The strings that they say, of these texts.
+// Which strings they say to be null.
 #[tactic(auto, unfolding(crate::specs::FixedWords::nulls_in))]
+pub fn nulls_in(words: &[u32; FIXED_SIZE]) -> Nulls
+    ensures { result ≡ nulls_in words.now }
+{
+    Nulls {
+        protocol: flag_in(words[NO_PROTOCOL]),
+        req_uri: flag_in(words[NO_REQ_URI]),
+        remote_addr: flag_in(words[NO_REMOTE_ADDR]),
+        remote_host: flag_in(words[NO_REMOTE_HOST]),
+        server_name: flag_in(words[NO_SERVER_NAME]),
+    }
+}
+
+// The strings that they say, of these texts.
 pub fn strings_in<'a>(
     words: &[u32; FIXED_SIZE],
     protocol: &'a [u8],
@@ -83,11 +96,12 @@ pub fn strings_in<'a>(
 ) -> Strings<'a>
     ensures { result ≡ strings_given (nulls_in words.now) protocol.entry uri.entry addr.entry host.entry name.entry }
 {
+    let nulls = nulls_in(words);
     Strings {
-        protocol: text_in(words[NO_PROTOCOL], protocol),
-        req_uri: text_in(words[NO_REQ_URI], uri),
-        remote_addr: text_in(words[NO_REMOTE_ADDR], addr),
-        remote_host: text_in(words[NO_REMOTE_HOST], host),
-        server_name: text_in(words[NO_SERVER_NAME], name),
+        protocol: given(nulls.protocol, protocol),
+        req_uri: given(nulls.req_uri, uri),
+        remote_addr: given(nulls.remote_addr, addr),
+        remote_host: given(nulls.remote_host, host),
+        server_name: given(nulls.server_name, name),
     }
 }
