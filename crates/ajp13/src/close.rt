@@ -4,7 +4,7 @@ ghost use Rattle.words.specs.Failure.{status_number};
 ghost use Rattle.answers.specs.Effect.{leaves};
 ghost use Rattle.ajp13.specs.Sending.{close_effect};
 
-use answers::sent::tell_sent;
+use crate::send::tell_written;
 use words::building_words::{building_fault, building_in};
 use words::connection_words::{connection_fault, connection_in};
 use words::status::{Failure, status_of};
@@ -26,7 +26,7 @@ fn close(
     let answer = answer.as_mut_array().ok_or(Failure::AnswerLength)?;
     let record = building_in(building);
     let sent = closing::close(connection_in(words), record, buffer);
-    tell_sent(record.kind.kind(), sent, words, answer)
+    tell_written(record.kind.kind(), sent, words, answer)
 }
 
 // The same for C.

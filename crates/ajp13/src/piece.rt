@@ -5,7 +5,8 @@ ghost use Rattle.building.specs.Call.{Call};
 ghost use Rattle.building_record.specs.declared.Building.{Building};
 ghost use Rattle.words.specs.BuildingWords.{building_in};
 ghost use Rattle.words.specs.Failure.{status_number};
-ghost use Rattle.answers.specs.Told.{piece_leaves};
+ghost use Rattle.pieces.specs.Meaning.{added_outcome};
+ghost use Rattle.answers.specs.Told.{piece_leaves, after_adding};
 ghost use Rattle.ajp13.specs.Piece.{piece_effect, forward_piece, send_headers_piece, coded_piece, spelled_piece, named_piece, text_piece, integer_piece, pair_piece};
 ghost use Rattle.ajp13.specs.Private.{Adds, record_piece};
 
@@ -13,11 +14,22 @@ use answers::added::put_added;
 use building_record::Building;
 use pieces::{attribute, forward, header, send_headers};
 use wire::refusal::Refusal;
-use words::building_words::{building_fault, building_in};
+use words::building_words::{BUILDING_SIZE, building_fault, building_in};
 use words::fixed_words::{fixed_fault, numbers_in, ssl_fault, strings_in};
 use words::number::{flag_fault, number_fault, number_in};
 use words::status::{Failure, status_of};
 use words::text::text_in;
+
+// Tells what a piece came to, and fails where it was refused.
+#[tactic(auto, using(answers::proofs::Refused::added_same))]
+fn tell_added(
+    building: &mut [u32; BUILDING_SIZE],
+    added: Result<Building, Refusal>,
+) -> Result<(), Failure>
+    ensures { (buffer : List ℕ) → piece_leaves (status_number result) building.new buffer ≡ after_adding (added_outcome added) building.old buffer }
+{
+    Ok(put_added(building, added)?)
+}
 
 // Begins a Forward.
 #[tactic(auto, using(words::proofs::Texts::forward_given), unfolding(words::specs::BuildingWords::building_room, words::specs::FixedWords::fixed_fault, crate::specs::Piece::piece_effect, crate::specs::Piece::forward_piece))]
@@ -38,7 +50,7 @@ fn begin_forward(
     let fixed = fixed.as_array().ok_or(Failure::FixedLength)?;
     let strings = strings_in(fixed, protocol, uri, addr, host, name);
     let added = forward::begin_after(buffer, numbers_in(fixed), strings, ssl_fault(fixed));
-    put_added(words, added)
+    tell_added(words, added)
 }
 
 // Begins a Forward: its fixed fields.
@@ -72,7 +84,7 @@ fn begin_send_headers(
     let words = building.as_mut_array().ok_or(Failure::BuildingLength)?;
     flag_fault(null)?;
     let added = send_headers::begin(buffer, number_in(status), text_in(null, message));
-    put_added(words, added)
+    tell_added(words, added)
 }
 
 // Begins a Send Headers: its fixed fields.
@@ -104,7 +116,7 @@ fn add<F: FnOnce(Building, &mut [u8]) -> Result<Building, Refusal>>(
     let words = building.as_mut_array().ok_or(Failure::BuildingLength)?;
     building_fault(words)?;
     arguments?;
-    put_added(words, adds(building_in(words), buffer))
+    tell_added(words, adds(building_in(words), buffer))
 }
 
 // Adds a header with a code for its name.

@@ -1,11 +1,14 @@
 // Reading at both ends. "needs" writes the answer alone; a refusal and an error write nothing.
 // A body packet and a chunk go a short way each, from the connection's words to the answer's without a record in memory between them.
-ghost use Rattle.std.specs.Prelude.{◌≡◌};
+ghost use Rattle.std.specs.Prelude.{◌≡◌, List, ℕ};
 ghost use Rattle.packet.specs.declared.Direction.{Direction};
 ghost use Rattle.packet.specs.declared.Packet.{Packet};
 ghost use Rattle.packet.specs.declared.Part.{Part};
 ghost use Rattle.words.specs.Failure.{told_number};
+ghost use Rattle.reader.specs.Meaning.{received_meaning};
 ghost use Rattle.answers.specs.Effect.{leaves};
+ghost use Rattle.answers.specs.Told.{after_reading};
+ghost use Rattle.answers.specs.Private.{ReadWithin};
 ghost use Rattle.ajp13.specs.Reading.{sound_reading, read_effect};
 ghost use Rattle.ajp13.specs.Private.{GoesShort};
 
@@ -13,12 +16,28 @@ use answers::answer::ANSWER_SIZE;
 use answers::received::{tell_part, tell_received};
 use connection::{Connection, Kind};
 use packet::Direction;
-use reader::read;
+use reader::{Received, read};
 use short_ways::{ReadPart, read_body, read_body_chunk};
 use wire::refusal::Refusal;
 use words::connection_words::{CONNECTION_SIZE, connection_fault, connection_in};
 use words::status;
 use words::status::{Failure, told};
+
+// Tells what reading answered: done or "needs", or the number that it is refused with.
+#[tactic(auto, using(answers::proofs::Refused::received_same))]
+fn tell_read(
+    received: Result<Received, Refusal>,
+    connection: &mut [u32; CONNECTION_SIZE],
+    answer: &mut [u32; ANSWER_SIZE],
+) -> u32
+    requires { ReadWithin (received_meaning received) }
+    ensures { (table : List ℕ) → leaves result connection.new table answer.new ≡ after_reading (received_meaning received) connection.old table answer.old }
+{
+    match tell_received(received, connection, answer) {
+        Err(refusal) => u32::from(refusal.number()),
+        Ok(status) => status,
+    }
+}
 
 // Reads a packet of any kind, with the connection that the words say. Both ends call it for all that goes no short way, so that it stays
 // out of the short ways. It takes the words, and not the record that they are: lent to it, that would stand in memory in the short ways too.
@@ -33,7 +52,7 @@ fn read_any(
     ensures { leaves result connection.new table.new answer.new ≡ sound_reading direction connection.old bytes.now table.old answer.old }
 {
     let received = read(direction, connection_in(connection), bytes, table);
-    told(tell_received(received, connection, answer))
+    tell_read(received, connection, answer)
 }
 
 // The end to which packets of a direction go reads the first packet of the bytes: a short way for the parts of one kind, else as any.

@@ -1,6 +1,6 @@
 // The packets that one call builds. A packet is written from the buffer's first byte on, and its kind and length are answered; a refusal
 // and an error write nothing.
-ghost use Rattle.std.specs.Prelude.{◌≡◌, length};
+ghost use Rattle.std.specs.Prelude.{◌≡◌, List, ℕ, length};
 ghost use Rattle.connection.specs.declared.Connection.{Connection};
 ghost use Rattle.building.specs.Fault.{or_else};
 ghost use Rattle.building.specs.Call.{Call, outcome, buffer_after};
@@ -8,15 +8,32 @@ ghost use Rattle.building.specs.Sent.{Written, sent_outcome};
 ghost use Rattle.words.specs.ConnectionWords.{connection_in};
 ghost use Rattle.words.specs.Failure.{status_number};
 ghost use Rattle.answers.specs.Effect.{leaves, call_fault};
+ghost use Rattle.answers.specs.Told.{after_sending};
+ghost use Rattle.answers.specs.Private.{SentWithin};
 ghost use Rattle.ajp13.specs.Sending.{send_effect, cping_effect, cpong_effect, body_effect, chunk_effect, get_effect, end_effect, end_of};
 ghost use Rattle.ajp13.specs.Private.{Sends};
 
+use answers::answer::ANSWER_SIZE;
 use answers::sent::{reuse_refusal, tell_sent};
 use connection::{Connection, Kind, Written};
 use wire::refusal::Refusal;
-use words::connection_words::{connection_fault, connection_in};
+use words::connection_words::{CONNECTION_SIZE, connection_fault, connection_in};
 use words::number::{SET, flag_in, number_fault, number_in};
 use words::status::{Failure, status_of};
+
+// Tells what sending a packet of a kind came to, and fails where it was refused.
+#[tactic(auto, using(answers::proofs::Refused::sent_same))]
+pub(crate) fn tell_written(
+    kind: Kind,
+    sent: Result<Written, Refusal>,
+    connection: &mut [u32; CONNECTION_SIZE],
+    answer: &mut [u32; ANSWER_SIZE],
+) -> Result<(), Failure>
+    requires { SentWithin (sent_outcome sent) }
+    ensures { (buffer : List ℕ) → leaves (status_number result) connection.new buffer answer.new ≡ after_sending kind (sent_outcome sent) connection.old buffer answer.old }
+{
+    Ok(tell_sent(kind, sent, connection, answer)?)
+}
 
 // Sends a packet of a kind. The faults of the arrays come first, then that of the call's other arguments.
 #[tactic(auto, using(crate::proofs::Private::sends_within), unfolding(words::specs::ConnectionWords::connection_fault, answers::specs::Answer::answer_fault, answers::specs::Effect::call_fault))]
@@ -36,7 +53,7 @@ fn send<F: FnOnce(Connection, &mut [u8]) -> Result<Written, Refusal>>(
     connection_fault(words)?;
     let answer = answer.as_mut_array().ok_or(Failure::AnswerLength)?;
     arguments?;
-    tell_sent(kind, sends(connection_in(words), buffer), words, answer)
+    tell_written(kind, sends(connection_in(words), buffer), words, answer)
 }
 
 // A CPing: the container is asked whether it is there.

@@ -1,31 +1,28 @@
 // What is told of a packet that was to be read. "needs" writes the answer alone; a refusal writes nothing.
 ghost use Rattle.std.specs.Prelude.{◌≡◌, List, ℕ, ◌≤◌};
 ghost use Rattle.connection.specs.Connection.{max_packet};
-ghost use Rattle.reader.specs.Meaning.{received_meaning};
 ghost use Rattle.words.specs.ConnectionWords.{connection_words};
-ghost use Rattle.words.specs.Failure.{told_number};
 ghost use Rattle.answers.specs.Answer.{part_words};
-ghost use Rattle.answers.specs.Told.{after_reading};
+ghost use Rattle.answers.specs.Told.{told_by, received_by, after_reading};
 ghost use Rattle.answers.specs.Effect.{leaves};
 ghost use Rattle.answers.specs.Private.{ReadWithin};
 
 use crate::answer::{ANSWER_SIZE, bytes_word, needs_words, packet_words, part_words};
 use connection::{Connection, Kind};
 use packet::Part;
+use payload::field::Fault;
 use reader::Received;
-use wire::refusal::Refusal;
 use words::connection_words::{CONNECTION_SIZE, connection_words};
 use words::status;
-use words::status::Failure;
 
 // Tells what the reader answered: done or "needs", the connection after it and the answer's words.
-pub fn tell_received(
-    received: Result<Received, Refusal>,
+pub fn tell_received<E: Fault>(
+    received: Result<Received, E>,
     connection: &mut [u32; CONNECTION_SIZE],
     answer: &mut [u32; ANSWER_SIZE],
-) -> Result<u32, Failure>
-    requires { ReadWithin (received_meaning received) }
-    ensures { (table : List ℕ) → leaves (told_number result) connection.new table answer.new ≡ after_reading (received_meaning received) connection.old table answer.old }
+) -> Result<u32, E>
+    requires { ReadWithin (received_by E.number received) }
+    ensures { (table : List ℕ) → leaves (told_by E.number result) connection.new table answer.new ≡ after_reading (received_by E.number received) connection.old table answer.old }
 {
     match received? {
         Received::Needs(n) => {

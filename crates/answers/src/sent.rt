@@ -4,27 +4,25 @@ ghost use Rattle.wire.specs.Refusal.{not_now, out_of_range, number_of};
 ghost use Rattle.connection.specs.Cycle.{in_state};
 ghost use Rattle.connection.specs.declared.Kind.{Kind};
 ghost use Rattle.building.specs.Fault.{unless, or_else};
-ghost use Rattle.building.specs.Sent.{sent_outcome};
-ghost use Rattle.words.specs.Failure.{status_number};
 ghost use Rattle.answers.specs.Effect.{leaves};
-ghost use Rattle.answers.specs.Told.{after_sending};
+ghost use Rattle.answers.specs.Told.{done_by, sent_by, after_sending};
 ghost use Rattle.answers.specs.Private.{SentWithin};
 
 use crate::answer::{ANSWER_SIZE, bytes_word, written_words};
 use connection::{Connection, Kind, Written};
+use payload::field::Fault;
 use wire::refusal::Refusal;
 use words::connection_words::{CONNECTION_SIZE, connection_words};
-use words::status::Failure;
 
 // Tells what sending a packet of a kind came to: the connection after it and the answer's words.
-pub fn tell_sent(
+pub fn tell_sent<E: Fault>(
     kind: Kind,
-    sent: Result<Written, Refusal>,
+    sent: Result<Written, E>,
     connection: &mut [u32; CONNECTION_SIZE],
     answer: &mut [u32; ANSWER_SIZE],
-) -> Result<(), Failure>
-    requires { SentWithin (sent_outcome sent) }
-    ensures { (buffer : List ℕ) → leaves (status_number result) connection.new buffer answer.new ≡ after_sending kind (sent_outcome sent) connection.old buffer answer.old }
+) -> Result<(), E>
+    requires { SentWithin (sent_by E.number sent) }
+    ensures { (buffer : List ℕ) → leaves (done_by E.number result) connection.new buffer answer.new ≡ after_sending kind (sent_by E.number sent) connection.old buffer answer.old }
 {
     let written = sent?;
     *connection = connection_words(written.connection);

@@ -12,6 +12,21 @@ pub struct Seen {
 // The codes that have a bit.
 const BITS: u8 = u16::BITS as u8;
 
+// Whether a code is in the set of these bits.
+pub fn has(set: u16, code: u8) -> bool
+    ensures { result ≡ bit set code }
+{
+    code < BITS && (set >> code) & 1 == 1
+}
+
+// The set of these bits with a code in it; a code that has no bit is left out.
+#[tactic(auto, using(crate::proofs::Bits::with_high, crate::proofs::Bits::with_low, crate::proofs::Bits::shifted))]
+pub fn with(set: u16, code: u8) -> u16
+    ensures { result ≡ with_bit set code }
+{
+    if code < BITS { set | 1 << code } else { set }
+}
+
 impl Seen {
     // The set with no codes.
     pub const EMPTY: Seen = Seen { bits: 0 };
@@ -20,16 +35,13 @@ impl Seen {
     pub fn contains(self, code: u8) -> bool
         ensures { result ≡ bit self.bits code }
     {
-        code < BITS && (self.bits >> code) & 1 == 1
+        has(self.bits, code)
     }
 
-    // Puts a code into the set; one that has no bit is left out.
-    #[tactic(auto, using(crate::proofs::Bits::with_high, crate::proofs::Bits::with_low, crate::proofs::Bits::shifted))]
+    // Puts a code into the set.
     pub fn insert(&mut self, code: u8)
         ensures { self.new.bits ≡ with_bit self.old.bits code }
     {
-        if code < BITS {
-            self.bits |= 1 << code;
-        }
+        self.bits = with(self.bits, code);
     }
 }

@@ -1,9 +1,11 @@
 -- What reading a packet's kind, its fixed fields, its lists and the packet answers, in document 01's terms: refused with a number, or what was
 -- read. Beside each is what the code's answer says of it.
 -- Assumes nothing.
-use Rattle.std.specs.Prelude.{ℕ, Result, Ok, Err}
+use Rattle.std.specs.Prelude.{ℕ, Result, Ok, Err, Option}
 use Rattle.wire.specs.Refusal.{number_of}
 use Rattle.wire.specs.declared.refusal.Refusal.{Refusal}
+use Rattle.wire.specs.declared.read.Field.{Field as FieldFound}
+use Rattle.headers.specs.Read.{HeadersRead}
 use Rattle.connection.specs.declared.Kind.{Kind as KindOfPacket}
 use Rattle.packet.specs.declared.Packet.{Packet as PacketFound}
 use Rattle.packet.specs.declared.BodyLeft.{BodyLeft}
@@ -53,7 +55,16 @@ field_by number (Ok field) = placed field
 abbrev pub field_meaning : Result Placed Refusal → FieldRead
 field_meaning field = field_by number_of field
 
+-- the headers, in the same way
+abbrev pub headers_by : {E : Type 0} → (E → ℕ) → Result (FieldFound (Option ℕ)) E → HeadersRead
+headers_by number (Err fault) = HeadersRead.Refused (number fault)
+headers_by number (Ok field) = HeadersRead.Headers field.value field.next
+
+-- and the lists
+abbrev pub lists_by : {E : Type 0} → (E → ℕ) → Result ReadLists E → ListsRead
+lists_by number (Err fault) = ListsRead.Refused (number fault)
+lists_by number (Ok lists) = ListsRead.Lists lists.declared lists.attributes
+
 -- the lists
 abbrev pub lists_meaning : Result ReadLists Refusal → ListsRead
-lists_meaning (Err refusal) = ListsRead.Refused (number_of refusal)
-lists_meaning (Ok lists) = ListsRead.Lists lists.declared lists.attributes
+lists_meaning lists = lists_by number_of lists

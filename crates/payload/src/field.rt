@@ -3,7 +3,7 @@ ghost use Rattle.std.specs.Prelude.{◌≡◌, ◌≤◌, ℕ};
 ghost use Rattle.wire.specs.Refusal.{number_of};
 ghost use Rattle.wire.specs.Read.{NumberRead};
 ghost use Rattle.connection.specs.Connection.{max_packet};
-ghost use Rattle.payload.specs.Read.{placed, field_by, field_meaning};
+ghost use Rattle.payload.specs.Read.{placed, field_by};
 ghost use Rattle.payload.specs.Sequence.{after_code, bounded, string_after, boolean_after, byte_after, any_integer_after, integer_after, field_place, field_number};
 ghost use Rattle.payload.specs.Private.{Within};
 
@@ -12,7 +12,7 @@ use wire::read::Field;
 use wire::refusal::Refusal;
 use wire::{AFTER_CODE_PLACE, CODE_PLACE, StringField, read};
 
-// What a field is refused with: a refusal, or any number.
+// What something is refused with: a refusal, or any number.
 pub trait Fault: Copy {
     // The number that it tells.
     ghost number: { Self → ℕ };
@@ -69,34 +69,38 @@ pub fn after_code() -> Placed
 
 // The string behind a field.
 #[tactic(auto, unfolding(crate::specs::Sequence::string_after, crate::specs::Sequence::string_field_at))]
-pub fn string_after(
+pub fn string_after<E: Fault>(
     packet: &[u8],
     field: StringField,
-    before: Result<Placed, Refusal>,
-) -> Result<Placed, Refusal>
-    ensures { field_meaning result ≡ string_after packet.now field (field_meaning before) }
+    before: Result<Placed, E>,
+) -> Result<Placed, E>
+    ensures { field_by E.number result ≡ string_after packet.now field (field_by E.number before) }
 {
     let at = before?.next;
-    let string = read::string(packet, at, field)?;
-    Ok(Placed {
-        at,
-        value: 0,
-        next: string.next,
-    })
+    match read::string(packet, at, field) {
+        Err(refusal) => Err(E::of(refusal)),
+        Ok(string) => Ok(Placed {
+            at,
+            value: 0,
+            next: string.next,
+        }),
+    }
 }
 
 // The boolean behind a field; its number is 1 for true.
 #[tactic(auto, unfolding(crate::specs::Sequence::boolean_after, crate::specs::Sequence::boolean_field_at))]
-pub fn boolean_after(packet: &[u8], before: Result<Placed, Refusal>) -> Result<Placed, Refusal>
-    ensures { field_meaning result ≡ boolean_after packet.now (field_meaning before) }
+pub fn boolean_after<E: Fault>(packet: &[u8], before: Result<Placed, E>) -> Result<Placed, E>
+    ensures { field_by E.number result ≡ boolean_after packet.now (field_by E.number before) }
 {
     let at = before?.next;
-    let Field { value, next } = read::boolean(packet, at)?;
-    Ok(Placed {
-        at,
-        value: value as u16,
-        next,
-    })
+    match read::boolean(packet, at) {
+        Err(refusal) => Err(E::of(refusal)),
+        Ok(Field { value, next }) => Ok(Placed {
+            at,
+            value: value as u16,
+            next,
+        }),
+    }
 }
 
 // The byte behind a field, which is from `low` to `high`, else it is refused with `fault`. Apart from `integer_after`: both end in
@@ -120,16 +124,18 @@ pub fn byte_after<E: Fault>(
 
 // The integer behind a field, which may be any: no bounds, and no fault of its own.
 #[tactic(auto, unfolding(crate::specs::Sequence::any_integer_after))]
-pub fn any_integer_after(packet: &[u8], before: Result<Placed, Refusal>) -> Result<Placed, Refusal>
-    ensures { field_meaning result ≡ any_integer_after packet.now (field_meaning before) }
+pub fn any_integer_after<E: Fault>(packet: &[u8], before: Result<Placed, E>) -> Result<Placed, E>
+    ensures { field_by E.number result ≡ any_integer_after packet.now (field_by E.number before) }
 {
     let at = before?.next;
-    let Field { value, next } = read::integer(packet, at)?;
-    Ok(Placed { at, value, next })
+    match read::integer(packet, at) {
+        Err(refusal) => Err(E::of(refusal)),
+        Ok(Field { value, next }) => Ok(Placed { at, value, next }),
+    }
 }
 
-// The integer behind a field, which is from `low` to `high`, else it is refused with `fault`. It is put into its callers: as a call of
-// its own it was tried and is slower.
+// The integer behind a field, which is from `low` to `high`, else it is refused with `fault`. It is put into its callers and `string_after`
+// is not: of the ways that were tried, a Forward of few headers is then read fastest.
 #[inline(always)]
 #[tactic(auto, unfolding(crate::specs::Sequence::integer_after))]
 pub fn integer_after<E: Fault>(
@@ -166,9 +172,9 @@ fn bounded<E: Fault>(
 }
 
 // A field's place, 0 for a refused one.
-pub fn place_of(field: Result<Placed, Refusal>) -> Place
-    requires { Within max_packet (field_meaning field) }
-    ensures { result ≡ field_place (field_meaning field) }
+pub fn place_of<E: Fault>(field: Result<Placed, E>) -> Place
+    requires { Within max_packet (field_by E.number field) }
+    ensures { result ≡ field_place (field_by E.number field) }
 {
     match field {
         Err(_) => Place(0),
@@ -177,8 +183,8 @@ pub fn place_of(field: Result<Placed, Refusal>) -> Place
 }
 
 // A field's number, 0 for a refused one.
-pub fn value_of(field: Result<Placed, Refusal>) -> u16
-    ensures { result ≡ field_number (field_meaning field) }
+pub fn value_of<E: Fault>(field: Result<Placed, E>) -> u16
+    ensures { result ≡ field_number (field_by E.number field) }
 {
     match field {
         Err(_) => 0,

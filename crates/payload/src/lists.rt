@@ -4,12 +4,11 @@ ghost use Rattle.std.specs.Prelude.{◌≡◌, ◌+◌, ◌≤◌, length};
 ghost use Rattle.wire.specs.Bytes.{over};
 ghost use Rattle.connection.specs.Connection.{max_packet};
 ghost use Rattle.places.specs.Entries.{max_headers, max_attributes, max_places};
-ghost use Rattle.headers.specs.Read.{headers_meaning};
-ghost use Rattle.payload.specs.Read.{field_meaning, lists_meaning};
+ghost use Rattle.payload.specs.Read.{field_by, headers_by, lists_by, lists_meaning};
 ghost use Rattle.payload.specs.Private.{Counts};
 ghost use Rattle.payload.specs.Lists.{headers_after, attributes_behind, lists_at};
 
-use crate::field::Placed;
+use crate::field::{Fault, Placed};
 use headers::length::length_of;
 use packet::{BodyLeft, Direction};
 use wire::read::Field;
@@ -22,21 +21,25 @@ pub struct ReadLists {
     pub attributes: u16,
 }
 
-// The headers behind their count. They are put into their callers: as a call of their own they were tried and are slower.
+// The headers behind their count. It is put into its callers: that costs less where a packet is closed and where it has few headers, and
+// more where it has a hundred.
 #[inline(always)]
 #[tactic(auto, using(wire::proofs::Bytes::over_none), unfolding(crate::specs::Lists::headers_after))]
-pub fn headers_after(
+pub fn headers_after<E: Fault>(
     direction: Direction,
     packet: &[u8],
-    count: Result<Placed, Refusal>,
+    count: Result<Placed, E>,
     table: &mut [u16],
-) -> Result<Field<Option<u32>>, Refusal>
-    requires { (length packet.now ≤ max_packet) × (Counts max_headers (field_meaning count) × (max_headers + max_headers ≤ length table.old)) }
-    ensures value { headers_meaning result ≡ (headers_after direction packet.now (field_meaning count)).end }
-    ensures table_after { table.new ≡ over table.old 0 (headers_after direction packet.now (field_meaning count)).places }
+) -> Result<Field<Option<u32>>, E>
+    requires { (length packet.now ≤ max_packet) × (Counts max_headers (field_by E.number count) × (max_headers + max_headers ≤ length table.old)) }
+    ensures value { headers_by E.number result ≡ (headers_after direction packet.now (field_by E.number count)).end }
+    ensures table_after { table.new ≡ over table.old 0 (headers_after direction packet.now (field_by E.number count)).places }
 {
     let Placed { value, next, .. } = count?;
-    headers::headers(direction, packet, next, value, table)
+    match headers::headers(direction, packet, next, value, table) {
+        Err(refusal) => Err(E::of(refusal)),
+        Ok(headers) => Ok(headers),
+    }
 }
 
 // The attributes behind the headers, which are a Forward's last field.
@@ -65,17 +68,20 @@ fn attributes_behind(
 // The headers and attributes behind the count of headers. It is put into its one caller: as a call of its own it was tried and is slower.
 #[inline(always)]
 #[tactic(auto, using(wire::proofs::Bytes::over_none), unfolding(crate::specs::Lists::lists_at, crate::specs::Lists::headers_after))]
-pub fn lists(
+pub fn lists<E: Fault>(
     packet: &[u8],
-    count: Result<Placed, Refusal>,
+    count: Result<Placed, E>,
     table: &mut [u16],
-) -> Result<ReadLists, Refusal>
-    requires { (length packet.now ≤ max_packet) × (Counts max_headers (field_meaning count) × (max_places ≤ length table.old)) }
-    ensures value { lists_meaning result ≡ (lists_at packet.now (field_meaning count)).end }
-    ensures table_after { table.new ≡ over table.old 0 (lists_at packet.now (field_meaning count)).places }
+) -> Result<ReadLists, E>
+    requires { (length packet.now ≤ max_packet) × (Counts max_headers (field_by E.number count) × (max_places ≤ length table.old)) }
+    ensures value { lists_by E.number result ≡ (lists_at packet.now (field_by E.number count)).end }
+    ensures table_after { table.new ≡ over table.old 0 (lists_at packet.now (field_by E.number count)).places }
 {
     let count = count?;
     let headers = headers_after(Direction::ToContainer, packet, Ok(count), table)?;
     let many = count.value as usize;
-    attributes_behind(packet, headers.value, headers.next, table, many + many)
+    match attributes_behind(packet, headers.value, headers.next, table, many + many) {
+        Err(refusal) => Err(E::of(refusal)),
+        Ok(lists) => Ok(lists),
+    }
 }

@@ -13,7 +13,7 @@ pub returns : goal.returns
 unfolding close_effect close_fault connection_fault building_fault answer_fault
 returns c =
     let a = c.args in
-    let told = c.tell_sent.ensures c.close-sent.new.buffer in
+    let told = c.tell_written.ensures c.close-sent.new.buffer in
     let held : c.connection_in.result ≡ connection_in a.connection.now = grind (arith, common_steps) in
     let built : c.building_in-record.result ≡ building_in a.building.now = grind (arith, common_steps) in
     grind (arith, common_steps)
